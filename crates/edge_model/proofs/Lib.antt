@@ -1,0 +1,5 @@
+pub mod AsRead
+pub mod ImagePicks
+pub mod LogSteps
+pub mod Names
+pub mod Ranges
