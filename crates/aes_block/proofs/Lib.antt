@@ -1,0 +1,12 @@
+mod Vectors
+mod TableFacts
+mod WordFacts
+mod FieldFacts
+mod MixFacts
+mod StepFacts
+mod RoundTrip
+pub mod KeyFacts
+mod ScheduleFacts
+mod CipherFacts
+mod InverseFacts
+mod Remainder

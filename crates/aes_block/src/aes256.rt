@@ -1,0 +1,90 @@
+// The cipher under one key.
+ghost use Rattle.std.specs.Prelude.{◌≡◌};
+ghost use Rattle.aes_block.specs.Aes.{aes256, inv_aes256};
+
+use crate::columns::{load, store};
+use crate::rounds::{decrypt_columns, encrypt_columns};
+use crate::schedule::{expand, invert};
+use std::marker::Model;
+
+/// A key of AES-256, expanded for both directions. Contracts see it as the key's 32 bytes.
+///
+/// It is neither `Copy` nor `Clone`: a user keeps one and lends it, or makes another from the key.
+#[derive(Drop)]
+pub struct Aes256 {
+    // FIPS 197, section 5.2
+    schedule: [u32; 60],
+    // FIPS 197, section 5.3.5
+    inverse_schedule: [u32; 60],
+}
+
+impl Model for Aes256 {
+    ghost use Rattle.std.specs.Prelude.{List, ℕ};
+    ghost use Rattle.aes_block.specs.Words.{AreSchedules, key_in};
+
+    ghost Value = { List ℕ };
+
+    ghost view = { λ a. key_in a.schedule };
+
+    ghost invariant = { λ a. AreSchedules a.schedule a.inverse_schedule };
+}
+
+impl Aes256 {
+    /// Expands a key (FIPS 197, sections 5.2 and 5.3.5).
+    pub fn new(key: &[u8; 32]) -> Aes256
+        ensures { result ≡ key.now }
+    {
+        let schedule = expand(key);
+        let inverse_schedule = invert(&schedule);
+        Aes256 {
+            schedule,
+            inverse_schedule,
+        }
+    }
+
+    /// Encrypts a block in place: Cipher (FIPS 197, section 5.1).
+    pub fn encrypt(&self, block: &mut [u8; 16])
+        ensures value { block.new ≡ aes256 self.now block.old }
+        ensures decrypts_to { inv_aes256 self.now block.new ≡ block.old }
+    {
+        let state = encrypt_columns(&self.schedule, load(block));
+        *block = store(state);
+    }
+
+    /// Decrypts a block in place: InvCipher (FIPS 197, section 5.3).
+    pub fn decrypt(&self, block: &mut [u8; 16])
+        ensures value { block.new ≡ inv_aes256 self.now block.old }
+        ensures encrypts_to { aes256 self.now block.new ≡ block.old }
+    {
+        let state = decrypt_columns(&self.inverse_schedule, load(block));
+        *block = store(state);
+    }
+}
+
+#[cfg(test)]
+mod tests {
+    use super::*;
+
+    // FIPS 197, appendix C.3.
+    #[test]
+    fn encrypts_and_decrypts_the_example_of_the_standard(rt: HostRuntime) {
+        let mut key = [0u8; 32];
+        for i in 0..32u8 {
+            key[i as usize] = i;
+        }
+        let plain = [
+            0x00u8, 0x11, 0x22, 0x33, 0x44, 0x55, 0x66, 0x77, 0x88, 0x99, 0xaa, 0xbb, 0xcc, 0xdd,
+            0xee, 0xff,
+        ];
+        let encrypted = [
+            0x8eu8, 0xa2, 0xb7, 0xca, 0x51, 0x67, 0x45, 0xbf, 0xea, 0xfc, 0x49, 0x90, 0x4b, 0x49,
+            0x60, 0x89,
+        ];
+        let aes = Aes256::new(&key);
+        let mut block = plain;
+        aes.encrypt(&mut block);
+        assert_eq!(rt; block, encrypted);
+        aes.decrypt(&mut block);
+        assert_eq!(rt; block, plain);
+    }
+}
