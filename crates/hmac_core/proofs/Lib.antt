@@ -1,0 +1,5 @@
+pub mod Blocks
+pub mod HmacLemmas
+pub mod KeyBlock
+pub mod Links
+pub mod XorFacts

@@ -1,0 +1,4 @@
+pub mod Hmac
+pub mod Mac
+pub mod Pbkdf2
+pub mod Sha1Length
