@@ -1,0 +1,68 @@
+-- Key lines: the secret that a line gives, and what of the input it takes. Bytes are those of ASCII: 10 is a line
+-- feed, 39 is `'`, 88 is `X` and 120 is `x`.
+use Rattle.std.specs.Prelude.{ℕ, ◌+◌, ◌-◌, ◌==◌, ◌&&◌, ◌||◌, nat_lt, nat_le, Bool, List, [], ◌∷◌, length, slice_index, slice_range, min, take, drop, Result, Ok, Err, if◌then◌else◌}
+use Rattle.std.specs.Char.{is_ascii_hexdigit}
+use Rattle.std.specs.List.{list_all}
+use Rattle.std.specs.Result.{result_unwrap_or}
+use Rattle.hex.specs.Hex.{decode_of}
+use Rattle.cipher_profile.specs.declared.keys.Secret.{Secret}
+use Rattle.cipher_profile.specs.declared.keys.Secret.TheVariants.{Raw, Pass}
+use Rattle.cipher_profile.specs.declared.key_line.KeyError.{KeyError}
+use Rattle.cipher_profile.specs.declared.key_line.KeyError.TheVariants.{KeyMissing, KeyEmpty, KeyTooLong, KeyForm}
+
+-- the bytes before the first line feed, or all where there is none
+abbrev pub first_line : List ℕ → List ℕ
+first_line [] = []
+first_line (byte ∷ rest) = if byte == 10 then [] else byte ∷ first_line rest
+
+-- whether a line begins with `x'` or `X'` and ends with a `'` of its own
+abbrev pub is_quoted : List ℕ → Bool
+is_quoted line =
+    nat_le 3 (length line) && (slice_index line 0 == 120 || slice_index line 0 == 88) && slice_index line 1 == 39
+    && slice_index line (length line - 1) == 39
+
+-- what stands between the two
+abbrev pub quoted : List ℕ → List ℕ
+quoted line = slice_range line 2 (length line - 1)
+
+-- whether a line is `x'` or `X'`, hex digits in either case, and `'`
+abbrev pub is_hex_literal : List ℕ → Bool
+is_hex_literal line = is_quoted line && list_all is_ascii_hexdigit (quoted line)
+
+-- the bytes that the digits of such a line stand for, two digits a byte
+abbrev pub literal_bytes : List ℕ → List ℕ
+literal_bytes line = result_unwrap_or (decode_of (quoted line)) []
+
+-- what a line gives: 64 hex digits in that form are the key itself, 96 digits would be a key and a salt, and any other
+-- line is a passphrase
+abbrev pub secret_of : List ℕ → Result Secret KeyError
+secret_of line =
+    if length line == 0 then Err KeyEmpty
+    else (if length line == 67 && is_hex_literal line then Ok (Raw (literal_bytes line))
+    else (if length line == 99 && is_hex_literal line then Err KeyForm
+    else Ok (Pass line)))
+
+-- the first line of the bytes that are left: there is none where no byte is, and 1,025 bytes without a line feed are
+-- too many
+abbrev pub line_of : List ℕ → Result (List ℕ) KeyError
+line_of [] = Err KeyMissing
+line_of (byte ∷ rest) =
+    let line = first_line (byte ∷ rest) in if nat_lt 1024 (length line) then Err KeyTooLong else Ok line
+
+-- the line that stands in a buffer, of which this many bytes are the line's
+abbrev pub line_in : List ℕ → Result ℕ KeyError → Result (List ℕ) KeyError
+line_in buffer (Ok len) = Ok (take len buffer)
+line_in buffer (Err error) = Err error
+
+-- the secret that a line gives, where there is a line
+abbrev pub secret_of_line : Result (List ℕ) KeyError → Result Secret KeyError
+secret_of_line (Ok line) = secret_of line
+secret_of_line (Err error) = Err error
+
+-- what the bytes that are left give as a key line
+abbrev pub key_line : List ℕ → Result Secret KeyError
+key_line left = secret_of_line (line_of left)
+
+-- what is left once the line is taken with its line feed, or 1,025 bytes of it
+abbrev pub after_line : List ℕ → List ℕ
+after_line left = drop (min 1025 (length (first_line left) + 1)) left

@@ -1,0 +1,47 @@
+-- Profiles: the page layouts and key derivations of SQLCipher's versions (SQLCipher API, "cipher_compatibility").
+use Rattle.std.specs.Prelude.{◌≡◌, ◌⊎◌, ◌≤◌, ℕ, ◌+◌, ◌-◌, ◌%◌, List, Option, Some, None, codes, if◌then◌else◌}
+use Rattle.std.specs.Str.{bytes_eq}
+use Rattle.cipher_profile.specs.declared.profile.Profile.{Profile}
+use Rattle.cipher_profile.specs.declared.profile.HashKind.TheVariants.{Sha1, Sha512}
+use Rattle.cipher_profile.specs.Hashes.{digest_len}
+
+-- compatibility 1: pages of 1,024 bytes without a tag
+abbrev pub sqlcipher_1 : Profile
+sqlcipher_1 = record { version = 1; page_size = 1024; reserve = 16; hash = Sha1; rounds = 4000; tag_len = 0 }
+
+-- compatibility 2: HMAC-SHA-1, PBKDF2 with 4,000 rounds
+abbrev pub sqlcipher_2 : Profile
+sqlcipher_2 = record { version = 2; page_size = 1024; reserve = 48; hash = Sha1; rounds = 4000; tag_len = 20 }
+
+-- compatibility 3: as 2, with 64,000 rounds
+abbrev pub sqlcipher_3 : Profile
+sqlcipher_3 = record { version = 3; page_size = 1024; reserve = 48; hash = Sha1; rounds = 64000; tag_len = 20 }
+
+-- compatibility 4: pages of 4,096 bytes, HMAC-SHA-512, PBKDF2 with 256,000 rounds
+abbrev pub sqlcipher_4 : Profile
+sqlcipher_4 = record { version = 4; page_size = 4096; reserve = 80; hash = Sha512; rounds = 256000; tag_len = 64 }
+
+-- the profile that a word of the command line names
+abbrev pub profile_named : List ℕ → Option Profile
+profile_named word =
+    if bytes_eq word (codes "1") then Some sqlcipher_1
+    else (if bytes_eq word (codes "2") then Some sqlcipher_2
+    else (if bytes_eq word (codes "3") then Some sqlcipher_3
+    else (if bytes_eq word (codes "4") then Some sqlcipher_4 else None)))
+
+-- one of the profiles
+abbrev pub IsListed : Profile → Type 0
+IsListed profile = (profile ≡ sqlcipher_1) ⊎ (profile ≡ sqlcipher_2) ⊎ (profile ≡ sqlcipher_3) ⊎ (profile ≡ sqlcipher_4)
+
+-- U: how many bytes of a stored page hold content
+abbrev pub usable : Profile → ℕ
+usable profile = profile.page_size - profile.reserve
+
+-- how the lengths of a profile go together: a page has room for its content, an IV and a tag, and the content is whole
+-- blocks of the cipher, of which page 1 gives the first to the salt
+pub record IsLaidOut (profile : Profile) : Type 0 where
+  pub size : (profile.page_size ≡ 1024) ⊎ (profile.page_size ≡ 4096)
+  pub room : usable profile + 16 + profile.tag_len ≤ profile.page_size
+  pub blocks : usable profile % 16 ≡ 0
+  pub salt : 16 ≤ usable profile
+  pub tag : profile.tag_len ≤ digest_len profile.hash

@@ -1,0 +1,84 @@
+// The keys of a file, from a secret and the file's salt.
+ghost use Rattle.std.specs.Prelude.{◌≡◌, ◌≤◌};
+ghost use Rattle.hmac_core.specs.Hmac.{xor_each};
+ghost use Rattle.cipher_profile.specs.Keys.{cipher_key, page_keys, stretched, tag_key};
+ghost use Rattle.cipher_profile.specs.Profile.{IsListed};
+
+use crate::passphrase::PassBytes;
+use crate::profile::{HashKind, Profile};
+use hmac_core::{Sha1Hash, Sha512Hash, pbkdf2};
+
+/// What a key line holds.
+#[derive(Drop)]
+pub enum Secret {
+    /// The cipher's key itself.
+    Raw([u8; 32]),
+    /// A passphrase.
+    Pass(PassBytes),
+}
+
+/// The keys of a file's pages.
+#[derive(Clone, Copy, Debug, PartialEq, Eq)]
+pub struct PageKeys {
+    /// The key of AES-256.
+    pub enc: [u8; 32],
+    /// The key of the tags' HMAC.
+    pub mac: [u8; 32],
+}
+
+/// The rounds of PBKDF2 that make the key of the tags.
+const TAG_KEY_ROUNDS: u32 = 2;
+
+/// What each byte of the salt is xored with for the key of the tags.
+const SALT_MASK: u8 = 0x3a;
+
+/// The keys that a secret gives for a file with this salt.
+pub fn derive(secret: &Secret, profile: &Profile, salt: &[u8; 16]) -> PageKeys
+    requires { IsListed profile.now }
+    ensures { result ≡ page_keys profile.now secret.now salt.now }
+{
+    let enc = cipher_key(profile, secret, salt);
+    let mac = tag_key(profile, &enc, salt);
+    PageKeys { enc, mac }
+}
+
+fn cipher_key(profile: &Profile, secret: &Secret, salt: &[u8; 16]) -> [u8; 32]
+    requires { IsListed profile.now }
+    ensures { result ≡ cipher_key profile.now secret.now salt.now }
+{
+    match secret {
+        Secret::Raw(key) => *key,
+        Secret::Pass(passphrase) => stretch(profile, passphrase.as_slice(), salt, profile.rounds),
+    }
+}
+
+fn tag_key(profile: &Profile, key: &[u8; 32], salt: &[u8; 16]) -> [u8; 32]
+    requires { IsListed profile.now }
+    ensures { result ≡ tag_key profile.now key.now salt.now }
+{
+    let salt = masked(salt);
+    stretch(profile, key, &salt, TAG_KEY_ROUNDS)
+}
+
+// PBKDF2 with the profile's hash.
+fn stretch(profile: &Profile, pass: &[u8], salt: &[u8; 16], rounds: u32) -> [u8; 32]
+    requires { 1 ≤ rounds }
+    ensures { result ≡ stretched profile.now pass.now salt.now rounds }
+{
+    let mut key = [0u8; 32];
+    match profile.hash {
+        HashKind::Sha1 => pbkdf2::<Sha1Hash>(pass, salt, rounds, &mut key),
+        HashKind::Sha512 => pbkdf2::<Sha512Hash>(pass, salt, rounds, &mut key),
+    }
+    key
+}
+
+fn masked(salt: &[u8; 16]) -> [u8; 16]
+    ensures { result ≡ xor_each 0x3a salt.now }
+{
+    let mut masked = [0u8; 16];
+    for i in 0..16 {
+        masked[i] = salt[i] ^ SALT_MASK;
+    }
+    masked
+}
