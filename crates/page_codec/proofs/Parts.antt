@@ -1,0 +1,37 @@
+-- Parts of a list that is joined of others, or that has others written into it.
+use Rattle.std.proofs.Common.{◌≡◌, ◌≤◌, ◌+◌, ◌-◌, ℕ, List, ◌++◌, length, take, drop, ap, sym, ◌∙◌, arith}
+use Rattle.std.specs.Prelude.{slice_range}
+use Rattle.std.proofs.lemmas.List.{drop_at, length-append, take-append-drop, take_at}
+use Rattle.std.proofs.lemmas.Grind.{common_steps}
+use Rattle.std.proofs.lemmas.Slice.{between_is, take-put_mid_below}
+use Rattle.page_codec.specs.Page.{cipher_start, magic}
+use borrow.Rule.Slice.PartMut.{put_mid}
+
+-- what lies between a head and a rest
+pub part_between : (head text rest : List ℕ) (i j : ℕ) → length head ≡ i → length head + length text ≡ j
+    → slice_range (head ++ text ++ rest) i j ≡ text
+part_between head text rest i j from to =
+    let whole : length (head ++ text) ≡ j = length-append head text ∙ to in
+    between_is (head ++ text ++ rest) i j
+    ∙ ap (drop i) (take_at (head ++ text) rest j whole)
+    ∙ drop_at head text i from
+
+-- the first of what lies behind a head
+pub part_after : (head rest : List ℕ) (i j k : ℕ) → length head ≡ i → j ≡ i + k
+    → slice_range (head ++ rest) i j ≡ take k rest
+part_after head rest i j k from to =
+    let long : j - i ≡ k = omega arith in
+    ap (take (j - i)) (drop_at head rest i from) ∙ ap (λ (m : ℕ). take m rest) long
+
+-- what lies before the part that is written
+pub part_before : (at len : ℕ) (old new : List ℕ) (i j : ℕ) → j ≤ at → at ≤ length old
+    → slice_range (put_mid at len old new) i j ≡ slice_range old i j
+part_before at len old new i j before within =
+    between_is (put_mid at len old new) i j
+    ∙ ap (drop i) (take-put_mid_below at len old new j before within)
+    ∙ sym (between_is old i j)
+
+-- a plain page is what it begins with and the rest
+pub magic_first : (n : ℕ) (plain : List ℕ) → (n ≡ 1 → take 16 plain ≡ magic)
+    → take (cipher_start n) magic ++ drop (cipher_start n) plain ≡ plain
+magic_first n plain begins = grind (arith, common_steps, take-append-drop)

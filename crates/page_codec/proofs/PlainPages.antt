@@ -1,0 +1,73 @@
+-- Every page that opens is a plain page.
+use Rattle.std.proofs.Common.{◌≡◌, ◌≤◌, ◌⊎◌, inl, inr, ◌+◌, ◌-◌, ◌%◌, ℕ, List, ◌++◌, [], ◌∷◌, zero, suc, length, take, drop, arith, ap, sym, ◌∙◌}
+use Rattle.std.specs.Prelude.{slice_range}
+use Rattle.std.proofs.lemmas.List.{length-append, length-drop, length-take-le, take_at}
+use Rattle.std.proofs.lemmas.Grind.{common_steps}
+use Rattle.aes_block.specs.Aes.{AreBytes, IsBlock, IsKey}
+use Rattle.cbc_mode.specs.Cbc.{IsRoundTrip, IsText, cbc_decrypted}
+use Rattle.cipher_profile.specs.Profile.{IsLaidOut, usable}
+use Rattle.page_codec.specs.Page.{FileKeys, IsPlainPage, ciphertext, cipher_start, magic, opened, stored_iv}
+
+-- ---- bytes
+
+AreBytes-append : (a b : List ℕ) → AreBytes a → AreBytes b → AreBytes (a ++ b)
+AreBytes-append [] b ha hb i = hb i
+AreBytes-append (x ∷ a) b ha hb zero = ha 0
+AreBytes-append (x ∷ a) b ha hb (suc i) = AreBytes-append a b (λ k. ha (suc k)) hb i
+
+AreBytes-drop : (n : ℕ) (a : List ℕ) → AreBytes a → AreBytes (drop n a)
+AreBytes-drop zero a h = h
+AreBytes-drop (suc n) [] h = h
+AreBytes-drop (suc n) (x ∷ a) h = AreBytes-drop n a (λ k. h (suc k))
+
+AreBytes-take : (n : ℕ) (a : List ℕ) → AreBytes a → AreBytes (take n a)
+AreBytes-take zero a h i = omega arith
+AreBytes-take (suc n) [] h i = h i
+AreBytes-take (suc n) (x ∷ a) h zero = h 0
+AreBytes-take (suc n) (x ∷ a) h (suc i) = AreBytes-take n a (λ k. h (suc k)) i
+
+AreBytes-range : (a : List ℕ) (i j : ℕ) → AreBytes a → AreBytes (slice_range a i j)
+AreBytes-range a i j h = AreBytes-take (j - i) (drop i a) (AreBytes-drop i a h)
+
+AreBytes-magic : AreBytes magic
+AreBytes-magic i = grind (arith, common_steps)
+
+-- ---- the parts of a page
+
+length-range : (a : List ℕ) (i j : ℕ) → j ≤ length a → length (slice_range a i j) ≡ j - i
+length-range a i j within =
+    length-take-le (j - i) (drop i a) (omega (arith, length-drop i a))
+
+-- the ciphertext begins at a whole block
+start_of : (n : ℕ) → (cipher_start n ≡ 0) ⊎ (cipher_start n ≡ 16)
+start_of n = grind (arith, common_steps)
+
+-- every page that opens, where decryption takes text to text
+pub opened_plain : (file : FileKeys) (n : ℕ) (stored : List ℕ) → IsLaidOut file.profile → IsKey file.keys.enc
+    → length stored ≡ file.profile.page_size → AreBytes stored
+    → ((key iv text : List ℕ) → IsKey key → IsBlock iv → IsText text → IsRoundTrip key iv text)
+    → IsPlainPage file.profile n (opened file n stored)
+unfolding opened
+opened_plain file n stored laid_out key size bytes law =
+    let u : ℕ = usable file.profile in
+    let start : ℕ = cipher_start n in
+    let iv : List ℕ = stored_iv file.profile stored in
+    let text : List ℕ = ciphertext file.profile n stored in
+    let iv_block : IsBlock iv =
+    (omega (arith, length-range stored u (u + 16) (omega (arith, laid_out, size))), AreBytes-range stored u (u + 16) bytes) in
+    let text_long : length text ≡ u - start = length-range stored start u (omega (arith, laid_out, size)) in
+    let whole : length text % 16 ≡ 0 =
+    elim (start_of n) [ inl e ↦ omega (arith, text_long, laid_out, e) | inr e ↦ omega (arith, text_long, laid_out, e) ] in
+    let trip = law file.keys.enc iv text key iv_block (record { whole = whole; bytes = AreBytes-range stored start u bytes }) in
+    let head : List ℕ = take start magic in
+    let within : start ≤ 16 = elim (start_of n) [ inl e ↦ omega (arith, e) | inr e ↦ omega (arith, e) ] in
+    let head_long : length head ≡ start = length-take-le start magic within in
+    record {
+      size = omega (arith, length-append head (cbc_decrypted file.keys.enc iv text), head_long, text_long, trip.decrypted_length, laid_out, within);
+      bytes = AreBytes-append head (cbc_decrypted file.keys.enc iv text) (AreBytes-take start magic AreBytes-magic) trip.decrypted_bytes;
+      begins = λ first.
+          let from : start ≡ 16 = ap cipher_start first in
+          ap (λ (k : ℕ). take k (head ++ cbc_decrypted file.keys.enc iv text)) (sym from)
+          ∙ take_at head (cbc_decrypted file.keys.enc iv text) start head_long
+          ∙ ap (λ (k : ℕ). take k magic) from;
+    }

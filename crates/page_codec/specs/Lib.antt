@@ -1,0 +1,2 @@
+pub mod MacKey
+pub mod Page

@@ -1,0 +1,14 @@
+//! The stored pages of a SQLCipher file: which pages a key accepts, and how they are opened and sealed.
+#![tactic(auto)]
+
+mod codec;
+mod laws;
+mod opening;
+mod sealing;
+mod tag;
+#[cfg(test)]
+mod tests;
+
+pub use codec::Codec;
+pub use laws::{no_tag_law, opened_law};
+pub use opening::TagRefused;
