@@ -1,0 +1,4 @@
+pub mod Bytes
+pub mod Count
+pub mod Header
+pub mod Rules
