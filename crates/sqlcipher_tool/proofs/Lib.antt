@@ -1,0 +1,7 @@
+pub mod FirstPage
+pub mod PagesAnswer
+pub mod RefusedPages
+pub mod WholeReads
+pub mod Conclusions
+pub mod KeyRefusals
+pub mod OnlyReads

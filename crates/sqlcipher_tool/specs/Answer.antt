@@ -1,0 +1,115 @@
+-- The answer of a run: its status, and what it prints.
+use Rattle.std.specs.Prelude.{◌≡◌, ◌⊎◌, ◌≤◌, ℕ, Bool, List, [], ◌∷◌, ◌++◌, Option, Some, None, if◌then◌else◌}
+use Rattle.edge_model.specs.Causes.{Rose}
+use Rattle.sqlcipher_tool.specs.declared.status.Refusal.{Refusal}
+use Rattle.sqlcipher_tool.specs.declared.status.Status.{Status}
+use Rattle.sqlcipher_tool.specs.declared.status.Status.TheVariants.{Done, Usage, Refused, KeyRefused, DiskFault, OutputFault, InputFault, EntropyFault, OutOfMemory}
+use Rattle.sqlcipher_tool.specs.Text.{refusal_line, usage_line, key_refused_line}
+
+pub record Answer : Type 0 where
+  pub status : Status
+  pub text : List ℕ
+
+-- a cause of a refusal: whether it holds, and the answer that it has
+pub record Cause : Type 0 where
+  pub holds : Bool
+  pub answer : Answer
+
+-- the answer of the first cause that holds, none where none does
+abbrev pub first_of : List Cause → Option Answer
+first_of [] = None
+first_of (cause ∷ causes) = if cause.holds then Some cause.answer else first_of causes
+
+abbrev pub done : List ℕ → Answer
+done report = record { status = Done; text = report }
+
+abbrev pub refused : Refusal → Answer
+refused refusal = record { status = Refused refusal; text = refusal_line refusal }
+
+abbrev pub usage : Answer
+usage = record { status = Usage; text = usage_line }
+
+abbrev pub key_refused : Answer
+key_refused = record { status = KeyRefused; text = key_refused_line }
+
+-- the command was answered
+abbrev pub IsAnswer : Status → Type 0
+IsAnswer Done = Unit {0}
+IsAnswer Usage = Unit {0}
+IsAnswer (Refused refusal) = Unit {0}
+IsAnswer KeyRefused = Unit {0}
+IsAnswer DiskFault = ⊥
+IsAnswer OutputFault = ⊥
+IsAnswer InputFault = ⊥
+IsAnswer EntropyFault = ⊥
+IsAnswer OutOfMemory = ⊥
+
+-- it was not: something outside failed, or memory ran out
+abbrev pub IsFault : Status → Type 0
+IsFault Done = ⊥
+IsFault Usage = ⊥
+IsFault (Refused refusal) = ⊥
+IsFault KeyRefused = ⊥
+IsFault DiskFault = Unit {0}
+IsFault OutputFault = Unit {0}
+IsFault InputFault = Unit {0}
+IsFault EntropyFault = Unit {0}
+IsFault OutOfMemory = Unit {0}
+
+-- some first part of the text was appended
+pub record PutsPart (text before after : List ℕ) : Type 0 where
+  pub put : List ℕ
+  pub rest : List ℕ
+  pub whole : text ≡ put ++ rest
+  pub appended : after ≡ before ++ put
+
+-- the whole text was appended, or after a fault some first part of it
+abbrev pub Puts : Status → List ℕ → List ℕ → List ℕ → Type 0
+Puts Done text before after = after ≡ before ++ text
+Puts Usage text before after = after ≡ before ++ text
+Puts (Refused refusal) text before after = after ≡ before ++ text
+Puts KeyRefused text before after = after ≡ before ++ text
+Puts DiskFault text before after = PutsPart text before after
+Puts OutputFault text before after = PutsPart text before after
+Puts InputFault text before after = PutsPart text before after
+Puts EntropyFault text before after = PutsPart text before after
+Puts OutOfMemory text before after = PutsPart text before after
+
+-- the exit status of the program
+abbrev pub code_of : Status → ℕ
+code_of Done = 0
+code_of Usage = 1
+code_of (Refused refusal) = 2
+code_of KeyRefused = 3
+code_of DiskFault = 4
+code_of OutputFault = 5
+code_of InputFault = 6
+code_of EntropyFault = 7
+code_of OutOfMemory = 8
+
+-- where a status blames an object, its count of faults rose; the counts never fall, and no other fault is answered
+pub record HasCauses (status : Status) (disk_before disk_after output_before output_after : ℕ) : Type 0 where
+  pub disk : status ≡ DiskFault → Rose disk_before disk_after
+  pub output : status ≡ OutputFault → Rose output_before output_after
+  pub input : status ≡ InputFault → ⊥
+  pub entropy : status ≡ EntropyFault → ⊥
+  pub memory : status ≡ OutOfMemory → ⊥
+  pub usage : status ≡ Usage → ⊥
+  pub disk_later : disk_before ≤ disk_after
+  pub output_later : output_before ≤ output_after
+
+-- the answer that is due, or a fault in its place
+abbrev pub IsAnswered : Status → Answer → Type 0
+IsAnswered status due = (status ≡ due.status) ⊎ IsFault status
+
+-- how a command ends that was given a secret
+abbrev pub IsStopStatus : Status → Type 0
+IsStopStatus Done = Unit {0}
+IsStopStatus Usage = ⊥
+IsStopStatus (Refused refusal) = Unit {0}
+IsStopStatus KeyRefused = Unit {0}
+IsStopStatus DiskFault = Unit {0}
+IsStopStatus OutputFault = Unit {0}
+IsStopStatus InputFault = ⊥
+IsStopStatus EntropyFault = ⊥
+IsStopStatus OutOfMemory = ⊥

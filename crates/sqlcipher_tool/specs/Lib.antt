@@ -1,0 +1,9 @@
+pub mod Answer
+pub mod Due
+pub mod Header
+pub mod Opening
+pub mod Probe
+pub mod Stop
+pub mod Tags
+pub mod Text
+pub mod Words

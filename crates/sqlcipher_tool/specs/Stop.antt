@@ -1,0 +1,16 @@
+-- What a command comes to, as an answer.
+use Rattle.std.specs.Prelude.{ℕ, List, Option, Some, None, Result, Ok, Err}
+use Rattle.sqlcipher_tool.specs.Answer.{Answer, done, refused, key_refused}
+use Rattle.sqlcipher_tool.specs.declared.opening.Stop.{Stop}
+use Rattle.sqlcipher_tool.specs.declared.opening.Stop.TheVariants.{Refused as StopRefused, KeyRefused as StopKey, DiskFault as StopDisk}
+
+-- the answer of a stop, none where the disk failed
+abbrev pub stop_answer : Stop → Option Answer
+stop_answer (StopRefused refusal) = Some (refused refusal)
+stop_answer StopKey = Some key_refused
+stop_answer StopDisk = None
+
+-- the answer of a report, or of the stop in its place
+abbrev pub outcome_answer : Result (List ℕ) Stop → Option Answer
+outcome_answer (Ok report) = Some (done report)
+outcome_answer (Err stop) = stop_answer stop

@@ -1,0 +1,73 @@
+-- What is printed. Each line ends with a line feed, and numbers are decimal.
+use Rattle.std.specs.Prelude.{ℕ, List, [], ◌∷◌, ◌++◌, codes, decimal}
+use Rattle.std.specs.List.{flat_map}
+use Rattle.db_format.specs.declared.header.Header.{Header}
+use Rattle.sqlcipher_tool.specs.declared.status.Refusal.{Refusal}
+use Rattle.sqlcipher_tool.specs.declared.status.Refusal.TheVariants.{NoTags, KeyMissing, KeyEmpty, KeyTooLong, KeyForm, JournalThere, Empty, Short, HeaderFault, WalMode, AutoVacuum, Ragged, TooLarge, PageTag, NotBuilt}
+
+-- the text of a refusal, without its line feed
+abbrev pub refusal_text : Refusal → List ℕ
+refusal_text NoTags = codes "profile has no tags"
+refusal_text KeyMissing = codes "key missing"
+refusal_text KeyEmpty = codes "key empty"
+refusal_text KeyTooLong = codes "key too long"
+refusal_text KeyForm = codes "key with salt"
+refusal_text JournalThere = codes "journal is there"
+refusal_text Empty = codes "file is empty"
+refusal_text (Short len) = codes "file is short: " ++ decimal len ++ codes " bytes"
+refusal_text (HeaderFault offset found) = codes "header fault at " ++ decimal offset ++ codes ": " ++ decimal found
+refusal_text WalMode = codes "WAL mode"
+refusal_text AutoVacuum = codes "auto-vacuum"
+refusal_text (Ragged len) = codes "file is ragged: " ++ decimal len ++ codes " bytes"
+refusal_text (TooLarge pages) = codes "file is too large: " ++ decimal pages ++ codes " pages"
+refusal_text (PageTag page) = codes "page " ++ decimal page ++ codes ": tag refused"
+refusal_text NotBuilt = codes "not built"
+
+abbrev pub line : List ℕ → List ℕ
+line text = text ++ 10 ∷ []
+
+abbrev pub refusal_line : Refusal → List ℕ
+refusal_line refusal = line (refusal_text refusal)
+
+-- the line of a page whose tag does not hold
+abbrev pub tag_line : ℕ → List ℕ
+tag_line page = refusal_line (PageTag page)
+
+-- a line for each of these pages
+abbrev pub tag_lines : List ℕ → List ℕ
+tag_lines pages = flat_map tag_line pages
+
+abbrev pub usage_line : List ℕ
+usage_line = line (codes "usage")
+
+abbrev pub key_refused_line : List ℕ
+key_refused_line = line (codes "key refused")
+
+-- what `tags` prints of a file whose pages are all accepted
+abbrev pub tags_report : ℕ → List ℕ
+tags_report pages = line (codes "tags hold: " ++ decimal pages ++ codes " pages")
+
+-- what `probe` prints
+abbrev pub probe_report : ℕ → List ℕ
+probe_report version = line (codes "profile " ++ decimal version)
+
+-- a name and a number
+abbrev pub field_line : List ℕ → ℕ → List ℕ
+field_line name value = line (name ++ codes " " ++ decimal value)
+
+-- what `header` prints
+abbrev pub header_report : Header → ℕ → List ℕ
+header_report header pages =
+    field_line (codes "page size") header.page_size
+    ++ field_line (codes "reserve") header.reserve
+    ++ field_line (codes "pages") pages
+    ++ field_line (codes "change counter") header.change
+    ++ field_line (codes "freelist trunk") header.first_trunk
+    ++ field_line (codes "freelist pages") header.free_count
+    ++ field_line (codes "schema cookie") header.cookie
+    ++ field_line (codes "schema format") header.format
+    ++ field_line (codes "cache size") header.cache
+    ++ field_line (codes "encoding") header.encoding
+    ++ field_line (codes "user version") header.user_version
+    ++ field_line (codes "application id") header.application_id
+    ++ field_line (codes "sqlite version") header.sqlite_number

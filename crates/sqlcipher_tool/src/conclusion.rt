@@ -1,0 +1,68 @@
+// How an answer ends: its last lines, and its status.
+ghost use Rattle.std.specs.Prelude.{◌≡◌, ◌⊎◌, ◌≤◌, IsTrue, Some, Err};
+ghost use Rattle.edge_model.specs.Causes.{Rose};
+ghost use Rattle.sqlcipher_tool.specs.Answer.{Answer, IsAnswer, IsStopStatus, Puts};
+ghost use Rattle.sqlcipher_tool.specs.Text.{refusal_line};
+ghost use Rattle.sqlcipher_tool.specs.Stop.{stop_answer, outcome_answer};
+
+use crate::opening::Stop;
+use crate::status::{Refusal, Status};
+use crate::text::{Text, key_refused_line, refusal_line};
+use edge_model::Sink;
+
+/// Prints the last lines of an answer.
+pub fn conclude<S: Sink>(out: &mut S, text: &Text, status: Status) -> Status
+    requires { IsAnswer status }
+    ensures status { (result ≡ status) ⊎ (result ≡ Status.OutputFault) }
+    ensures text { IsTrue S.tells → Puts result text.now (S.taken out.old) (S.taken out.new) }
+    ensures fault { result ≡ Status.OutputFault → Rose (S.faults out.old) (S.faults out.new) }
+    ensures later { S.faults out.old ≤ S.faults out.new }
+{
+    match text.put(out) {
+        Ok(()) => status,
+        Err(_) => Status::OutputFault,
+    }
+}
+
+/// Prints a refusal.
+pub fn conclude_refusal<S: Sink>(out: &mut S, refusal: Refusal) -> Status
+    ensures status { (result ≡ Status.Refused refusal) ⊎ (result ≡ Status.OutputFault) }
+    ensures text { IsTrue S.tells → Puts result (refusal_line refusal) (S.taken out.old) (S.taken out.new) }
+    ensures fault { result ≡ Status.OutputFault → Rose (S.faults out.old) (S.faults out.new) }
+    ensures later { S.faults out.old ≤ S.faults out.new }
+{
+    conclude(out, &refusal_line(&refusal), Status::Refused(refusal))
+}
+
+/// Prints why a command has no report.
+pub fn conclude_stop<S: Sink>(out: &mut S, stop: Stop) -> Status
+    ensures status { (answer : Answer) → stop_answer stop ≡ Some answer → (result ≡ answer.status) ⊎ (result ≡ Status.OutputFault) }
+    ensures text { (answer : Answer) → stop_answer stop ≡ Some answer → IsTrue S.tells → Puts result answer.text (S.taken out.old) (S.taken out.new) }
+    ensures disk { stop ≡ Stop.DiskFault → (result ≡ Status.DiskFault) × (out.new ≡ out.old) }
+    ensures no_disk { result ≡ Status.DiskFault → stop ≡ Stop.DiskFault }
+    ensures fault { result ≡ Status.OutputFault → Rose (S.faults out.old) (S.faults out.new) }
+    ensures others { IsStopStatus result }
+    ensures later { S.faults out.old ≤ S.faults out.new }
+{
+    match stop {
+        Stop::Refused(refusal) => conclude_refusal(out, refusal),
+        Stop::KeyRefused => conclude(out, &key_refused_line(), Status::KeyRefused),
+        Stop::DiskFault => Status::DiskFault,
+    }
+}
+
+/// Prints a report, or why there is none.
+pub fn conclude_outcome<S: Sink>(out: &mut S, outcome: Result<Text, Stop>) -> Status
+    ensures status { (answer : Answer) → outcome_answer outcome ≡ Some answer → (result ≡ answer.status) ⊎ (result ≡ Status.OutputFault) }
+    ensures text { (answer : Answer) → outcome_answer outcome ≡ Some answer → IsTrue S.tells → Puts result answer.text (S.taken out.old) (S.taken out.new) }
+    ensures disk { outcome ≡ Err Stop.DiskFault → (result ≡ Status.DiskFault) × (out.new ≡ out.old) }
+    ensures no_disk { result ≡ Status.DiskFault → outcome ≡ Err Stop.DiskFault }
+    ensures fault { result ≡ Status.OutputFault → Rose (S.faults out.old) (S.faults out.new) }
+    ensures others { IsStopStatus result }
+    ensures later { S.faults out.old ≤ S.faults out.new }
+{
+    match outcome {
+        Ok(text) => conclude(out, &text, Status::Done),
+        Err(stop) => conclude_stop(out, stop),
+    }
+}

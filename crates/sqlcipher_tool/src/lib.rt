@@ -1,0 +1,18 @@
+//! The top call: what the program does with its words, its input and the files.
+#![tactic(auto)]
+
+mod command;
+mod conclusion;
+mod header;
+mod main_file;
+mod opening;
+mod probe;
+mod status;
+mod tags;
+#[cfg(test)]
+mod tests;
+mod text;
+mod top;
+
+pub use status::{Refusal, Status};
+pub use top::run;

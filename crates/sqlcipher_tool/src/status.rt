@@ -1,0 +1,97 @@
+// How a run ends.
+ghost use Rattle.std.specs.Prelude.{◌≡◌};
+ghost use Rattle.sqlcipher_tool.specs.Answer.{code_of};
+
+/// Why a command was refused. Lengths are in bytes, and pages are numbered from 1.
+#[derive(Clone, Copy, Debug, PartialEq, Eq)]
+pub enum Refusal {
+    /// The profile's pages have no tags.
+    NoTags,
+    /// No byte of a key line was left.
+    KeyMissing,
+    /// The key line is empty.
+    KeyEmpty,
+    /// 1,025 bytes came without a line feed.
+    KeyTooLong,
+    /// The key line holds a raw key and a salt.
+    KeyForm,
+    /// A journal stands beside the file.
+    JournalThere,
+    /// The file is absent or has no byte.
+    Empty,
+    /// The file is shorter than a page, or than the pages that its header counts.
+    Short {
+        /// The file's length.
+        length: u64,
+    },
+    /// A field of the header has a value that it may not have.
+    HeaderFault {
+        /// Where the field stands in page 1.
+        offset: u32,
+        /// The field's value.
+        found: u32,
+    },
+    /// The file keeps a write-ahead log.
+    WalMode,
+    /// The file has pointer-map pages.
+    AutoVacuum,
+    /// The file is no whole number of pages, and its header does not count them.
+    Ragged {
+        /// The file's length.
+        length: u64,
+    },
+    /// The file has more pages than are served.
+    TooLarge {
+        /// How many it has.
+        pages: u64,
+    },
+    /// The tag of this page does not hold. Where several do not, it is the first.
+    PageTag {
+        /// The page.
+        page: u32,
+    },
+    /// A journal stands beside the file, and playing it back is not built.
+    NotBuilt,
+}
+
+/// How a run ended.
+#[derive(Clone, Copy, Debug, PartialEq, Eq)]
+pub enum Status {
+    /// The command was carried out.
+    Done,
+    /// The words are no command.
+    Usage,
+    /// The file or the input is not one that the command can serve.
+    Refused(Refusal),
+    /// The key does not fit the file.
+    KeyRefused,
+    /// The disk failed.
+    DiskFault,
+    /// The output failed.
+    OutputFault,
+    /// The input failed.
+    InputFault,
+    /// The entropy failed.
+    EntropyFault,
+    /// Memory ran out.
+    OutOfMemory,
+}
+
+impl Status {
+    /// The exit status of the program.
+    pub fn code(&self) -> u8
+        ensures { result ≡ code_of self.now }
+    {
+        match self {
+            Status::Done => 0,
+            Status::Usage => 1,
+            Status::Refused(_) => 2,
+            Status::KeyRefused => 3,
+            Status::DiskFault => 4,
+            Status::OutputFault => 5,
+            Status::InputFault => 6,
+            Status::EntropyFault => 7,
+            Status::OutOfMemory => 8,
+        }
+    }
+}

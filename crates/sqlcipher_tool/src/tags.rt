@@ -1,0 +1,170 @@
+// `tags`: whether each whole page of Main is accepted.
+ghost use Rattle.std.specs.Prelude.{◌≡◌, ◌⊎◌, ◌+◌, ◌*◌, ◌/◌, ◌<◌, ◌≤◌, None, ◌++◌, ◌∷◌, [], length, slice_get, option_to_list, Some, IfOk, IfErr, OnOk, OnErr, IsTrue, Err};
+ghost use Rattle.edge_model.specs.Causes.{Rose};
+ghost use Rattle.edge_model.specs.OnlyRead.{OnlyRead};
+ghost use Rattle.cipher_profile.specs.Profile.{IsListed};
+ghost use Rattle.sqlcipher_tool.specs.Answer.{first_of, Puts, PutsPart, IsAnswered, HasCauses};
+ghost use Rattle.sqlcipher_tool.specs.Opening.{main_of, main_keys, max_database, whole_pages};
+ghost use Rattle.sqlcipher_tool.specs.Tags.{refused_page, refused_pages, pages_answer, tags_causes, tags_answer};
+ghost use Rattle.sqlcipher_tool.specs.Stop.{stop_answer};
+ghost use Rattle.sqlcipher_tool.specs.Text.{tag_lines};
+ghost use Rattle.sqlcipher_tool.specs.declared.status.Refusal.TheVariants.{TooLarge};
+
+use crate::conclusion::{conclude, conclude_stop};
+use crate::main_file::{MAX_PAGE, read_page};
+use crate::opening::{Stop, fitting_codec, served_length};
+use crate::status::{Refusal, Status};
+use crate::text::{refusal_line, tags_report};
+use cipher_profile::{Profile, Secret};
+use edge_model::{Disk, Sink};
+use page_codec::Codec;
+
+/// The largest database, in bytes.
+const MAX_DATABASE: u64 = 1 << 30;
+
+// What failed while pages were checked.
+#[derive(Clone, Copy, Debug, PartialEq, Eq)]
+enum CheckFault {
+    Disk,
+    Output,
+}
+
+/// `tags` with this secret.
+pub fn tags<S: Sink, D: Disk>(
+    profile: Profile,
+    secret: &Secret,
+    out: &mut S,
+    disk: &mut D,
+) -> Status
+    requires listed { IsListed profile }
+    requires tagged { 0 < profile.tag_len }
+    ensures status { IsTrue D.tells → IsAnswered result (tags_answer profile secret.now (D.reads disk.old)) }
+    ensures text { IsTrue S.tells → IsTrue D.tells → Puts result (tags_answer profile secret.now (D.reads disk.old)).text (S.taken out.old) (S.taken out.new) }
+    ensures causes { HasCauses result (D.faults disk.old) (D.faults disk.new) (S.faults out.old) (S.faults out.new) }
+    ensures only_read { IsTrue D.tells → OnlyRead D.reads D.images D.moment D.since disk.old disk.new }
+{
+    match open_for_tags(disk, profile, secret) {
+        Ok((codec, pages)) => tags_of_pages(&codec, pages, out, disk),
+        Err(stop) => conclude_stop(out, stop),
+    }
+}
+
+// The codec of Main and the count of its whole pages, where nothing stands in the way.
+fn open_for_tags<D: Disk>(
+    disk: &mut D,
+    profile: Profile,
+    secret: &Secret,
+) -> Result<(Codec, u32), Stop>
+    requires { IsListed profile }
+    ensures none { OnOk result (IsTrue D.tells → first_of (tags_causes profile secret.now (D.reads disk.old)) ≡ None) }
+    ensures codec { IfOk result (λ opened. IsTrue D.tells → opened.0 ≡ main_keys profile secret.now (D.reads disk.old)) }
+    ensures pages { IfOk result (λ opened. IsTrue D.tells → opened.1 ≡ whole_pages profile (main_of (D.reads disk.old))) }
+    ensures profile { IfOk result (λ opened. opened.0.profile ≡ profile) }
+    ensures stop { IfErr result (λ stop. IsTrue D.tells → (stop ≡ Stop.DiskFault) ⊎ (first_of (tags_causes profile secret.now (D.reads disk.old)) ≡ stop_answer stop)) }
+    ensures cause { IfErr result (λ stop. stop ≡ Stop.DiskFault → Rose (D.faults disk.old) (D.faults disk.new)) }
+    ensures later { D.faults disk.old ≤ D.faults disk.new }
+    ensures only_read { IsTrue D.tells → OnlyRead D.reads D.images D.moment D.since disk.old disk.new }
+{
+    let length = served_length(disk, profile)?;
+    let pages = count_whole_pages(length, profile)?;
+    let codec = fitting_codec(disk, profile, secret)?;
+    Ok((codec, pages))
+}
+
+// How many whole pages a file of this length has, where they are served.
+fn count_whole_pages(length: u64, profile: Profile) -> Result<u32, Stop>
+    requires { IsListed profile }
+    ensures pages { IfOk result (λ pages. (pages ≡ length / profile.page_size) × (pages * profile.page_size ≤ max_database)) }
+    ensures stop { IfErr result (λ stop. (stop ≡ Stop.Refused (TooLarge (length / profile.page_size))) × (max_database < length / profile.page_size * profile.page_size)) }
+{
+    let size = u64::from(profile.page_size);
+    let pages = length / size;
+    if pages * size > MAX_DATABASE {
+        return Err(Stop::Refused(Refusal::TooLarge { pages }));
+    }
+    Ok(pages as u32)
+}
+
+// `tags`, where nothing stands in the way.
+fn tags_of_pages<S: Sink, D: Disk>(codec: &Codec, pages: u32, out: &mut S, disk: &mut D) -> Status
+    requires listed { IsListed codec.now.profile }
+    requires tagged { 0 < codec.now.profile.tag_len }
+    requires whole { IsTrue D.tells → pages * codec.now.profile.page_size ≤ length (main_of (D.reads disk.old)) }
+    ensures status { IsTrue D.tells → IsAnswered result (pages_answer pages (refused_pages codec.now (main_of (D.reads disk.old)) pages)) }
+    ensures text { IsTrue S.tells → IsTrue D.tells → Puts result (pages_answer pages (refused_pages codec.now (main_of (D.reads disk.old)) pages)).text (S.taken out.old) (S.taken out.new) }
+    ensures causes { HasCauses result (D.faults disk.old) (D.faults disk.new) (S.faults out.old) (S.faults out.new) }
+    ensures only_read { IsTrue D.tells → OnlyRead D.reads D.images D.moment D.since disk.old disk.new }
+{
+    match check_pages(out, disk, codec, pages) {
+        Ok(None) => conclude(out, &tags_report(pages), Status::Done),
+        Ok(Some(page)) => Status::Refused(Refusal::PageTag { page }),
+        Err(CheckFault::Disk) => Status::DiskFault,
+        Err(CheckFault::Output) => Status::OutputFault,
+    }
+}
+
+// Checks so many pages of Main, from page 1 on, and prints a line for each that is not accepted. Answers the first of
+// these.
+fn check_pages<S: Sink, D: Disk>(
+    out: &mut S,
+    disk: &mut D,
+    codec: &Codec,
+    pages: u32,
+) -> Result<Option<u32>, CheckFault>
+    requires listed { IsListed codec.now.profile }
+    requires tagged { 0 < codec.now.profile.tag_len }
+    requires whole { IsTrue D.tells → pages * codec.now.profile.page_size ≤ length (main_of (D.reads disk.old)) }
+    ensures first { IfOk result (λ first. IsTrue D.tells → first ≡ slice_get (refused_pages codec.now (main_of (D.reads disk.old)) pages) 0) }
+    ensures text { OnOk result (IsTrue S.tells → IsTrue D.tells → S.taken out.new ≡ S.taken out.old ++ tag_lines (refused_pages codec.now (main_of (D.reads disk.old)) pages)) }
+    ensures part { OnErr result (IsTrue S.tells → IsTrue D.tells → PutsPart (tag_lines (refused_pages codec.now (main_of (D.reads disk.old)) pages)) (S.taken out.old) (S.taken out.new)) }
+    ensures disk_fault { result ≡ Err CheckFault.Disk → Rose (D.faults disk.old) (D.faults disk.new) }
+    ensures output_fault { result ≡ Err CheckFault.Output → Rose (S.faults out.old) (S.faults out.new) }
+    ensures disk_later { D.faults disk.old ≤ D.faults disk.new }
+    ensures output_later { S.faults out.old ≤ S.faults out.new }
+    ensures only_read { IsTrue D.tells → OnlyRead D.reads D.images D.moment D.since disk.old disk.new }
+{
+    let mut buffer = [0u8; MAX_PAGE];
+    let page = &mut buffer[..codec.profile().page_size as usize];
+    let mut first = None;
+    for done in 0..pages {
+        let refused = check_page(out, disk, codec, done + 1, page)?;
+        first = first.or(refused);
+    }
+    Ok(first)
+}
+
+// Page n of Main, where it is not accepted, for which it prints a line.
+fn check_page<S: Sink, D: Disk>(
+    out: &mut S,
+    disk: &mut D,
+    codec: &Codec,
+    n: u32,
+    page: &mut [u8],
+) -> Result<Option<u32>, CheckFault>
+    requires number { 1 ≤ n }
+    requires listed { IsListed codec.now.profile }
+    requires tagged { 0 < codec.now.profile.tag_len }
+    requires size { length page.old ≡ codec.now.profile.page_size }
+    requires whole { IsTrue D.tells → n * codec.now.profile.page_size ≤ length (main_of (D.reads disk.old)) }
+    ensures refused { IfOk result (λ refused. IsTrue D.tells → refused ≡ refused_page codec.now (main_of (D.reads disk.old)) n) }
+    ensures text { IfOk result (λ refused. IsTrue S.tells → S.taken out.new ≡ S.taken out.old ++ tag_lines (option_to_list refused)) }
+    ensures nothing { result ≡ Err CheckFault.Disk → S.taken out.new ≡ S.taken out.old }
+    ensures part { result ≡ Err CheckFault.Output → IsTrue S.tells → PutsPart (tag_lines (n ∷ [])) (S.taken out.old) (S.taken out.new) }
+    ensures is_refused { result ≡ Err CheckFault.Output → IsTrue D.tells → refused_page codec.now (main_of (D.reads disk.old)) n ≡ Some n }
+    ensures disk_fault { result ≡ Err CheckFault.Disk → Rose (D.faults disk.old) (D.faults disk.new) }
+    ensures output_fault { result ≡ Err CheckFault.Output → Rose (S.faults out.old) (S.faults out.new) }
+    ensures disk_later { D.faults disk.old ≤ D.faults disk.new }
+    ensures output_later { S.faults out.old ≤ S.faults out.new }
+    ensures only_read { IsTrue D.tells → OnlyRead D.reads D.images D.moment D.since disk.old disk.new }
+{
+    if read_page(disk, n, page).is_err() {
+        return Err(CheckFault::Disk);
+    }
+    if codec.tag_holds(n, page) {
+        return Ok(None);
+    }
+    match refusal_line(&Refusal::PageTag { page: n }).put(out) {
+        Ok(()) => Ok(Some(n)),
+        Err(_) => Err(CheckFault::Output),
+    }
+}

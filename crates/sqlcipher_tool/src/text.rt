@@ -1,0 +1,224 @@
+// Printed lines, in place: none takes memory.
+ghost use Rattle.std.specs.Prelude.{◌≡◌, ◌+◌, ◌≤◌, ◌++◌, ◌∷◌, ℕ, List, [], length, take, codes, decimal, OnOk, OnErr, IsTrue};
+ghost use Rattle.edge_model.specs.Causes.{HasCause};
+ghost use Rattle.sqlcipher_tool.specs.Answer.{PutsPart};
+ghost use Rattle.sqlcipher_tool.specs.Text.{refusal_text, refusal_line, tags_report, probe_report, field_line, header_report, usage_line, key_refused_line};
+
+use crate::status::Refusal;
+use db_format::Header;
+use edge_model::{Failed, Sink, put_all};
+use itoa::Buffer;
+use std::marker::Model;
+
+/// Room for the longest report, in bytes.
+const CAPACITY: usize = 1024;
+
+/// Lines of output. Contracts see their bytes.
+#[derive(Drop)]
+pub struct Text {
+    bytes: [u8; CAPACITY],
+    len: usize,
+}
+
+impl Model for Text {
+    ghost Value = { List ℕ };
+
+    ghost view = { λ l. take l.len l.bytes };
+
+    ghost invariant = { λ l. l.len ≤ 1024 };
+}
+
+impl Text {
+    fn new() -> Text
+        ensures { result ≡ [] }
+    {
+        Text {
+            bytes: [0; CAPACITY],
+            len: 0,
+        }
+    }
+
+    fn push(&mut self, text: &[u8])
+        requires { length self.old + length text.now ≤ 1024 }
+        ensures { self.new ≡ self.old ++ text.now }
+    {
+        let end = self.len + text.len();
+        self.bytes[self.len..end].copy_from_slice(text);
+        self.len = end;
+    }
+
+    fn push_number(&mut self, number: u64)
+        requires { length self.old ≤ 1000 }
+        ensures text { self.new ≡ self.old ++ decimal number }
+        ensures short { length self.new ≤ length self.old + 20 }
+    {
+        let mut digits = Buffer::new();
+        self.push(digits.format(number).as_bytes());
+    }
+
+    // A number between two texts.
+    fn push_around(&mut self, before: &[u8], number: u64, after: &[u8])
+        requires { length self.old + length before.now + length after.now ≤ 1000 }
+        ensures text { self.new ≡ self.old ++ (before.now ++ (decimal number ++ after.now)) }
+        ensures short { length self.new ≤ length self.old + length before.now + length after.now + 20 }
+    {
+        self.push(before);
+        self.push_number(number);
+        self.push(after);
+    }
+
+    fn push_field(&mut self, name: &[u8], value: u32)
+        requires { length self.old + length name.now ≤ 990 }
+        ensures text { self.new ≡ self.old ++ field_line name.now value }
+        ensures short { length self.new ≤ length self.old + length name.now + 22 }
+    {
+        self.push(name);
+        self.push_around(b" ", u64::from(value), b"\n");
+    }
+
+    fn as_bytes(&self) -> &[u8]
+        ensures { result.now ≡ self.now }
+    {
+        &self.bytes[..self.len]
+    }
+
+    /// Appends the lines. After a failure the sink has some first part of them.
+    pub fn put<S: Sink>(&self, out: &mut S) -> Result<(), Failed>
+        ensures done { OnOk result (IsTrue S.tells → S.taken out.new ≡ S.taken out.old ++ self.now) }
+        ensures part { OnErr result (IsTrue S.tells → PutsPart self.now (S.taken out.old) (S.taken out.new)) }
+        ensures cause { HasCause (S.faults out.old) (S.faults out.new) result }
+    {
+        put_all(out, self.as_bytes())
+    }
+}
+
+// The text of a refusal, without its line feed.
+fn refusal_text(refusal: &Refusal) -> Text
+    ensures text { result ≡ refusal_text refusal.now }
+    ensures short { length result ≤ 100 }
+{
+    let mut text = Text::new();
+    match refusal {
+        Refusal::NoTags => text.push(b"profile has no tags"),
+        Refusal::KeyMissing => text.push(b"key missing"),
+        Refusal::KeyEmpty => text.push(b"key empty"),
+        Refusal::KeyTooLong => text.push(b"key too long"),
+        Refusal::KeyForm => text.push(b"key with salt"),
+        Refusal::JournalThere => text.push(b"journal is there"),
+        Refusal::Empty => text.push(b"file is empty"),
+        Refusal::Short { length } => text.push_around(b"file is short: ", *length, b" bytes"),
+        Refusal::HeaderFault { offset, found } => {
+            text.push_around(b"header fault at ", u64::from(*offset), b": ");
+            text.push_number(u64::from(*found));
+        }
+        Refusal::WalMode => text.push(b"WAL mode"),
+        Refusal::AutoVacuum => text.push(b"auto-vacuum"),
+        Refusal::Ragged { length } => text.push_around(b"file is ragged: ", *length, b" bytes"),
+        Refusal::TooLarge { pages } => text.push_around(b"file is too large: ", *pages, b" pages"),
+        Refusal::PageTag { page } => text.push_around(b"page ", u64::from(*page), b": tag refused"),
+        Refusal::NotBuilt => text.push(b"not built"),
+    }
+    text
+}
+
+/// The line that a refusal prints.
+pub fn refusal_line(refusal: &Refusal) -> Text
+    ensures { result ≡ refusal_line refusal.now }
+{
+    let mut text = refusal_text(refusal);
+    text.push(b"\n");
+    text
+}
+
+/// The line of a file whose pages are all accepted.
+pub fn tags_report(pages: u32) -> Text
+    ensures { result ≡ tags_report pages }
+{
+    let mut text = Text::new();
+    text.push_around(b"tags hold: ", u64::from(pages), b" pages\n");
+    text
+}
+
+/// The line of a profile whose key fits.
+pub fn probe_report(version: u8) -> Text
+    ensures { result ≡ probe_report version }
+{
+    let mut text = Text::new();
+    text.push_around(b"profile ", u64::from(version), b"\n");
+    text
+}
+
+/// The fields of a header, a line each.
+pub fn header_report(header: &Header, pages: u32) -> Text
+    ensures { result ≡ header_report header.now pages }
+{
+    let mut text = Text::new();
+    push_layout(&mut text, header, pages);
+    push_schema(&mut text, header);
+    push_names(&mut text, header);
+    text
+}
+
+fn push_layout(text: &mut Text, header: &Header, pages: u32)
+    requires { length text.old ≤ 0 }
+    ensures text { text.new ≡ text.old
+        ++ field_line (codes "page size") header.now.page_size
+        ++ field_line (codes "reserve") header.now.reserve
+        ++ field_line (codes "pages") pages
+        ++ field_line (codes "change counter") header.now.change
+        ++ field_line (codes "freelist trunk") header.now.first_trunk
+        ++ field_line (codes "freelist pages") header.now.free_count }
+    ensures short { length text.new ≤ 250 }
+{
+    text.push_field(b"page size", header.page_size);
+    text.push_field(b"reserve", header.reserve);
+    text.push_field(b"pages", pages);
+    text.push_field(b"change counter", header.change);
+    text.push_field(b"freelist trunk", header.first_trunk);
+    text.push_field(b"freelist pages", header.free_count);
+}
+
+fn push_schema(text: &mut Text, header: &Header)
+    requires { length text.old ≤ 250 }
+    ensures text { text.new ≡ text.old
+        ++ field_line (codes "schema cookie") header.now.cookie
+        ++ field_line (codes "schema format") header.now.format
+        ++ field_line (codes "cache size") header.now.cache
+        ++ field_line (codes "encoding") header.now.encoding }
+    ensures short { length text.new ≤ 450 }
+{
+    text.push_field(b"schema cookie", header.cookie);
+    text.push_field(b"schema format", header.format);
+    text.push_field(b"cache size", header.cache);
+    text.push_field(b"encoding", header.encoding);
+}
+
+fn push_names(text: &mut Text, header: &Header)
+    requires { length text.old ≤ 450 }
+    ensures { text.new ≡ text.old
+        ++ field_line (codes "user version") header.now.user_version
+        ++ field_line (codes "application id") header.now.application_id
+        ++ field_line (codes "sqlite version") header.now.sqlite_number }
+{
+    text.push_field(b"user version", header.user_version);
+    text.push_field(b"application id", header.application_id);
+    text.push_field(b"sqlite version", header.sqlite_number);
+}
+
+/// The line of words that are no command.
+pub fn usage_line() -> Text
+    ensures { result ≡ usage_line }
+{
+    let mut text = Text::new();
+    text.push(b"usage\n");
+    text
+}
+
+/// The line of a key that does not fit.
+pub fn key_refused_line() -> Text
+    ensures { result ≡ key_refused_line }
+{
+    let mut text = Text::new();
+    text.push(b"key refused\n");
+    text
+}
