@@ -1,0 +1,39 @@
+// What `--help` and `--version` print.
+
+/// The text of `--help`.
+pub const HELP: &str = "\
+sqlcipher-tool checks SQLCipher database files. It writes nothing to them.
+
+usage: sqlcipher-tool FILE COMMAND [PROFILE] < KEYS
+       sqlcipher-tool --help | --version
+
+commands
+  tags PROFILE    check the tag of every page; prints a line for each page whose
+                  tag does not hold, or `tags hold: N pages`
+  header PROFILE  decrypt page 1 and print the fields of the database header
+  probe           find the profile whose key fits; prints `profile N`
+
+profiles
+  1, 2, 3, 4      the version of SQLCipher that wrote the file (1 has no tags)
+
+standard input: a key line for each key that the command reads (each of these: one)
+  x'HEX'          a raw key, 64 hex digits
+  anything else   a passphrase, 1 to 1,024 bytes up to the line feed
+
+exit status
+  0  done
+  1  the words are no command
+  2  refused: the lines say why
+  3  the key does not fit the file
+  4  the disk failed
+  5  standard output failed
+  6  standard input failed
+  7  the source of random bytes failed
+  8  out of memory
+
+example, on a file FILE
+  echo 'correct horse battery staple' | sqlcipher-tool FILE probe
+";
+
+/// The text of `--version`.
+pub const VERSION: &str = "sqlcipher-tool 0.1.0\n";

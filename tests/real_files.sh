@@ -1,0 +1,148 @@
+#!/usr/bin/env bash
+# Compares the program with the independent reference in tests/reference: the printed lines and the status have to be the
+# same. The files are those that the reference makes, and, where the product `sqlcipher` is installed, those that it makes.
+# What can't be done is skipped, with a line that says so: all of it without Python's `cryptography`.
+set -u
+top=$(cd "$(dirname "$0")/.." && pwd) || exit 1
+oracle=$top/tests/reference/oracle/sqlcipher_oracle.py
+tool=$top/sqlcipher-tool
+folder=$(mktemp -d) || exit 1
+trap 'rm -rf "$folder"' EXIT
+compared=0
+differ=0
+
+if ! python3 -c 'import cryptography' 2> /dev/null; then
+    echo "real files: skipped, since Python's cryptography is missing"
+    exit 0
+fi
+
+k0="x'000102030405060708090a0b0c0d0e0f101112131415161718191a1b1c1d1e1f'"
+k1="x'ffffffffffffffffffffffffffffffffffffffffffffffffffffffffffffffff'"
+
+make() { # make FILE KEY PROFILE ROWS
+    printf '%s\n' "$2" | python3 "$oracle" "$1" make "$3" "$4" --seed 7 > /dev/null
+}
+
+compare() { # compare FILE KEY WORDS..: the same lines and the same status
+    local file=$1 key=$2
+    shift 2
+    printf '%s\n' "$key" > "$folder/key"
+    compare_with "$file" "$folder/key" "$@"
+}
+
+compare_with() { # compare_with FILE KEYFILE WORDS..
+    local file=$1 key=$2
+    shift 2
+    python3 "$oracle" "$file" "$@" < "$key" > "$folder/expected" 2> /dev/null
+    local expected=$?
+    "$tool" "$file" "$@" < "$key" > "$folder/found"
+    local found=$?
+    compared=$((compared + 1))
+    if [ "$expected" -ne "$found" ] || ! cmp -s "$folder/expected" "$folder/found"; then
+        differ=$((differ + 1))
+        echo "real files: $(basename "$file") $*: the reference ends with $expected and prints"
+        head -n 5 "$folder/expected"
+        echo "the program ends with $found and prints"
+        head -n 5 "$folder/found"
+    fi
+}
+
+flip() { # flip FILE OFFSET: turns the lowest bit of a byte
+    python3 - "$1" "$2" <<'PY'
+import sys
+path, at = sys.argv[1], int(sys.argv[2])
+with open(path, "r+b") as file:
+    file.seek(at)
+    byte = file.read(1)[0]
+    file.seek(at)
+    file.write(bytes([byte ^ 1]))
+PY
+}
+
+pages() { echo $(($(stat -c %s "$1") / 4096)); }
+
+# A file of SQLCipher 4 with tables, indexes and overflow chains.
+sound=$folder/sound.db
+make "$sound" "$k0" 4 400
+[ "$(pages "$sound")" -ge 200 ] || { echo "real files: the file has only $(pages "$sound") pages"; exit 1; }
+compare "$sound" "$k0" tags 4
+compare "$sound" "${k0^^}" tags 4
+compare "$sound" "$k1" tags 4
+
+# Pages that are damaged in the ciphertext, the IV, the tag and the first byte, the last page among them.
+damaged=$folder/damaged.db
+cp "$sound" "$damaged"
+for at in 5000 $((4096 * 9 + 4020)) $((4096 * 10 + 4032)) $((4096 * 57 + 4095)) $((4096 * 100)) $(($(stat -c %s "$sound") - 1)); do
+    flip "$damaged" "$at"
+done
+compare "$damaged" "$k0" tags 4
+
+# Every page but the first.
+all=$folder/all.db
+cp "$sound" "$all"
+for n in $(seq 1 $(($(pages "$sound") - 1))); do
+    flip "$all" $((4096 * n + 77))
+done
+compare "$all" "$k0" tags 4
+
+# Two pages in each other's place, bytes past the last page, and page 1 alone.
+swapped=$folder/swapped.db
+cp "$sound" "$swapped"
+dd if="$sound" of="$swapped" bs=4096 skip=20 seek=30 count=1 conv=notrunc status=none
+dd if="$sound" of="$swapped" bs=4096 skip=30 seek=20 count=1 conv=notrunc status=none
+compare "$swapped" "$k0" tags 4
+longer=$folder/longer.db
+cp "$sound" "$longer"
+head -c 4000 /dev/zero >> "$longer"
+compare "$longer" "$k0" tags 4
+first=$folder/first.db
+head -c 4096 "$sound" > "$first"
+compare "$first" "$k0" tags 4
+
+# Page 1 damaged: the key does not fit.
+unfit=$folder/unfit.db
+cp "$sound" "$unfit"
+flip "$unfit" 3000
+compare "$unfit" "$k0" tags 4
+
+# Each profile under a raw key and a passphrase, with the command for the header and the search for the profile.
+for profile in 1 2 3 4; do
+    for key in "$k0" "it's a pässwörd"; do
+        file=$folder/profile-$profile.db
+        make "$file" "$key" "$profile" 40
+        for words in "tags $profile" "header $profile" probe; do
+            # shellcheck disable=SC2086
+            compare "$file" "$key" $words
+        done
+    done
+    compare "$file" "$k1" header "$profile"
+done
+
+# Lengths: nothing, one byte, and beside a page.
+for len in 0 1 1023 1024 4095 4096 4097; do
+    head -c "$len" "$sound" > "$folder/cut.db"
+    compare "$folder/cut.db" "$k0" tags 4
+    compare "$folder/cut.db" "$k0" header 4
+    compare "$folder/cut.db" "$k0" probe
+done
+
+# What the product itself makes, with its versions 1 to 3. A journal stops `tags` and `header` here, so such files are
+# compared by `probe` alone.
+if command -v sqlcipher > /dev/null && command -v strace > /dev/null; then
+    mkdir "$folder/product"
+    bash "$top/tests/reference/make_real_files.sh" "$folder/product" > /dev/null 2>&1
+    while IFS=$'\t' read -r name profile _; do
+        file=$folder/product/$name
+        key=${file%.db}.key
+        [ -f "$file" ] && [ -f "$key" ] || continue
+        compare_with "$file" "$key" probe
+        [ -f "$file-journal" ] && continue
+        compare_with "$file" "$key" tags "$profile"
+        compare_with "$file" "$key" header "$profile"
+    done < "$folder/product/manifest.tsv"
+else
+    echo "real files: those of the product are skipped, since sqlcipher or strace is missing"
+fi
+
+echo "real files: $((compared - differ)) of $compared comparisons are the same"
+[ "$differ" -eq 0 ]
