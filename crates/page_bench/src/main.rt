@@ -1,0 +1,117 @@
+//! Hashes, derives keys, and opens and seals pages, to be timed.
+//!
+//! `page_bench hash PIECES`: SHA-512 of PIECES times 4,096 bytes of zeros. `page_bench derive P TIMES`: the keys of
+//! profile P for a passphrase, so many times. `page_bench open P TIMES` and `page_bench seal P TIMES`: page 2 of profile P,
+//! opened or sealed so many times. Each prints one byte that rests on the last result.
+#![tactic(auto)]
+
+ghost use Rattle.std.specs.Prelude.{◌≡◌, length};
+ghost use Rattle.cipher_profile.specs.Profile.{IsListed, usable};
+
+use cipher_profile::{Profile, Secret, derive, profile_of, read_key};
+use edge_model::MemSource;
+use page_codec::Codec;
+use sha2::{Digest, Sha512};
+use std::{env, io};
+
+const MAX_PAGE: usize = 4096;
+
+fn hash(pieces: u64) -> u8 {
+    let piece = [0u8; MAX_PAGE];
+    let mut hasher = Sha512::new();
+    for _ in 0..pieces {
+        hasher.update(&piece[..]);
+    }
+    hasher.finalize()[0]
+}
+
+fn derive_often(profile: &Profile, secret: &Secret, times: u64) -> u8
+    requires { IsListed profile.now }
+{
+    let mut salt = [0u8; 16];
+    for _ in 0..times {
+        salt[0] = derive(secret, profile, &salt).mac[0];
+    }
+    salt[0]
+}
+
+fn seal_often(codec: &Codec, plain: &mut [u8], stored: &mut [u8], times: u64) -> u8
+    requires plain_size { length plain.old ≡ usable codec.now.profile }
+    requires stored_size { length stored.old ≡ codec.now.profile.page_size }
+{
+    let draw = [7u8; 80];
+    let reserve = codec.profile().reserve as usize;
+    for _ in 0..times {
+        codec.seal_page(2, plain, &draw[..reserve], stored);
+    }
+    if stored.is_empty() { 0 } else { stored[0] }
+}
+
+fn open_often(codec: &Codec, plain: &mut [u8], stored: &mut [u8], times: u64) -> u8
+    requires plain_size { length plain.old ≡ usable codec.now.profile }
+    requires stored_size { length stored.old ≡ codec.now.profile.page_size }
+{
+    seal_often(codec, plain, stored, 1);
+    let mut opened = 0u8;
+    for _ in 0..times {
+        if codec.open_page(2, stored, plain).is_ok() {
+            opened = opened.wrapping_add(1);
+        }
+    }
+    opened
+}
+
+fn of_profile(profile: Profile, secret: &Secret, word: &str, times: u64) -> u8
+    requires { IsListed profile }
+{
+    if word == "derive" {
+        return derive_often(&profile, secret, times);
+    }
+    let salt = [0u8; 16];
+    let codec = Codec::new(
+        profile,
+        derive(&Secret::Raw([1; 32]), &profile, &salt),
+        salt,
+    );
+    let mut plain = [0u8; MAX_PAGE];
+    let plain = &mut plain[..profile.usable()];
+    let mut stored = [0u8; MAX_PAGE];
+    let stored = &mut stored[..profile.page_size as usize];
+    if word == "open" {
+        open_often(&codec, plain, stored, times)
+    } else {
+        seal_often(&codec, plain, stored, times)
+    }
+}
+
+fn number(words: &Vec<String>, at: usize) -> u64 {
+    match words.get(at) {
+        Some(word) => word.as_str().parse::<u64>().unwrap_or(1),
+        None => 1,
+    }
+}
+
+fn main(rt: HostRuntime) -> io::Result<()> {
+    let words: Vec<String> = env::args(&rt)?.collect(rt.alloc())?;
+    let word = match words.get(1) {
+        Some(word) => word.as_str(),
+        None => "hash",
+    };
+    let profile = match words.get(2) {
+        Some(word) => profile_of(word.as_str()),
+        None => None,
+    };
+    let Ok(mut source) = MemSource::new(rt.alloc(), b"password\n", &[]) else {
+        return Err(io::ErrorKind::OutOfMemory.into());
+    };
+    let result = match (profile, read_key(&mut source)) {
+        (Some(profile), Ok(secret)) if word != "hash" => of_profile(
+            profile,
+            &secret,
+            word,
+            number(&words, 3),
+        ),
+        _ => hash(number(&words, 2)),
+    };
+    println!(rt; "{result}")
+}
