@@ -1,9 +1,8 @@
 -- What the changes of a file's bytes leave.
 use Rattle.std.specs.Prelude.{◌≡◌, ℕ, ◌+◌, ◌-◌, ◌<◌, ◌≤◌, max, List, [], ◌∷◌, ◌++◌, length, take, drop, replicate, refl}
-use Rattle.std.proofs.Common.{arith, sym, ◌∙◌, ap, get_or, length-append, length-drop}
+use Rattle.std.proofs.Common.{arith, ◌∙◌, ap, get_or, length-append, length-drop}
 use Rattle.std.proofs.Math.ListN.{get_or-append}
-use Rattle.std.proofs.lemmas.List.{get_or-append_right, get_or-take, get_or-drop, length-replicate, length-take, take_min}
-use Rattle.std.proofs.Math.Seq.{take-length}
+use Rattle.std.proofs.lemmas.List.{get_or-append_right, get_or-take, get_or-drop, length-replicate, length-take}
 use Rattle.edge_model.specs.Files.{filled_to, spliced, written, Torn, Shorter}
 
 pub length-filled : (end : ℕ) (old : List ℕ) → length (filled_to end old) ≡ max (length old) end
@@ -56,7 +55,7 @@ pub torn_not : (at n : ℕ) (old : List ℕ) → Torn at n old old
 torn_not at n old = record { no_shorter = omega arith; no_longer = omega arith; below = λ i lt before. refl; above = λ i lt behind. refl }
 
 pub shorter_cut : (len : ℕ) (old : List ℕ) → Shorter len old (take len old)
-shorter_cut len old = record { no_shorter = omega (arith, length-take len old); front = sym (ap (λ (n : ℕ). take n old) (length-take len old) ∙ take_min len old) }
+shorter_cut len old = record { no_shorter = omega (arith, length-take len old); no_longer = omega (arith, length-take len old); below = λ i lt low. get_or-take len old i 0 low }
 
 pub shorter_not : (len : ℕ) (old : List ℕ) → Shorter len old old
-shorter_not len old = record { no_shorter = omega arith; front = sym (take-length old) }
+shorter_not len old = record { no_shorter = omega arith; no_longer = omega arith; below = λ i lt low. refl }

@@ -86,7 +86,9 @@ pub record Torn (at n : ℕ) (old new : List ℕ) : Type 0 where
   pub below : (i : ℕ) → i < length old → i < at → slice_index new i ≡ slice_index old i
   pub above : (i : ℕ) → i < length old → at + n ≤ i → slice_index new i ≡ slice_index old i
 
--- A cut that is not synced may have left any length on the way, with the old bytes below it.
+-- A cut that is not synced may have left any length on the way, with the old bytes below the cut. Past it any bytes may
+-- stand: a file system clears the rest of the last block before it notes the new length.
 pub record Shorter (len : ℕ) (old new : List ℕ) : Type 0 where
   pub no_shorter : min (length old) len ≤ length new
-  pub front : new ≡ take (length new) old
+  pub no_longer : length new ≤ length old
+  pub below : (i : ℕ) → i < length new → i < len → slice_index new i ≡ slice_index old i
