@@ -33,3 +33,7 @@ pub outcome_text : (outcome : Result (List ℕ) Stop) (due : Answer) (status : S
     → Puts status due.text before after
 outcome_text outcome due status before after is text failed =
     ⊎_elim (λ (disk : outcome ≡ Err StopDisk). nothing_put due.text before after status (failed disk)) (λ (same : outcome_answer outcome ≡ Some due). text due same) is
+
+-- where nothing was put, that is a part of any text
+pub no_part : (text before after : List ℕ) → after ≡ before → PutsPart text before after
+no_part text before after same = record { put = []; rest = text; whole = refl; appended = same ∙ sym (append-nil before) }

@@ -1,7 +1,7 @@
 -- The answer of `tags`, by the first page that is not accepted.
 use Rattle.std.proofs.Common.{◌≡◌, ◌++◌, ℕ, List, [], ◌∷◌, Some, None, refl, sym, ap, ◌∙◌, append-nil}
 use Rattle.std.specs.Prelude.{slice_get}
-use Rattle.sqlcipher_tool.specs.Answer.{PutsPart, done}
+use Rattle.sqlcipher_tool.specs.Answer.{PutsPart, done, begun}
 use Rattle.sqlcipher_tool.specs.declared.status.Refusal.TheVariants.{PageTag}
 use Rattle.sqlcipher_tool.specs.declared.status.Status.TheVariants.{Refused}
 use Rattle.sqlcipher_tool.specs.Tags.{pages_answer}
@@ -34,3 +34,8 @@ empty_part (byte ∷ put) rest whole = cc
 pub part_of_answer : (count : ℕ) (pages before after : List ℕ) → PutsPart (tag_lines pages) before after → PutsPart (pages_answer count pages).text before after
 part_of_answer count [] before after part = record { put = []; rest = tags_report count; whole = refl; appended = part.appended ∙ ap (λ (l : List ℕ). before ++ l) (empty_part part.put part.rest part.whole) }
 part_of_answer count (page ∷ rest) before after part = part
+
+-- and so it is of what may be printed before a file fails
+pub part_of_begun : (count : ℕ) (pages before after : List ℕ) → PutsPart (tag_lines pages) before after → PutsPart (begun (pages_answer count pages)) before after
+part_of_begun count [] before after part = record { put = []; rest = tags_report count; whole = refl; appended = part.appended ∙ ap (λ (l : List ℕ). before ++ l) (empty_part part.put part.rest part.whole) }
+part_of_begun count (page ∷ rest) before after part = part

@@ -1,7 +1,8 @@
 -- The answer of a run: its status, and what it prints.
-use Rattle.std.specs.Prelude.{◌≡◌, ◌⊎◌, ◌≤◌, ℕ, Bool, List, [], ◌∷◌, ◌++◌, Option, Some, None, if◌then◌else◌}
+use Rattle.std.specs.Prelude.{◌≡◌, ◌⊎◌, ◌≤◌, ℕ, Bool, true, false, IsTrue, List, [], ◌∷◌, ◌++◌, Option, Some, None, if◌then◌else◌}
 use Rattle.edge_model.specs.Causes.{Rose}
 use Rattle.sqlcipher_tool.specs.declared.status.Refusal.{Refusal}
+use Rattle.sqlcipher_tool.specs.declared.status.Refusal.TheVariants.{NoTags, KeyMissing, KeyEmpty, KeyTooLong, KeyForm, JournalThere, Empty, Short, HeaderFault, WalMode, AutoVacuum, Ragged, TooLarge, PageTag, NotBuilt}
 use Rattle.sqlcipher_tool.specs.declared.status.Status.{Status}
 use Rattle.sqlcipher_tool.specs.declared.status.Status.TheVariants.{Done, Usage, Refused, KeyRefused, DiskFault, OutputFault, InputFault, EntropyFault, OutOfMemory}
 use Rattle.sqlcipher_tool.specs.Text.{refusal_line, usage_line, key_refused_line}
@@ -87,6 +88,69 @@ code_of InputFault = 6
 code_of EntropyFault = 7
 code_of OutOfMemory = 8
 
+-- the words or the key line alone decide it
+abbrev pub is_early : Refusal → Bool
+is_early NoTags = true
+is_early KeyMissing = true
+is_early KeyEmpty = true
+is_early KeyTooLong = true
+is_early KeyForm = true
+is_early JournalThere = false
+is_early Empty = false
+is_early (Short len) = false
+is_early (HeaderFault offset found) = false
+is_early WalMode = false
+is_early AutoVacuum = false
+is_early (Ragged len) = false
+is_early (TooLarge pages) = false
+is_early (PageTag page) = false
+is_early NotBuilt = false
+
+-- it is a page whose tag does not hold
+abbrev pub is_page : Refusal → Bool
+is_page NoTags = false
+is_page KeyMissing = false
+is_page KeyEmpty = false
+is_page KeyTooLong = false
+is_page KeyForm = false
+is_page JournalThere = false
+is_page Empty = false
+is_page (Short len) = false
+is_page (HeaderFault offset found) = false
+is_page WalMode = false
+is_page AutoVacuum = false
+is_page (Ragged len) = false
+is_page (TooLarge pages) = false
+is_page (PageTag page) = true
+is_page NotBuilt = false
+
+-- what of a text may be printed before a file fails: a report, or the lines of pages
+abbrev pub begun_by : Status → List ℕ → List ℕ
+begun_by Done text = text
+begun_by Usage text = []
+begun_by (Refused refusal) text = if is_page refusal then text else []
+begun_by KeyRefused text = []
+begun_by DiskFault text = []
+begun_by OutputFault text = []
+begun_by InputFault text = []
+begun_by EntropyFault text = []
+begun_by OutOfMemory text = []
+
+abbrev pub begun : Answer → List ℕ
+begun answer = begun_by answer.status answer.text
+
+-- an answer that needs no file
+abbrev pub IsEarly : Status → Type 0
+IsEarly Done = ⊥
+IsEarly Usage = Unit {0}
+IsEarly (Refused refusal) = IsTrue (is_early refusal)
+IsEarly KeyRefused = ⊥
+IsEarly DiskFault = ⊥
+IsEarly OutputFault = ⊥
+IsEarly InputFault = ⊥
+IsEarly EntropyFault = ⊥
+IsEarly OutOfMemory = ⊥
+
 -- where a status blames an object, its count of faults rose; the counts never fall, and no other fault is answered
 pub record HasCauses (status : Status) (disk_before disk_after output_before output_after : ℕ) : Type 0 where
   pub disk : status ≡ DiskFault → Rose disk_before disk_after
@@ -95,6 +159,7 @@ pub record HasCauses (status : Status) (disk_before disk_after output_before out
   pub entropy : status ≡ EntropyFault → ⊥
   pub memory : status ≡ OutOfMemory → ⊥
   pub usage : status ≡ Usage → ⊥
+  pub late : IsEarly status → ⊥
   pub disk_later : disk_before ≤ disk_after
   pub output_later : output_before ≤ output_after
 

@@ -1,6 +1,6 @@
 -- What a command comes to, as an answer.
-use Rattle.std.specs.Prelude.{ℕ, List, Option, Some, None, Result, Ok, Err}
-use Rattle.sqlcipher_tool.specs.Answer.{Answer, done, refused, key_refused}
+use Rattle.std.specs.Prelude.{◌≡◌, false, ℕ, List, Option, Some, None, Result, Ok, Err}
+use Rattle.sqlcipher_tool.specs.Answer.{Answer, done, refused, key_refused, is_early}
 use Rattle.sqlcipher_tool.specs.declared.opening.Stop.{Stop}
 use Rattle.sqlcipher_tool.specs.declared.opening.Stop.TheVariants.{Refused as StopRefused, KeyRefused as StopKey, DiskFault as StopDisk}
 
@@ -9,6 +9,12 @@ abbrev pub stop_answer : Stop → Option Answer
 stop_answer (StopRefused refusal) = Some (refused refusal)
 stop_answer StopKey = Some key_refused
 stop_answer StopDisk = None
+
+-- it is none that the words or the key line alone decide
+abbrev pub IsLate : Stop → Type 0
+IsLate (StopRefused refusal) = is_early refusal ≡ false
+IsLate StopKey = Unit {0}
+IsLate StopDisk = Unit {0}
 
 -- the answer of a report, or of the stop in its place
 abbrev pub outcome_answer : Result (List ℕ) Stop → Option Answer

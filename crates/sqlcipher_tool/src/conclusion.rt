@@ -1,9 +1,9 @@
 // How an answer ends: its last lines, and its status.
-ghost use Rattle.std.specs.Prelude.{◌≡◌, ◌⊎◌, ◌≤◌, IsTrue, Some, Err};
+ghost use Rattle.std.specs.Prelude.{◌≡◌, ◌⊎◌, ◌≤◌, IsTrue, Some, Err, IfErr};
 ghost use Rattle.edge_model.specs.Causes.{Rose};
-ghost use Rattle.sqlcipher_tool.specs.Answer.{Answer, IsAnswer, IsStopStatus, Puts};
+ghost use Rattle.sqlcipher_tool.specs.Answer.{Answer, IsAnswer, IsEarly, IsStopStatus, Puts};
 ghost use Rattle.sqlcipher_tool.specs.Text.{refusal_line};
-ghost use Rattle.sqlcipher_tool.specs.Stop.{stop_answer, outcome_answer};
+ghost use Rattle.sqlcipher_tool.specs.Stop.{stop_answer, outcome_answer, IsLate};
 
 use crate::opening::Stop;
 use crate::status::{Refusal, Status};
@@ -40,6 +40,7 @@ pub fn conclude_stop<S: Sink>(out: &mut S, stop: Stop) -> Status
     ensures text { (answer : Answer) → stop_answer stop ≡ Some answer → IsTrue S.tells → Puts result answer.text (S.taken out.old) (S.taken out.new) }
     ensures disk { stop ≡ Stop.DiskFault → (result ≡ Status.DiskFault) × (out.new ≡ out.old) }
     ensures no_disk { result ≡ Status.DiskFault → stop ≡ Stop.DiskFault }
+    ensures late { IsLate stop → IsEarly result → ⊥ }
     ensures fault { result ≡ Status.OutputFault → Rose (S.faults out.old) (S.faults out.new) }
     ensures others { IsStopStatus result }
     ensures later { S.faults out.old ≤ S.faults out.new }
@@ -57,6 +58,7 @@ pub fn conclude_outcome<S: Sink>(out: &mut S, outcome: Result<Text, Stop>) -> St
     ensures text { (answer : Answer) → outcome_answer outcome ≡ Some answer → IsTrue S.tells → Puts result answer.text (S.taken out.old) (S.taken out.new) }
     ensures disk { outcome ≡ Err Stop.DiskFault → (result ≡ Status.DiskFault) × (out.new ≡ out.old) }
     ensures no_disk { result ≡ Status.DiskFault → outcome ≡ Err Stop.DiskFault }
+    ensures late { IfErr outcome IsLate → IsEarly result → ⊥ }
     ensures fault { result ≡ Status.OutputFault → Rose (S.faults out.old) (S.faults out.new) }
     ensures others { IsStopStatus result }
     ensures later { S.faults out.old ≤ S.faults out.new }

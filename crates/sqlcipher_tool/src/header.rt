@@ -9,7 +9,7 @@ ghost use Rattle.page_codec.specs.Page.{fits, opened};
 ghost use Rattle.sqlcipher_tool.specs.Answer.{Answer, first_of, Puts, IsAnswered, HasCauses};
 ghost use Rattle.sqlcipher_tool.specs.Header.{read_answer, counted_answer, main_header, header_causes, header_answer};
 ghost use Rattle.sqlcipher_tool.specs.Opening.{main_of, main_keys, first_page};
-ghost use Rattle.sqlcipher_tool.specs.Stop.{stop_answer, outcome_answer};
+ghost use Rattle.sqlcipher_tool.specs.Stop.{stop_answer, outcome_answer, IsLate};
 
 use crate::conclusion::conclude_outcome;
 use crate::main_file::{MAX_PAGE, read_page};
@@ -31,6 +31,7 @@ pub fn header<S: Sink, D: Disk>(
     requires { IsListed profile }
     ensures status { IsTrue D.tells → IsAnswered result (header_answer profile secret.now (D.reads disk.old)) }
     ensures text { IsTrue S.tells → IsTrue D.tells → Puts result (header_answer profile secret.now (D.reads disk.old)).text (S.taken out.old) (S.taken out.new) }
+    ensures disk_text { result ≡ Status.DiskFault → out.new ≡ out.old }
     ensures causes { HasCauses result (D.faults disk.old) (D.faults disk.new) (S.faults out.old) (S.faults out.new) }
     ensures only_read { IsTrue D.tells → OnlyRead D.reads D.images D.moment D.since disk.old disk.new }
 {
@@ -42,6 +43,7 @@ pub fn header<S: Sink, D: Disk>(
 fn describe_main<D: Disk>(disk: &mut D, profile: Profile, secret: &Secret) -> Result<Text, Stop>
     requires { IsListed profile }
     ensures told { IsTrue D.tells → (result ≡ Err Stop.DiskFault) ⊎ (outcome_answer result ≡ Some (header_answer profile secret.now (D.reads disk.old))) }
+    ensures late { IfErr result IsLate }
     ensures cause { IfErr result (λ stop. stop ≡ Stop.DiskFault → Rose (D.faults disk.old) (D.faults disk.new)) }
     ensures later { D.faults disk.old ≤ D.faults disk.new }
     ensures only_read { IsTrue D.tells → OnlyRead D.reads D.images D.moment D.since disk.old disk.new }
@@ -60,6 +62,7 @@ fn main_header<D: Disk>(disk: &mut D, codec: &Codec) -> Result<Result<Header, He
     ensures told { IfOk result (λ header. IsTrue D.tells → header ≡ header_read (opened codec.now 1 (first_page codec.now.profile (D.reads disk.old))) codec.now.profile.page_size codec.now.profile.reserve) }
     ensures layout { IfOk result (λ header. IfOk header (λ header. header.page_size ≡ codec.now.profile.page_size)) }
     ensures stop { IfErr result (λ stop. IsTrue D.tells → stop ≡ Stop.DiskFault) }
+    ensures late { IfErr result IsLate }
     ensures cause { IfErr result (λ stop. stop ≡ Stop.DiskFault → Rose (D.faults disk.old) (D.faults disk.new)) }
     ensures later { D.faults disk.old ≤ D.faults disk.new }
     ensures only_read { IsTrue D.tells → OnlyRead D.reads D.images D.moment D.since disk.old disk.new }
@@ -81,6 +84,7 @@ fn main_header<D: Disk>(disk: &mut D, codec: &Codec) -> Result<Result<Header, He
 fn describe(header: Result<Header, HeaderRefusal>, length: u64) -> Result<Text, Stop>
     requires { IfOk header (λ header. IsPageSize header.page_size) }
     ensures told { outcome_answer result ≡ Some (read_answer length header) }
+    ensures late { IfErr result IsLate }
     ensures stop { IfErr result (λ stop. stop ≡ Stop.DiskFault → ⊥) }
 {
     let header = match header {
@@ -97,6 +101,7 @@ fn describe(header: Result<Header, HeaderRefusal>, length: u64) -> Result<Text, 
 fn describe_counted(header: &Header, length: u64) -> Result<Text, Stop>
     requires { IsPageSize header.now.page_size }
     ensures told { outcome_answer result ≡ Some (counted_answer header.now (count_of_pages header.now length)) }
+    ensures late { IfErr result IsLate }
     ensures stop { IfErr result (λ stop. stop ≡ Stop.DiskFault → ⊥) }
 {
     match counted_pages(header, length) {

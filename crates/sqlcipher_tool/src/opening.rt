@@ -6,7 +6,7 @@ ghost use Rattle.cipher_profile.specs.Profile.{IsListed};
 ghost use Rattle.page_codec.specs.Page.{stored_page, fits, keys_of};
 ghost use Rattle.sqlcipher_tool.specs.Answer.{first_of};
 ghost use Rattle.sqlcipher_tool.specs.Opening.{main_of, main_keys, first_page, length_causes, key_causes};
-ghost use Rattle.sqlcipher_tool.specs.Stop.{stop_answer};
+ghost use Rattle.sqlcipher_tool.specs.Stop.{stop_answer, IsLate};
 ghost use Rattle.sqlcipher_tool.specs.declared.opening.Stop.TheVariants.{DiskFault};
 
 use crate::main_file::{MAX_PAGE, file_length, read_page};
@@ -41,6 +41,7 @@ pub fn served_length<D: Disk>(disk: &mut D, profile: Profile) -> Result<u64, Sto
     ensures told { IfOk result (λ len. IsTrue D.tells → len ≡ length (main_of (D.reads disk.old))) }
     ensures stop { IfErr result (λ stop. IsTrue D.tells → (stop ≡ Stop.DiskFault) ⊎ (first_of (length_causes profile (D.reads disk.old)) ≡ stop_answer stop)) }
     ensures page { IfOk result (λ len. profile.page_size ≤ len) }
+    ensures late { IfErr result IsLate }
     ensures cause { IfErr result (λ stop. stop ≡ Stop.DiskFault → Rose (D.faults disk.old) (D.faults disk.new)) }
     ensures later { D.faults disk.old ≤ D.faults disk.new }
     ensures only_read { IsTrue D.tells → OnlyRead D.reads D.images D.moment D.since disk.old disk.new }
@@ -68,6 +69,7 @@ pub fn fitting_codec<D: Disk>(
     requires some { IsTrue D.tells → profile.page_size ≤ length (main_of (D.reads disk.old)) }
     ensures none { OnOk result (IsTrue D.tells → first_of (key_causes profile secret.now (D.reads disk.old)) ≡ None) }
     ensures codec { IfOk result (λ codec. IsTrue D.tells → codec ≡ main_keys profile secret.now (D.reads disk.old)) }
+    ensures late { IfErr result IsLate }
     ensures profile { IfOk result (λ codec. codec.profile ≡ profile) }
     ensures stop { IfErr result (λ stop. IsTrue D.tells → (stop ≡ Stop.DiskFault) ⊎ (first_of (key_causes profile secret.now (D.reads disk.old)) ≡ stop_answer stop)) }
     ensures cause { IfErr result (λ stop. stop ≡ Stop.DiskFault → Rose (D.faults disk.old) (D.faults disk.new)) }

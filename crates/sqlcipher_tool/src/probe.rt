@@ -6,7 +6,7 @@ ghost use Rattle.cipher_profile.specs.Profile.{IsListed};
 ghost use Rattle.sqlcipher_tool.specs.Answer.{first_of, Puts, IsAnswered, HasCauses};
 ghost use Rattle.sqlcipher_tool.specs.Opening.{main_of};
 ghost use Rattle.sqlcipher_tool.specs.Probe.{is_fitting, probed_profiles, probe_causes, probe_answer};
-ghost use Rattle.sqlcipher_tool.specs.Stop.{stop_answer, outcome_answer};
+ghost use Rattle.sqlcipher_tool.specs.Stop.{stop_answer, outcome_answer, IsLate};
 
 use crate::conclusion::conclude_outcome;
 use crate::main_file::file_length;
@@ -20,6 +20,7 @@ use edge_model::{Disk, Failed, Role, Sink};
 pub fn probe<S: Sink, D: Disk>(secret: &Secret, out: &mut S, disk: &mut D) -> Status
     ensures status { IsTrue D.tells → IsAnswered result (probe_answer secret.now (D.reads disk.old)) }
     ensures text { IsTrue S.tells → IsTrue D.tells → Puts result (probe_answer secret.now (D.reads disk.old)).text (S.taken out.old) (S.taken out.new) }
+    ensures disk_text { result ≡ Status.DiskFault → out.new ≡ out.old }
     ensures causes { HasCauses result (D.faults disk.old) (D.faults disk.new) (S.faults out.old) (S.faults out.new) }
     ensures only_read { IsTrue D.tells → OnlyRead D.reads D.images D.moment D.since disk.old disk.new }
 {
@@ -30,6 +31,7 @@ pub fn probe<S: Sink, D: Disk>(secret: &Secret, out: &mut S, disk: &mut D) -> St
 // The report on the profile of Main.
 fn probe_main<D: Disk>(disk: &mut D, secret: &Secret) -> Result<Text, Stop>
     ensures told { IsTrue D.tells → (result ≡ Err Stop.DiskFault) ⊎ (outcome_answer result ≡ Some (probe_answer secret.now (D.reads disk.old))) }
+    ensures late { IfErr result IsLate }
     ensures cause { IfErr result (λ stop. stop ≡ Stop.DiskFault → Rose (D.faults disk.old) (D.faults disk.new)) }
     ensures later { D.faults disk.old ≤ D.faults disk.new }
     ensures only_read { IsTrue D.tells → OnlyRead D.reads D.images D.moment D.since disk.old disk.new }
@@ -44,6 +46,7 @@ fn probe_main<D: Disk>(disk: &mut D, secret: &Secret) -> Result<Text, Stop>
 // The length of Main, where there is no journal and Main has a byte.
 fn probed_length<D: Disk>(disk: &mut D) -> Result<u64, Stop>
     ensures none { OnOk result (IsTrue D.tells → first_of (probe_causes (D.reads disk.old)) ≡ None) }
+    ensures late { IfErr result IsLate }
     ensures told { IfOk result (λ len. IsTrue D.tells → len ≡ length (main_of (D.reads disk.old))) }
     ensures stop { IfErr result (λ stop. IsTrue D.tells → (stop ≡ Stop.DiskFault) ⊎ (first_of (probe_causes (D.reads disk.old)) ≡ stop_answer stop)) }
     ensures cause { IfErr result (λ stop. stop ≡ Stop.DiskFault → Rose (D.faults disk.old) (D.faults disk.new)) }

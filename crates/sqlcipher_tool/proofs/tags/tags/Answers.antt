@@ -2,7 +2,7 @@ use Rattle.std.proofs.Common.{◌≡◌, ap}
 use Rattle.sqlcipher_tool.specs.Answer.{first_of}
 use Rattle.sqlcipher_tool.specs.Opening.{main_of, main_keys}
 use Rattle.sqlcipher_tool.specs.Tags.{tags_causes, file_answer}
-use Rattle.sqlcipher_tool.proofs.Conclusions.{stop_text}
+use Rattle.sqlcipher_tool.proofs.Conclusions.{no_part, stop_text}
 use Rattle.sqlcipher_tool.proofs.tags.tags.Goals as goal
 
 pub returns-in-Err-clause-text : goal.returns-in-Err-clause-text
@@ -14,3 +14,6 @@ returns-in-Err-clause-text g c = λ printed told.
     (c.in-Err.ensures.stop told)
     (λ answer is. c.conclude_stop.ensures.text answer is printed)
     (λ is. let failed = c.conclude_stop.ensures.disk is in (failed.0, ap g.S.Sink.taken failed.1))
+
+pub returns-in-Err-clause-disk_text : goal.returns-in-Err-clause-disk_text
+returns-in-Err-clause-disk_text g c = λ printed told is. no_part _ _ _ (ap g.S.Sink.taken (c.conclude_stop.ensures.disk (c.conclude_stop.ensures.no_disk is)).1)

@@ -3,7 +3,7 @@ use Rattle.std.specs.Prelude.{slice_get}
 use Rattle.sqlcipher_tool.specs.Answer.{Answer, Puts, IsFault}
 use Rattle.sqlcipher_tool.specs.Opening.{main_of}
 use Rattle.sqlcipher_tool.specs.Tags.{refused_pages, pages_answer}
-use Rattle.sqlcipher_tool.proofs.PagesAnswer.{all_accepted, none_printed, some_refused, part_of_answer}
+use Rattle.sqlcipher_tool.proofs.PagesAnswer.{all_accepted, none_printed, some_refused, part_of_answer, part_of_begun}
 use Rattle.sqlcipher_tool.proofs.tags.tags_of_pages.Goals as goal
 
 pub returns-in-Ok-None-clause-status : goal.returns-in-Ok-None-clause-status
@@ -46,3 +46,6 @@ returns-in-Err-Disk-clause-text g c = λ printed told. part_of_answer _ _ _ _ (c
 
 pub returns-in-Err-Output-clause-text : goal.returns-in-Err-Output-clause-text
 returns-in-Err-Output-clause-text g c = λ printed told. part_of_answer _ _ _ _ (c.in-Err-Output.ensures.part printed told)
+
+pub returns-in-Err-Disk-clause-disk_text : goal.returns-in-Err-Disk-clause-disk_text
+returns-in-Err-Disk-clause-disk_text g c = λ printed told is. part_of_begun _ _ _ _ (c.in-Err-Disk.ensures.part printed told)
