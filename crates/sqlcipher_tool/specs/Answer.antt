@@ -139,6 +139,22 @@ begun_by OutOfMemory text = []
 abbrev pub begun : Answer → List ℕ
 begun answer = begun_by answer.status answer.text
 
+-- the one line of an answer that has one; pages whose tags do not hold have a line each
+abbrev pub line_of : Status → Option (List ℕ)
+line_of Done = None
+line_of Usage = Some usage_line
+line_of (Refused refusal) = if is_page refusal then None else Some (refusal_line refusal)
+line_of KeyRefused = Some key_refused_line
+line_of DiskFault = None
+line_of OutputFault = None
+line_of InputFault = None
+line_of EntropyFault = None
+line_of OutOfMemory = None
+
+-- an answer of one line puts exactly that line
+abbrev pub PutsLine : Status → List ℕ → List ℕ → Type 0
+PutsLine status before after = (line : List ℕ) → line_of status ≡ Some line → after ≡ before ++ line
+
 -- an answer that needs no file
 abbrev pub IsEarly : Status → Type 0
 IsEarly Done = ⊥

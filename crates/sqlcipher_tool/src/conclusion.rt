@@ -1,7 +1,7 @@
 // How an answer ends: its last lines, and its status.
 ghost use Rattle.std.specs.Prelude.{◌≡◌, ◌⊎◌, ◌≤◌, IsTrue, Some, Err, IfErr};
 ghost use Rattle.edge_model.specs.Causes.{Rose};
-ghost use Rattle.sqlcipher_tool.specs.Answer.{Answer, IsAnswer, IsEarly, IsStopStatus, Puts};
+ghost use Rattle.sqlcipher_tool.specs.Answer.{Answer, IsAnswer, IsEarly, IsStopStatus, Puts, PutsLine};
 ghost use Rattle.sqlcipher_tool.specs.Text.{refusal_line};
 ghost use Rattle.sqlcipher_tool.specs.Stop.{stop_answer, outcome_answer, IsLate};
 
@@ -28,6 +28,7 @@ pub fn conclude<S: Sink>(out: &mut S, text: &Text, status: Status) -> Status
 pub fn conclude_refusal<S: Sink>(out: &mut S, refusal: Refusal) -> Status
     ensures status { (result ≡ Status.Refused refusal) ⊎ (result ≡ Status.OutputFault) }
     ensures text { IsTrue S.tells → Puts result (refusal_line refusal) (S.taken out.old) (S.taken out.new) }
+    ensures line { IsTrue S.tells → PutsLine result (S.taken out.old) (S.taken out.new) }
     ensures fault { result ≡ Status.OutputFault → Rose (S.faults out.old) (S.faults out.new) }
     ensures later { S.faults out.old ≤ S.faults out.new }
 {
@@ -41,6 +42,7 @@ pub fn conclude_stop<S: Sink>(out: &mut S, stop: Stop) -> Status
     ensures disk { stop ≡ Stop.DiskFault → (result ≡ Status.DiskFault) × (out.new ≡ out.old) }
     ensures no_disk { result ≡ Status.DiskFault → stop ≡ Stop.DiskFault }
     ensures late { IsLate stop → IsEarly result → ⊥ }
+    ensures line { IsTrue S.tells → PutsLine result (S.taken out.old) (S.taken out.new) }
     ensures fault { result ≡ Status.OutputFault → Rose (S.faults out.old) (S.faults out.new) }
     ensures others { IsStopStatus result }
     ensures later { S.faults out.old ≤ S.faults out.new }
@@ -59,6 +61,7 @@ pub fn conclude_outcome<S: Sink>(out: &mut S, outcome: Result<Text, Stop>) -> St
     ensures disk { outcome ≡ Err Stop.DiskFault → (result ≡ Status.DiskFault) × (out.new ≡ out.old) }
     ensures no_disk { result ≡ Status.DiskFault → outcome ≡ Err Stop.DiskFault }
     ensures late { IfErr outcome IsLate → IsEarly result → ⊥ }
+    ensures line { IsTrue S.tells → PutsLine result (S.taken out.old) (S.taken out.new) }
     ensures fault { result ≡ Status.OutputFault → Rose (S.faults out.old) (S.faults out.new) }
     ensures others { IsStopStatus result }
     ensures later { S.faults out.old ≤ S.faults out.new }

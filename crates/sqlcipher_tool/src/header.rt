@@ -6,7 +6,7 @@ ghost use Rattle.cipher_profile.specs.Profile.{IsListed};
 ghost use Rattle.db_format.specs.Count.{count_of_pages};
 ghost use Rattle.db_format.specs.Header.{header_read, IsPageSize};
 ghost use Rattle.page_codec.specs.Page.{fits, opened};
-ghost use Rattle.sqlcipher_tool.specs.Answer.{Answer, first_of, Puts, IsAnswered, HasCauses};
+ghost use Rattle.sqlcipher_tool.specs.Answer.{Answer, first_of, Puts, PutsLine, IsAnswered, HasCauses};
 ghost use Rattle.sqlcipher_tool.specs.Header.{read_answer, counted_answer, main_header, header_causes, header_answer};
 ghost use Rattle.sqlcipher_tool.specs.Opening.{main_of, main_keys, first_page};
 ghost use Rattle.sqlcipher_tool.specs.Stop.{stop_answer, outcome_answer, IsLate};
@@ -31,6 +31,7 @@ pub fn header<S: Sink, D: Disk>(
     requires { IsListed profile }
     ensures status { IsTrue D.tells → IsAnswered result (header_answer profile secret.now (D.reads disk.old)) }
     ensures text { IsTrue S.tells → IsTrue D.tells → Puts result (header_answer profile secret.now (D.reads disk.old)).text (S.taken out.old) (S.taken out.new) }
+    ensures line { IsTrue S.tells → PutsLine result (S.taken out.old) (S.taken out.new) }
     ensures disk_text { result ≡ Status.DiskFault → out.new ≡ out.old }
     ensures causes { HasCauses result (D.faults disk.old) (D.faults disk.new) (S.faults out.old) (S.faults out.new) }
     ensures only_read { IsTrue D.tells → OnlyRead D.reads D.images D.moment D.since disk.old disk.new }

@@ -3,7 +3,7 @@ ghost use Rattle.std.specs.Prelude.{◌≡◌, ◌⊎◌, ◌≤◌, ◌==◌, �
 ghost use Rattle.edge_model.specs.Causes.{HasCause, Rose};
 ghost use Rattle.edge_model.specs.OnlyRead.{OnlyRead};
 ghost use Rattle.cipher_profile.specs.Profile.{IsListed};
-ghost use Rattle.sqlcipher_tool.specs.Answer.{first_of, Puts, IsAnswered, HasCauses};
+ghost use Rattle.sqlcipher_tool.specs.Answer.{first_of, Puts, PutsLine, IsAnswered, HasCauses};
 ghost use Rattle.sqlcipher_tool.specs.Opening.{main_of};
 ghost use Rattle.sqlcipher_tool.specs.Probe.{is_fitting, probed_profiles, probe_causes, probe_answer};
 ghost use Rattle.sqlcipher_tool.specs.Stop.{stop_answer, outcome_answer, IsLate};
@@ -20,6 +20,7 @@ use edge_model::{Disk, Failed, Role, Sink};
 pub fn probe<S: Sink, D: Disk>(secret: &Secret, out: &mut S, disk: &mut D) -> Status
     ensures status { IsTrue D.tells → IsAnswered result (probe_answer secret.now (D.reads disk.old)) }
     ensures text { IsTrue S.tells → IsTrue D.tells → Puts result (probe_answer secret.now (D.reads disk.old)).text (S.taken out.old) (S.taken out.new) }
+    ensures line { IsTrue S.tells → PutsLine result (S.taken out.old) (S.taken out.new) }
     ensures disk_text { result ≡ Status.DiskFault → out.new ≡ out.old }
     ensures causes { HasCauses result (D.faults disk.old) (D.faults disk.new) (S.faults out.old) (S.faults out.new) }
     ensures only_read { IsTrue D.tells → OnlyRead D.reads D.images D.moment D.since disk.old disk.new }

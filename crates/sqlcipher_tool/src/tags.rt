@@ -3,7 +3,7 @@ ghost use Rattle.std.specs.Prelude.{◌≡◌, ◌⊎◌, ◌+◌, ◌*◌, ◌/
 ghost use Rattle.edge_model.specs.Causes.{Rose};
 ghost use Rattle.edge_model.specs.OnlyRead.{OnlyRead};
 ghost use Rattle.cipher_profile.specs.Profile.{IsListed};
-ghost use Rattle.sqlcipher_tool.specs.Answer.{first_of, Puts, PutsPart, IsAnswered, HasCauses, begun};
+ghost use Rattle.sqlcipher_tool.specs.Answer.{first_of, Puts, PutsLine, PutsPart, IsAnswered, HasCauses, begun};
 ghost use Rattle.sqlcipher_tool.specs.Opening.{main_of, main_keys, max_database, whole_pages};
 ghost use Rattle.sqlcipher_tool.specs.Tags.{refused_page, refused_pages, pages_answer, tags_causes, tags_answer};
 ghost use Rattle.sqlcipher_tool.specs.Stop.{stop_answer, IsLate};
@@ -40,6 +40,7 @@ pub fn tags<S: Sink, D: Disk>(
     requires tagged { 0 < profile.tag_len }
     ensures status { IsTrue D.tells → IsAnswered result (tags_answer profile secret.now (D.reads disk.old)) }
     ensures text { IsTrue S.tells → IsTrue D.tells → Puts result (tags_answer profile secret.now (D.reads disk.old)).text (S.taken out.old) (S.taken out.new) }
+    ensures line { IsTrue S.tells → PutsLine result (S.taken out.old) (S.taken out.new) }
     ensures disk_text { IsTrue S.tells → IsTrue D.tells → result ≡ Status.DiskFault → PutsPart (begun (tags_answer profile secret.now (D.reads disk.old))) (S.taken out.old) (S.taken out.new) }
     ensures causes { HasCauses result (D.faults disk.old) (D.faults disk.new) (S.faults out.old) (S.faults out.new) }
     ensures only_read { IsTrue D.tells → OnlyRead D.reads D.images D.moment D.since disk.old disk.new }
@@ -94,6 +95,7 @@ fn tags_of_pages<S: Sink, D: Disk>(codec: &Codec, pages: u32, out: &mut S, disk:
     requires whole { IsTrue D.tells → pages * codec.now.profile.page_size ≤ length (main_of (D.reads disk.old)) }
     ensures status { IsTrue D.tells → IsAnswered result (pages_answer pages (refused_pages codec.now (main_of (D.reads disk.old)) pages)) }
     ensures text { IsTrue S.tells → IsTrue D.tells → Puts result (pages_answer pages (refused_pages codec.now (main_of (D.reads disk.old)) pages)).text (S.taken out.old) (S.taken out.new) }
+    ensures line { IsTrue S.tells → PutsLine result (S.taken out.old) (S.taken out.new) }
     ensures disk_text { IsTrue S.tells → IsTrue D.tells → result ≡ Status.DiskFault → PutsPart (begun (pages_answer pages (refused_pages codec.now (main_of (D.reads disk.old)) pages))) (S.taken out.old) (S.taken out.new) }
     ensures causes { HasCauses result (D.faults disk.old) (D.faults disk.new) (S.faults out.old) (S.faults out.new) }
     ensures only_read { IsTrue D.tells → OnlyRead D.reads D.images D.moment D.since disk.old disk.new }

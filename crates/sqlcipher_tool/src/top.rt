@@ -4,7 +4,7 @@ ghost use Rattle.edge_model.specs.Causes.{Rose};
 ghost use Rattle.edge_model.specs.Images.{LeavesOnly};
 ghost use Rattle.edge_model.specs.OnlyRead.{OnlyRead};
 ghost use Rattle.cipher_profile.specs.KeyLine.{after_line, key_line};
-ghost use Rattle.sqlcipher_tool.specs.Answer.{IsFault, IsAnswered, IsEarly, Puts, PutsPart, HasCauses, begun};
+ghost use Rattle.sqlcipher_tool.specs.Answer.{IsFault, IsAnswered, IsEarly, Puts, PutsLine, PutsPart, HasCauses, begun};
 ghost use Rattle.cipher_profile.specs.declared.key_line.KeyError.{KeyError as KeyRefusal};
 ghost use Rattle.sqlcipher_tool.specs.declared.status.Refusal.TheVariants.{NoTags};
 ghost use Rattle.sqlcipher_tool.specs.Due.{due, secret_answer, asked_answer, key_answer};
@@ -48,6 +48,7 @@ pub fn run<K: Source, S: Sink, E: Entropy, D: Disk>(
     // What is printed.
     ensures usage_text { IsTrue S.tells → form (texts words.now) ≡ None → Puts result usage_line (S.taken out.old) (S.taken out.new) }
     ensures text { IsTrue S.tells → IsTrue K.tells → IsTrue D.tells → Puts result (due (texts words.now) (K.left input.old) (D.reads disk.old)).text (S.taken out.old) (S.taken out.new) }
+    ensures line { IsTrue S.tells → PutsLine result (S.taken out.old) (S.taken out.new) }
     ensures disk_text { IsTrue S.tells → IsTrue K.tells → IsTrue D.tells → result ≡ Status.DiskFault → PutsPart (begun (due (texts words.now) (K.left input.old) (D.reads disk.old))) (S.taken out.old) (S.taken out.new) }
     ensures input_text { result ≡ Status.InputFault → out.new ≡ out.old }
 
@@ -84,6 +85,7 @@ fn serve<K: Source, S: Sink, D: Disk>(
     requires { IsServed command }
     ensures status { IsTrue K.tells → IsTrue D.tells → IsAnswered result (asked_answer command (K.left input.old) (D.reads disk.old)) }
     ensures text { IsTrue S.tells → IsTrue K.tells → IsTrue D.tells → Puts result (asked_answer command (K.left input.old) (D.reads disk.old)).text (S.taken out.old) (S.taken out.new) }
+    ensures line { IsTrue S.tells → PutsLine result (S.taken out.old) (S.taken out.new) }
     ensures disk_text { IsTrue S.tells → IsTrue K.tells → IsTrue D.tells → result ≡ Status.DiskFault → PutsPart (begun (asked_answer command (K.left input.old) (D.reads disk.old))) (S.taken out.old) (S.taken out.new) }
     ensures input_text { result ≡ Status.InputFault → out.new ≡ out.old }
     ensures no_tags { lacks_tags command ≡ true → (result ≡ Status.Refused NoTags) ⊎ (result ≡ Status.OutputFault) }
@@ -130,6 +132,7 @@ fn carry_out<S: Sink, D: Disk>(
     requires tagged { lacks_tags command ≡ false }
     ensures status { IsTrue D.tells → IsAnswered result (secret_answer command (D.reads disk.old) secret.now) }
     ensures text { IsTrue S.tells → IsTrue D.tells → Puts result (secret_answer command (D.reads disk.old) secret.now).text (S.taken out.old) (S.taken out.new) }
+    ensures line { IsTrue S.tells → PutsLine result (S.taken out.old) (S.taken out.new) }
     ensures disk_text { IsTrue S.tells → IsTrue D.tells → result ≡ Status.DiskFault → PutsPart (begun (secret_answer command (D.reads disk.old) secret.now)) (S.taken out.old) (S.taken out.new) }
     ensures causes { HasCauses result (D.faults disk.old) (D.faults disk.new) (S.faults out.old) (S.faults out.new) }
     ensures only_read { IsTrue D.tells → OnlyRead D.reads D.images D.moment D.since disk.old disk.new }
