@@ -2,7 +2,7 @@
 use Rattle.std.specs.Prelude.{◌≡◌, ℕ, Bool, false, List}
 use Rattle.edge_model.specs.Files.{Files}
 use Rattle.edge_model.specs.Gate.{Counts, IsCounted}
-use Rattle.edge_model.specs.Log.{files_of, reads_after, ImagesAfter, newest_first}
+use Rattle.edge_model.specs.Log.{files_of, next_number, reads_after, ImagesAfter, newest_first}
 use Rattle.edge_model.specs.Picks.{picked}
 use Rattle.edge_model.specs.declared.mem_disk.contents.Call.{Call}
 use Rattle.edge_model.specs.declared.mem_disk.MemDisk.{MemDisk}
@@ -31,6 +31,10 @@ mem_reads m = reads_after (files_of m.store.start) (newest_first m.store.calls.i
 -- its member `images`
 abbrev pub mem_images : MemDisk → Files → Type 0
 mem_images m = ImagesAfter (files_of m.store.start) (newest_first m.store.calls.items)
+
+-- its member `next`
+abbrev pub mem_next : MemDisk → ℕ
+mem_next m = next_number m.store.calls.items
 
 -- the image that is asked for
 abbrev pub mem_picked : ImagePick → MemDisk → Files

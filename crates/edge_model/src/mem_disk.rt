@@ -1,7 +1,7 @@
 // A disk in memory.
-ghost use Rattle.std.specs.Prelude.{◌≡◌, ◌⊎◌, [], true, length, IsTrue, IsErr, IfOk, OnOk, OnErr, is_ok};
+ghost use Rattle.std.specs.Prelude.{◌≡◌, ◌⊎◌, [], true, length, None, IsTrue, IsErr, IfOk, OnOk, OnErr, is_ok};
 ghost use Rattle.std.specs.Option.{option_map};
-ghost use Rattle.edge_model.specs.Files.{Files, bytes_of, file_at, nothing};
+ghost use Rattle.edge_model.specs.Files.{Files, bytes_of, created, file_at, nothing, renamed};
 ghost use Rattle.edge_model.specs.Images.{Each};
 ghost use Rattle.edge_model.specs.Gate.{IsCounted, at_first, is_next_due, listing, stopping};
 ghost use Rattle.edge_model.specs.Causes.{HasCause, Rose};
@@ -29,7 +29,7 @@ pub struct MemDisk {
 }
 
 impl MemDisk {
-    ghost use Rattle.edge_model.specs.MemDisk.{mem_counts, mem_faults, mem_history, mem_images, mem_picked, mem_reads};
+    ghost use Rattle.edge_model.specs.MemDisk.{IsCalled, mem_counts, mem_faults, mem_history, mem_images, mem_next, mem_picked, mem_reads};
 
     /// No role has a file.
     pub fn new(alloc: Global) -> MemDisk
@@ -110,9 +110,10 @@ impl MemDisk {
 
     /// `create` where what the role holds is not known.
     pub(crate) fn create_any(&mut self, role: Role) -> Result<(), Failed>
+        ensures done { OnOk result (mem_reads self.new ≡ created role (mem_next self.old) (mem_reads self.old)) }
         ensures due { IsTrue (is_next_due (mem_counts self.old).plan) → IsErr result }
         ensures excuse { OnErr result (IsTrue (is_next_due (mem_counts self.old).plan) ⊎ Rose (mem_counts self.old).starved (mem_counts self.new).starved) }
-        ensures counted { IsCounted (is_ok result) (mem_counts self.old) (mem_counts self.new) }
+        ensures counted { IsCalled (is_ok result) self.old self.new }
         ensures cause { HasCause (mem_faults self.old) (mem_faults self.new) result }
     {
         self.gate.admit()?;
@@ -122,8 +123,10 @@ impl MemDisk {
 
     /// `rename_fresh` where what is synced is not known.
     pub(crate) fn rename_any(&mut self) -> Result<(), Failed>
+        ensures done { OnOk result (mem_reads self.new ≡ renamed (mem_reads self.old)) }
         ensures due { IsTrue (is_next_due (mem_counts self.old).plan) → IsErr result }
-        ensures counted { IsCounted (is_ok result) (mem_counts self.old) (mem_counts self.new) }
+        ensures excuse { OnErr result ((IsTrue (is_next_due (mem_counts self.old).plan) ⊎ Rose (mem_counts self.old).starved (mem_counts self.new).starved) ⊎ (file_at (mem_reads self.old) Role.Fresh ≡ None)) }
+        ensures counted { IsCalled (is_ok result) self.old self.new }
         ensures cause { HasCause (mem_faults self.old) (mem_faults self.new) result }
     {
         self.gate.admit()?;

@@ -1,10 +1,11 @@
 // An entropy that tells nothing.
-ghost use Rattle.std.specs.Prelude.{◌⊎◌, ◌<◌, [], IsTrue, false, length};
+ghost use Rattle.std.specs.Prelude.{◌≡◌, ◌⊎◌, ◌++◌, ◌<◌, [], OnOk, OnErr, IsErr, IsTrue, false, is_ok, length};
+ghost use Rattle.edge_model.specs.Causes.{HasCause};
 ghost use Rattle.edge_model.specs.Gate.{IsCounted, is_next_due};
 
 use crate::{Entropy, Failed, MemEntropy};
 
-/// Passes calls on to an entropy in memory.
+/// Passes calls on to an entropy in memory, which draws its bytes (`inner`).
 #[derive(Drop)]
 pub struct SilentEntropy {
     pub inner: MemEntropy,
@@ -25,7 +26,15 @@ impl Entropy for SilentEntropy {
 
     ghost counted = { λ done old new. IsCounted done old.inner.counts new.inner.counts };
 
-    fn fill(&mut self, buf: &mut [u8]) -> Result<(), Failed> {
+    fn fill(&mut self, buf: &mut [u8]) -> Result<(), Failed>
+        ensures inner { OnOk result (self.old.inner.left ≡ buf.new ++ self.new.inner.left) }
+        ensures inner_drawn { OnOk result (self.new.inner.given ≡ self.old.inner.given ++ buf.new) }
+        ensures inner_failed { OnErr result (self.new.inner.given ≡ self.old.inner.given) }
+        ensures due { IsTrue (is_next_due self.old.inner.counts.plan) → IsErr result }
+        ensures excuse { OnErr result (IsTrue (is_next_due self.old.inner.counts.plan) ⊎ (length self.old.inner.left < length buf.old)) }
+        ensures counted { IsCounted (is_ok result) self.old.inner.counts self.new.inner.counts }
+        ensures cause { HasCause self.old.inner.counts.faults self.new.inner.counts.faults result }
+    {
         self.inner.fill(buf)
     }
 }
