@@ -11,7 +11,7 @@ use Rattle.edge_model.specs.LogLaws.{changes_none, changes_names, changed_whole,
 use Rattle.edge_model.specs.Picks.{as_read, as_synced, bare_after, lost_after, torn_write, torn_after, picked}
 use Rattle.edge_model.specs.declared.role.ImagePick.{ImagePick}
 use Rattle.edge_model.specs.declared.role.ImagePick.TheVariants.{Lost, Kept, Torn as TornPick}
-use Rattle.edge_model.proofs.AsRead.{put_same, both_none, journal_as_read, fresh_as_read, main_as_read, moved_as_read, main_is_not_fresh}
+use Rattle.edge_model.proofs.AsRead.{put_same, both_none, role_as_read, moved_as_read, main_is_not_fresh}
 use Rattle.edge_model.proofs.Names.{journal_apart, others_apart}
 use Rattle.edge_model.specs.declared.mem_disk.contents.Contents.{Contents}
 use Rattle.edge_model.specs.declared.mem_disk.contents.Call.{Call}
@@ -25,7 +25,8 @@ choose None file = inl refl
 choose (Some now) None = inl refl
 choose (Some now) (Some file) = go (now.number == file.number) refl
   where
-    go : (b : Bool) → (now.number == file.number) ≡ b → ((if now.number == file.number then Some now else Some file) ≡ Some file) ⊎ ((Some file.number ≡ Some now.number) × ((if now.number == file.number then Some now else Some file) ≡ Some now))
+    go : (b : Bool) → (now.number == file.number) ≡ b
+        → ((if now.number == file.number then Some now else Some file) ≡ Some file) ⊎ ((Some file.number ≡ Some now.number) × ((if now.number == file.number then Some now else Some file) ≡ Some now))
     go true is = inr (ap (λ (n : ℕ). Some n) (sym (eqb-true now.number file.number is)), ap (λ (b : Bool). if b then Some now else Some file) is)
     go false is = inl (ap (λ (b : Bool). if b then Some now else Some file) is)
 
@@ -42,20 +43,21 @@ as_read_is (Some now) (Some file) same = go (now.number == file.number) refl
     go false is = let e : now.number ≡ file.number = cc in let yes_is = eq-eqb now.number file.number e in cc
 
 module _ (start : Contents) where
-  synced_image : (role : Role) (calls : List Call) (c : Files) → ImagesAfter (files_of start) calls c → ImagesAfter (files_of start) calls (as_synced role (reads_after (files_of start) calls) c)
+  synced_image : (role : Role) (calls : List Call) (c : Files) → ImagesAfter (files_of start) calls c
+      → ImagesAfter (files_of start) calls (as_synced role (reads_after (files_of start) calls) c)
   synced_image Journal calls c left =
       let now = reads_after (files_of start) calls in
       let file = as_read now.journal c.journal in
       ⊎_elim
       (λ same. subst (ImagesAfter (files_of start) calls) (sym (put_same c Journal file (sym same))) left)
-      (λ both. subst (λ (f : Option File). ImagesAfter (files_of start) calls (put_at c Journal f)) (sym both.1) (journal_as_read start calls c left both.0))
+      (λ both. subst (λ (f : Option File). ImagesAfter (files_of start) calls (put_at c Journal f)) (sym both.1) (role_as_read start Journal calls c left both.0))
       (choose now.journal c.journal)
   synced_image Fresh calls c left =
       let now = reads_after (files_of start) calls in
       let file = as_read now.fresh c.fresh in
       ⊎_elim
       (λ same. subst (ImagesAfter (files_of start) calls) (sym (put_same c Fresh file (sym same))) left)
-      (λ both. subst (λ (f : Option File). ImagesAfter (files_of start) calls (put_at c Fresh f)) (sym both.1) (fresh_as_read start calls c left both.0))
+      (λ both. subst (λ (f : Option File). ImagesAfter (files_of start) calls (put_at c Fresh f)) (sym both.1) (role_as_read start Fresh calls c left both.0))
       (choose now.fresh c.fresh)
   synced_image Main calls c left =
       let now = reads_after (files_of start) calls in
@@ -63,14 +65,15 @@ module _ (start : Contents) where
       let moved = as_read now.main c.fresh in
       let first : ImagesAfter (files_of start) calls (put_at c Main file) = ⊎_elim
       (λ same. subst (ImagesAfter (files_of start) calls) (sym (put_same c Main file (sym same))) left)
-      (λ both. subst (λ (f : Option File). ImagesAfter (files_of start) calls (put_at c Main f)) (sym both.1) (main_as_read start calls c left both.0))
+      (λ both. subst (λ (f : Option File). ImagesAfter (files_of start) calls (put_at c Main f)) (sym both.1) (role_as_read start Main calls c left both.0))
       (choose now.main c.main) in
       ⊎_elim
       (λ same. subst (ImagesAfter (files_of start) calls) (sym (put_same (put_at c Main file) Fresh moved (sym same))) first)
       (λ both. subst (λ (f : Option File). ImagesAfter (files_of start) calls (put_at (put_at c Main file) Fresh f)) (sym both.1) (moved_as_read start calls (put_at c Main file) first both.0))
       (choose now.main c.fresh)
 
-  synced_has : (role : Role) (calls : List Call) (c : Files) → ImagesAfter (files_of start) calls c → HasSynced role (reads_after (files_of start) calls) (as_synced role (reads_after (files_of start) calls) c)
+  synced_has : (role : Role) (calls : List Call) (c : Files) → ImagesAfter (files_of start) calls c
+      → HasSynced role (reads_after (files_of start) calls) (as_synced role (reads_after (files_of start) calls) c)
   synced_has Main calls c left = record {
     main = as_read_is (reads_after (files_of start) calls).main c.main;
     journal = same_file (reads_after (files_of start) calls).main c.journal (others_apart start calls c left).0;
@@ -88,21 +91,26 @@ module _ (start : Contents) where
   }
 
 synced_names : (role : Role) (names now c : Files) → SameNames names c → SameNames names (as_synced role now c)
-synced_names Main names now c same = record { main = as_read_number now.main c.main ∙ same.main; journal = same.journal; fresh = as_read_number now.main c.fresh ∙ same.fresh }
+synced_names Main names now c same =
+    record { main = as_read_number now.main c.main ∙ same.main; journal = same.journal; fresh = as_read_number now.main c.fresh ∙ same.fresh }
 synced_names Journal names now c same = record { main = same.main; journal = as_read_number now.journal c.journal ∙ same.journal; fresh = same.fresh }
 synced_names Fresh names now c same = record { main = same.main; journal = same.journal; fresh = as_read_number now.fresh c.fresh ∙ same.fresh }
 
-put_names : (role : Role) (file other : Option File) (now c : Files) → number_of other ≡ number_of file → SameNames now c → SameNames (put_at now role file) (put_at c role other)
+put_names : (role : Role) (file other : Option File) (now c : Files) → number_of other ≡ number_of file → SameNames now c
+    → SameNames (put_at now role file) (put_at c role other)
 put_names Main file other now c is same = record { main = is; journal = same.journal; fresh = same.fresh }
 put_names Journal file other now c is same = record { main = same.main; journal = is; fresh = same.fresh }
 put_names Fresh file other now c is same = record { main = same.main; journal = same.journal; fresh = is }
 
 changed_now : (change : List ℕ → List ℕ) (role : Role) (now c : Files) → SameNames now c → SameNames (put_at now role (with_bytes change (file_at now role))) c
 changed_now change role now c same =
-    let names = changes_names (λ a b. b ≡ change a) role now now (put_at now role (with_bytes change (file_at now role))) (changed_whole (λ a b. b ≡ change a) change (λ b. refl) role now) in
+    let names =
+    changes_names (λ a b. b ≡ change a) role now now (put_at now role (with_bytes change (file_at now role)))
+    (changed_whole (λ a b. b ≡ change a) change (λ b. refl) role now) in
     record { main = same.main ∙ sym names.main; journal = same.journal ∙ sym names.journal; fresh = same.fresh ∙ sym names.fresh }
 
-pub bare_image : (start : Contents) (calls : List Call) → ImagesAfter (files_of start) calls (bare_after (files_of start) calls) × SameNames (reads_after (files_of start) calls) (bare_after (files_of start) calls)
+pub bare_image : (start : Contents) (calls : List Call)
+    → ImagesAfter (files_of start) calls (bare_after (files_of start) calls) × SameNames (reads_after (files_of start) calls) (bare_after (files_of start) calls)
 bare_image start [] = (refl, same_names (files_of start))
 bare_image start (Write role at bytes ∷ earlier) =
     let before = bare_image start earlier in
@@ -129,22 +137,29 @@ pub lost_image : (start : Contents) (calls : List Call) → ImagesAfter (files_o
 lost_image start [] = refl
 lost_image start (Write role at bytes ∷ earlier) = (lost_after (files_of start) earlier, lost_image start earlier, changes_none _ role _ _)
 lost_image start (Cut role len ∷ earlier) = (lost_after (files_of start) earlier, lost_image start earlier, changes_none _ role _ _)
-lost_image start (Sync role ∷ earlier) = let before = lost_image start earlier in (synced_image start role earlier _ before, synced_has start role earlier _ before)
+lost_image start (Sync role ∷ earlier) =
+    let before = lost_image start earlier in (synced_image start role earlier _ before, synced_has start role earlier _ before)
 lost_image start (Create role ∷ earlier) = (lost_after (files_of start) earlier, lost_image start earlier, inl refl)
 lost_image start (Remove role ∷ earlier) = (lost_after (files_of start) earlier, lost_image start earlier, inl refl)
 lost_image start (Rename ∷ earlier) = (lost_after (files_of start) earlier, lost_image start earlier, inl refl)
 lost_image start (SyncFolder ∷ earlier) = let before = bare_image start earlier in (before.0, before.1)
 
-torn_filled_by : (filler at end : ℕ) (bytes old : List ℕ) → end ≡ at + length bytes → Torn at (length bytes) old (spliced at bytes (old ++ replicate (end - length old) filler))
+torn_filled_by : (filler at end : ℕ) (bytes old : List ℕ) → end ≡ at + length bytes
+    → Torn at (length bytes) old (spliced at bytes (old ++ replicate (end - length old) filler))
 torn_filled_by filler at end bytes old is =
-    let long : length (old ++ replicate (end - length old) filler) ≡ max (length old) end = omega (arith, length-append old (replicate (end - length old) filler), length-replicate {A = ℕ} (end - length old) filler) in
+    let long : length (old ++ replicate (end - length old) filler) ≡ max (length old) end =
+    omega (arith, length-append old (replicate (end - length old) filler), length-replicate {A = ℕ} (end - length old) filler) in
     let within : at + length bytes ≤ length (old ++ replicate (end - length old) filler) = omega (arith, long) in
     let size = length-spliced at bytes (old ++ replicate (end - length old) filler) within in
     record {
       no_shorter = omega (arith, size, long);
       no_longer = omega (arith, size, long);
-      below = λ i lt before. spliced_below at bytes (old ++ replicate (end - length old) filler) i within before ∙ get_or-append old (replicate (end - length old) filler) 0 i lt;
-      above = λ i lt behind. spliced_above at bytes (old ++ replicate (end - length old) filler) i within behind ∙ get_or-append old (replicate (end - length old) filler) 0 i lt;
+      below =
+          λ i lt before. spliced_below at bytes (old ++ replicate (end - length old) filler) i within before
+          ∙ get_or-append old (replicate (end - length old) filler) 0 i lt;
+      above =
+          λ i lt behind. spliced_above at bytes (old ++ replicate (end - length old) filler) i within behind
+          ∙ get_or-append old (replicate (end - length old) filler) 0 i lt;
     }
 
 torn_takes : (at : ℕ) (bytes old : List ℕ) → Torn at (length bytes) old (torn_write at bytes old)
@@ -155,30 +170,37 @@ torn_takes at (byte ∷ bytes) old =
     subst (λ (n : ℕ). Torn at n old (torn_write at (byte ∷ bytes) old)) same (torn_filled_by 255 at (at + length all) all old refl)
 
 -- a step of the file in the role, in an image with all names
-step_whole : (step : List ℕ → List ℕ → Type 0) (change : List ℕ → List ℕ) → ((b : List ℕ) → step b (change b)) → (role : Role) (now d : Files) → SameNames now d → Changes role step now d (put_at d role (with_bytes change (file_at d role)))
+step_whole : (step : List ℕ → List ℕ → Type 0) (change : List ℕ → List ℕ) → ((b : List ℕ) → step b (change b))
+    → (role : Role) (now d : Files) → SameNames now d → Changes role step now d (put_at d role (with_bytes change (file_at d role)))
 step_whole step change takes Main now d same = (may_change now.main d.main same.main, refl, inl refl)
   where
     may_change : (now file : Option File) → number_of file ≡ number_of now → MayStep step now file (with_bytes change file)
     may_change now None same = inl refl
-    may_change now (Some f) same = inr (record { number = f.number; before = f.bytes; after = change f.bytes; is_now = sym same; was = refl; is = refl; took = takes f.bytes })
+    may_change now (Some f) same =
+        inr (record { number = f.number; before = f.bytes; after = change f.bytes; is_now = sym same; was = refl; is = refl; took = takes f.bytes })
 step_whole step change takes Journal now d same = (refl, may_change now.journal d.journal same.journal, refl)
   where
     may_change : (now file : Option File) → number_of file ≡ number_of now → MayStep step now file (with_bytes change file)
     may_change now None same = inl refl
-    may_change now (Some f) same = inr (record { number = f.number; before = f.bytes; after = change f.bytes; is_now = sym same; was = refl; is = refl; took = takes f.bytes })
+    may_change now (Some f) same =
+        inr (record { number = f.number; before = f.bytes; after = change f.bytes; is_now = sym same; was = refl; is = refl; took = takes f.bytes })
 step_whole step change takes Fresh now d same = (refl, refl, may_change now.fresh d.fresh same.fresh)
   where
     may_change : (now file : Option File) → number_of file ≡ number_of now → MayStep step now file (with_bytes change file)
     may_change now None same = inl refl
-    may_change now (Some f) same = inr (record { number = f.number; before = f.bytes; after = change f.bytes; is_now = sym same; was = refl; is = refl; took = takes f.bytes })
+    may_change now (Some f) same =
+        inr (record { number = f.number; before = f.bytes; after = change f.bytes; is_now = sym same; was = refl; is = refl; took = takes f.bytes })
 
 changed_image : (change : List ℕ → List ℕ) (role : Role) (now c : Files) → SameNames now c → SameNames now (put_at c role (with_bytes change (file_at c role)))
 changed_image change role now c same =
-    let names = changes_names (λ a b. b ≡ change a) role c c (put_at c role (with_bytes change (file_at c role))) (changed_whole (λ a b. b ≡ change a) change (λ b. refl) role c) in
+    let names =
+    changes_names (λ a b. b ≡ change a) role c c (put_at c role (with_bytes change (file_at c role)))
+    (changed_whole (λ a b. b ≡ change a) change (λ b. refl) role c) in
     record { main = names.main ∙ same.main; journal = names.journal ∙ same.journal; fresh = names.fresh ∙ same.fresh }
 
 -- all that was done, with each unsynced byte turned
-pub torn_image : (start : Contents) (calls : List Call) → ImagesAfter (files_of start) calls (torn_after (files_of start) calls) × SameNames (reads_after (files_of start) calls) (torn_after (files_of start) calls)
+pub torn_image : (start : Contents) (calls : List Call)
+    → ImagesAfter (files_of start) calls (torn_after (files_of start) calls) × SameNames (reads_after (files_of start) calls) (torn_after (files_of start) calls)
 torn_image start [] = (refl, same_names (files_of start))
 torn_image start (Write role at bytes ∷ earlier) =
     let before = torn_image start earlier in (
@@ -210,5 +232,6 @@ picked_image Lost start calls = lost_image start calls
 picked_image Kept start calls = reads_now_after start calls
 picked_image TornPick start calls = (torn_image start calls).0
 
-pub shown_same : (a b : Files) → bytes_of a.main ≡ bytes_of b.main → bytes_of a.journal ≡ bytes_of b.journal → bytes_of a.fresh ≡ bytes_of b.fresh → shown_of a ≡ shown_of b
+pub shown_same : (a b : Files) → bytes_of a.main ≡ bytes_of b.main → bytes_of a.journal ≡ bytes_of b.journal
+    → bytes_of a.fresh ≡ bytes_of b.fresh → shown_of a ≡ shown_of b
 shown_same a b main journal fresh = cc

@@ -25,17 +25,20 @@ Reads start calls = reads_after (files_of start) (newest_first calls)
 abbrev Images : Contents → List Call → Files → Type 0
 Images start calls = ImagesAfter (files_of start) (newest_first calls)
 
-pub create_follows : {T E : Type 0} (r : Result T E) (start later : Contents) (old new : List Call) (role : Role) → later ≡ start → OnOk r (new ≡ old ++ Create role ∷ []) → OnErr r (new ≡ old)
+pub create_follows : {T E : Type 0} (r : Result T E) (start later : Contents) (old new : List Call) (role : Role) → later ≡ start
+    → OnOk r (new ≡ old ++ Create role ∷ []) → OnErr r (new ≡ old)
     → Follows (Renames (created role (next_number old)) (Reads start old)) (Images start old) (Images later new)
 create_follows (Ok x) start later old new role same ok err c left =
     let here : Images start new c = subst (λ (s : Contents). Images s new c) same left in
-    let gone : ImagesAfter (files_of start) (Create role ∷ newest_first old) c = subst (λ (l : List Call). ImagesAfter (files_of start) l c) (one_more old new (Create role) ok) here in
+    let gone : ImagesAfter (files_of start) (Create role ∷ newest_first old) c =
+    subst (λ (l : List Call). ImagesAfter (files_of start) l c) (one_more old new (Create role) ok) here in
     (gone.0, gone.1, subst (λ (n : ℕ). Renames (created role n) (Reads start old) gone.0 c) (next_same old) gone.2)
 create_follows (Err e) start later old new role same ok err c left =
     let here : Images start new c = subst (λ (s : Contents). Images s new c) same left in
     (c, subst (λ (l : List Call). Images start l c) err here, inl refl)
 
-pub remove_follows : {T E : Type 0} (r : Result T E) (start later : Contents) (old new : List Call) (role : Role) → later ≡ start → OnOk r (new ≡ old ++ Remove role ∷ []) → OnErr r (new ≡ old)
+pub remove_follows : {T E : Type 0} (r : Result T E) (start later : Contents) (old new : List Call) (role : Role) → later ≡ start
+    → OnOk r (new ≡ old ++ Remove role ∷ []) → OnErr r (new ≡ old)
     → Follows (Renames (removed role) (Reads start old)) (Images start old) (Images later new)
 remove_follows (Ok x) start later old new role same ok err c left =
     let here : Images start new c = subst (λ (s : Contents). Images s new c) same left in
@@ -44,7 +47,8 @@ remove_follows (Err e) start later old new role same ok err c left =
     let here : Images start new c = subst (λ (s : Contents). Images s new c) same left in
     (c, subst (λ (l : List Call). Images start l c) err here, inl refl)
 
-reads_more : (start later : Contents) (old new : List Call) (call : Call) → later ≡ start → new ≡ old ++ call ∷ [] → reads_after (files_of start) (call ∷ newest_first old) ≡ Reads later new
+reads_more : (start later : Contents) (old new : List Call) (call : Call) → later ≡ start → new ≡ old ++ call ∷ []
+    → reads_after (files_of start) (call ∷ newest_first old) ≡ Reads later new
 reads_more start later old new call same is =
     sym (ap (λ (s : Contents). Reads s new) same ∙ ap (λ (l : List Call). reads_after (files_of start) l) (one_more old new call is))
 
@@ -55,7 +59,8 @@ pub write_changes : {T E : Type 0} (r : Result T E) (start later : Contents) (ol
     → OnOk r ((b : Vec ℕ Global) × (b.items ≡ bytes) × (new ≡ old ++ Write role at b ∷ [])) → OnErr r (new ≡ old)
     → Changes role (Torn at (length bytes)) (Reads start old) (Reads start old) (Reads later new)
 write_changes (Ok x) start later old new role at bytes same ok err =
-    subst (λ (f : Files). Changes role (Torn at (length bytes)) (Reads start old) (Reads start old) f) (reads_more start later old new (Write role at ok.0) same ok.2)
+    subst (λ (f : Files). Changes role (Torn at (length bytes)) (Reads start old) (Reads start old) f)
+    (reads_more start later old new (Write role at ok.0) same ok.2)
     (changed_whole (Torn at (length bytes)) (written at ok.0.items) (λ b. subst (λ (l : List ℕ). Torn at (length bytes) b (written at l b)) (sym ok.1) (torn_written at bytes b)) role (Reads start old))
 write_changes (Err e) start later old new role at bytes same ok err =
     subst (λ (f : Files). Changes role (Torn at (length bytes)) (Reads start old) (Reads start old) f) (reads_same start later old new same err)

@@ -60,22 +60,34 @@ kinds_after start [] c left = subst (Kinds (IsJournal [])) (sym left) (record {
   main = λ n is kind. let e = file_number 0 start.main n is in omega (arith, e, kind);
   fresh = λ n is kind. let e = file_number 2 start.fresh n is in omega (arith, e, kind);
 })
-kinds_after start (Write role at bytes ∷ earlier) c left = kinds_same (IsJournal earlier) left.0 c (changes_names _ role _ left.0 c left.2) (kinds_after start earlier left.0 left.1)
-kinds_after start (Cut role len ∷ earlier) c left = kinds_same (IsJournal earlier) left.0 c (changes_names _ role _ left.0 c left.2) (kinds_after start earlier left.0 left.1)
+kinds_after start (Write role at bytes ∷ earlier) c left =
+    kinds_same (IsJournal earlier) left.0 c (changes_names _ role _ left.0 c left.2) (kinds_after start earlier left.0 left.1)
+kinds_after start (Cut role len ∷ earlier) c left =
+    kinds_same (IsJournal earlier) left.0 c (changes_names _ role _ left.0 c left.2) (kinds_after start earlier left.0 left.1)
 kinds_after start (Sync role ∷ earlier) c left = kinds_after start earlier c left.0
 kinds_after start (Create Main ∷ earlier) c left =
     let before = kinds_after start earlier left.0 left.1 in
     kinds_either (IsJournal earlier) (created Main (next_number earlier)) _ left.0 c before
-    (record { journal = before.journal; main = λ n is kind. let e = new_is is in let lt = journal_below earlier n kind in omega (arith, e, lt); fresh = before.fresh }) left.2
+    (record {
+      journal = before.journal;
+      main = λ n is kind. let e = new_is is in let lt = journal_below earlier n kind in omega (arith, e, lt);
+      fresh = before.fresh;
+    }) left.2
 kinds_after start (Create Fresh ∷ earlier) c left =
     let before = kinds_after start earlier left.0 left.1 in
     kinds_either (IsJournal earlier) (created Fresh (next_number earlier)) _ left.0 c before
-    (record { journal = before.journal; main = before.main; fresh = λ n is kind. let e = new_is is in let lt = journal_below earlier n kind in omega (arith, e, lt) }) left.2
+    (record {
+      journal = before.journal;
+      main = before.main;
+      fresh = λ n is kind. let e = new_is is in let lt = journal_below earlier n kind in omega (arith, e, lt);
+    }) left.2
 kinds_after start (Create Journal ∷ earlier) c left =
     let before = kinds_after start earlier left.0 left.1 in
     let below = numbered_after start earlier left.0 left.1 in
-    let main : (n : ℕ) → number_of left.0.main ≡ Some n → IsJournal (Create Journal ∷ earlier) n → ⊥ = λ n is kind. ⊎_elim (λ new. let lt = below.main n is in omega (arith, lt, new)) (before.main n is) kind in
-    let fresh : (n : ℕ) → number_of left.0.fresh ≡ Some n → IsJournal (Create Journal ∷ earlier) n → ⊥ = λ n is kind. ⊎_elim (λ new. let lt = below.fresh n is in omega (arith, lt, new)) (before.fresh n is) kind in
+    let main : (n : ℕ) → number_of left.0.main ≡ Some n → IsJournal (Create Journal ∷ earlier) n → ⊥ =
+    λ n is kind. ⊎_elim (λ new. let lt = below.main n is in omega (arith, lt, new)) (before.main n is) kind in
+    let fresh : (n : ℕ) → number_of left.0.fresh ≡ Some n → IsJournal (Create Journal ∷ earlier) n → ⊥ =
+    λ n is kind. ⊎_elim (λ new. let lt = below.fresh n is in omega (arith, lt, new)) (before.fresh n is) kind in
     kinds_either (IsJournal (Create Journal ∷ earlier)) (created Journal (next_number earlier)) _ left.0 c
     (record { journal = λ n is. inr (before.journal n is); main = main; fresh = fresh })
     (record { journal = λ n is. inl (sym (new_is is)); main = main; fresh = fresh }) left.2
@@ -94,13 +106,15 @@ kinds_after start (Rename ∷ earlier) c left =
 kinds_after start (SyncFolder ∷ earlier) c left = kinds_after start earlier c left.0
 
 -- what reads as a journal is under no other name in any image, and the other way round
-pub journal_apart : (start : Contents) (calls : List Call) (c : Files) → ImagesAfter (files_of start) calls c → AreApart (reads_after (files_of start) calls).journal c.main × AreApart (reads_after (files_of start) calls).journal c.fresh
+pub journal_apart : (start : Contents) (calls : List Call) (c : Files) → ImagesAfter (files_of start) calls c
+    → AreApart (reads_after (files_of start) calls).journal c.main × AreApart (reads_after (files_of start) calls).journal c.fresh
 journal_apart start calls c left =
     let mine = kinds_after start calls _ (reads_now_after start calls) in
     let its = kinds_after start calls c left in
     (λ n is too. its.main n too (mine.journal n is), λ n is too. its.fresh n too (mine.journal n is))
 
-pub others_apart : (start : Contents) (calls : List Call) (c : Files) → ImagesAfter (files_of start) calls c → AreApart (reads_after (files_of start) calls).main c.journal × AreApart (reads_after (files_of start) calls).fresh c.journal
+pub others_apart : (start : Contents) (calls : List Call) (c : Files) → ImagesAfter (files_of start) calls c
+    → AreApart (reads_after (files_of start) calls).main c.journal × AreApart (reads_after (files_of start) calls).fresh c.journal
 others_apart start calls c left =
     let mine = kinds_after start calls _ (reads_now_after start calls) in
     let its = kinds_after start calls c left in

@@ -27,9 +27,11 @@ spliced_below at bytes file i within lt =
     ∙ get_or-append (take at file) bytes 0 i (omega (arith, front))
     ∙ get_or-take at file i 0 lt
 
-pub spliced_above : (at : ℕ) (bytes file : List ℕ) (i : ℕ) → at + length bytes ≤ length file → at + length bytes ≤ i → get_or (spliced at bytes file) i 0 ≡ get_or file i 0
+pub spliced_above : (at : ℕ) (bytes file : List ℕ) (i : ℕ) → at + length bytes ≤ length file → at + length bytes ≤ i
+    → get_or (spliced at bytes file) i 0 ≡ get_or file i 0
 spliced_above at bytes file i within le =
-    let head : length (take at file ++ bytes) ≡ at + length bytes = omega (arith, length-append (take at file) bytes, length-front at (length bytes) file within) in
+    let head : length (take at file ++ bytes) ≡ at + length bytes =
+    omega (arith, length-append (take at file) bytes, length-front at (length bytes) file within) in
     get_or-append_right (take at file ++ bytes) (drop (at + length bytes) file) (at + length bytes) i 0 head le
     ∙ get_or-drop (at + length bytes) file (i - (at + length bytes)) 0
     ∙ ap (λ (k : ℕ). get_or file k 0) (let e : at + length bytes + (i - (at + length bytes)) ≡ i = omega arith in e)
@@ -55,7 +57,12 @@ pub torn_not : (at n : ℕ) (old : List ℕ) → Torn at n old old
 torn_not at n old = record { no_shorter = omega arith; no_longer = omega arith; below = λ i lt before. refl; above = λ i lt behind. refl }
 
 pub shorter_cut : (len : ℕ) (old : List ℕ) → Shorter len old (take len old)
-shorter_cut len old = record { no_shorter = omega (arith, length-take len old); no_longer = omega (arith, length-take len old); below = λ i lt low. get_or-take len old i 0 low }
+shorter_cut len old =
+    record {
+      no_shorter = omega (arith, length-take len old);
+      no_longer = omega (arith, length-take len old);
+      below = λ i lt low. get_or-take len old i 0 low;
+    }
 
 pub shorter_not : (len : ℕ) (old : List ℕ) → Shorter len old old
 shorter_not len old = record { no_shorter = omega arith; no_longer = omega arith; below = λ i lt low. refl }

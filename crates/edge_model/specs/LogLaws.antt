@@ -120,7 +120,8 @@ numbered_renamed next d numbered = record {
   journal_fresh = λ n is too. none_is too;
 }
 
-numbered_renames : (change : Files → Files) (next more : ℕ) (now d c : Files) → next ≤ more → IsNumbered next d → IsNumbered more (change d) → Renames change now d c → IsNumbered more c
+numbered_renames : (change : Files → Files) (next more : ℕ) (now d c : Files) → next ≤ more → IsNumbered next d → IsNumbered more (change d)
+    → Renames change now d c → IsNumbered more c
 numbered_renames change next more now d c le before after (inl same) = subst (IsNumbered more) (sym same) (numbered_more next more d le before)
 numbered_renames change next more now d c le before after (inr made) = subst (IsNumbered more) (sym made.1) after
 
@@ -141,13 +142,18 @@ numbered_start start = record {
 -- the number of a new file is above all others, and no file has two names
 pub numbered_after : (start : Contents) (calls : List Call) (c : Files) → ImagesAfter (files_of start) calls c → IsNumbered (next_number calls) c
 numbered_after start [] c left = subst (IsNumbered 3) (sym left) (numbered_start start)
-numbered_after start (Write role at bytes ∷ earlier) c left = numbered_more (next_number earlier) _ c (omega arith) (numbered_same _ left.0 c (changes_names _ role _ left.0 c left.2) (numbered_after start earlier left.0 left.1))
-numbered_after start (Cut role len ∷ earlier) c left = numbered_more (next_number earlier) _ c (omega arith) (numbered_same _ left.0 c (changes_names _ role _ left.0 c left.2) (numbered_after start earlier left.0 left.1))
+numbered_after start (Write role at bytes ∷ earlier) c left =
+    numbered_more (next_number earlier) _ c (omega arith)
+    (numbered_same _ left.0 c (changes_names _ role _ left.0 c left.2) (numbered_after start earlier left.0 left.1))
+numbered_after start (Cut role len ∷ earlier) c left =
+    numbered_more (next_number earlier) _ c (omega arith)
+    (numbered_same _ left.0 c (changes_names _ role _ left.0 c left.2) (numbered_after start earlier left.0 left.1))
 numbered_after start (Sync role ∷ earlier) c left = numbered_more (next_number earlier) _ c (omega arith) (numbered_after start earlier c left.0)
 numbered_after start (Create role ∷ earlier) c left =
     let before = numbered_after start earlier left.0 left.1 in
     numbered_renames (created role (next_number earlier)) (next_number earlier) (next_number (Create role ∷ earlier)) _ left.0 c (omega arith) before
-    (let n : next_number earlier + 1 ≡ next_number (Create role ∷ earlier) = omega arith in subst (λ (k : ℕ). IsNumbered k (created role (next_number earlier) left.0)) n (numbered_created role _ left.0 before)) left.2
+    (let n : next_number earlier + 1 ≡ next_number (Create role ∷ earlier) = omega arith in
+    subst (λ (k : ℕ). IsNumbered k (created role (next_number earlier) left.0)) n (numbered_created role _ left.0 before)) left.2
 numbered_after start (Remove role ∷ earlier) c left =
     let before = numbered_after start earlier left.0 left.1 in
     numbered_renames (removed role) (next_number earlier) (next_number (Remove role ∷ earlier)) _ left.0 c (omega arith) before
@@ -158,9 +164,11 @@ numbered_after start (Rename ∷ earlier) c left =
     (numbered_more (next_number earlier) _ _ (omega arith) (numbered_renamed _ left.0 before)) left.2
 numbered_after start (SyncFolder ∷ earlier) c left = numbered_more (next_number earlier) _ c (omega arith) (numbered_after start earlier c left.0)
 
-pub may_changed : (step : List ℕ → List ℕ → Type 0) (change : List ℕ → List ℕ) → ((b : List ℕ) → step b (change b)) → (now : Option File) → MayStep step now now (with_bytes change now)
+pub may_changed : (step : List ℕ → List ℕ → Type 0) (change : List ℕ → List ℕ) → ((b : List ℕ) → step b (change b)) → (now : Option File)
+    → MayStep step now now (with_bytes change now)
 may_changed step change takes None = inl refl
-may_changed step change takes (Some file) = inr (record { number = file.number; before = file.bytes; after = change file.bytes; is_now = refl; was = refl; is = refl; took = takes file.bytes })
+may_changed step change takes (Some file) =
+    inr (record { number = file.number; before = file.bytes; after = change file.bytes; is_now = refl; was = refl; is = refl; took = takes file.bytes })
 
 -- a step that is taken whole
 pub changed_whole : (step : List ℕ → List ℕ → Type 0) (change : List ℕ → List ℕ) → ((b : List ℕ) → step b (change b)) → (role : Role) (now : Files)
@@ -188,12 +196,29 @@ apart_back : (file other : Option File) → AreApart file other → AreApart oth
 apart_back file other apart n is too = apart n too is
 
 pub synced_now : (role : Role) (next : ℕ) (now : Files) → IsNumbered next now → HasSynced role now now
-synced_now Main next now numbered = record { main = λ same. refl; journal = same_file now.main now.journal numbered.main_journal; fresh = same_file now.main now.fresh numbered.main_fresh }
-synced_now Journal next now numbered = record { main = same_file now.journal now.main (apart_back now.main now.journal numbered.main_journal); journal = λ same. refl; fresh = same_file now.journal now.fresh numbered.journal_fresh }
-synced_now Fresh next now numbered = record { main = same_file now.fresh now.main (apart_back now.main now.fresh numbered.main_fresh); journal = same_file now.fresh now.journal (apart_back now.journal now.fresh numbered.journal_fresh); fresh = λ same. refl }
+synced_now Main next now numbered =
+    record {
+      main = λ same. refl;
+      journal = same_file now.main now.journal numbered.main_journal;
+      fresh = same_file now.main now.fresh numbered.main_fresh;
+    }
+synced_now Journal next now numbered =
+    record {
+      main = same_file now.journal now.main (apart_back now.main now.journal numbered.main_journal);
+      journal = λ same. refl;
+      fresh = same_file now.journal now.fresh numbered.journal_fresh;
+    }
+synced_now Fresh next now numbered =
+    record {
+      main = same_file now.fresh now.main (apart_back now.main now.fresh numbered.main_fresh);
+      journal = same_file now.fresh now.journal (apart_back now.journal now.fresh numbered.journal_fresh);
+      fresh = λ same. refl;
+    }
 
-reads_step : (call : Call) (number next : ℕ) (now : Files) (images : Files → Type 0) → images now → IsNumbered next now → LeftBy call number now images (after call number now)
-reads_step (Write role at bytes) number next now images is numbered = (now, is, changed_whole (Torn at (length bytes.items)) (written at bytes.items) (torn_written at bytes.items) role now)
+reads_step : (call : Call) (number next : ℕ) (now : Files) (images : Files → Type 0) → images now → IsNumbered next now
+    → LeftBy call number now images (after call number now)
+reads_step (Write role at bytes) number next now images is numbered =
+    (now, is, changed_whole (Torn at (length bytes.items)) (written at bytes.items) (torn_written at bytes.items) role now)
 reads_step (Cut role len) number next now images is numbered = (now, is, changed_whole (Shorter len) (take len) (shorter_cut len) role now)
 reads_step (Sync role) number next now images is numbered = (is, synced_now role next now numbered)
 reads_step (Create role) number next now images is numbered = (now, is, inr (same_names now, refl))
@@ -206,17 +231,24 @@ pub reads_now_after : (start : Contents) (calls : List Call) → ImagesAfter (fi
 reads_now_after start [] = refl
 reads_now_after start (call ∷ earlier) =
     let before = reads_now_after start earlier in
-    reads_step call (next_number earlier) (next_number earlier) (reads_after (files_of start) earlier) (ImagesAfter (files_of start) earlier) before (numbered_after start earlier _ before)
+    reads_step call (next_number earlier) (next_number earlier) (reads_after (files_of start) earlier)
+    (ImagesAfter (files_of start) earlier) before (numbered_after start earlier _ before)
 
 -- the same over the calls in the order in which they were made
-pub reads_now_reversed : (start : Contents) (calls : List Call) → ImagesAfter (files_of start) (newest_first calls) (reads_after (files_of start) (newest_first calls))
+pub reads_now_reversed : (start : Contents) (calls : List Call)
+    → ImagesAfter (files_of start) (newest_first calls) (reads_after (files_of start) (newest_first calls))
 reads_now_reversed start calls = reads_now_after start (newest_first calls)
 
-pub counts_now_reversed : (start : Contents) (calls : List Call) (t : ℕ) (c : Files) → t ≤ length calls → ImagesAfter (files_of start) (newest_first calls) c → SinceAfter (files_of start) (newest_first calls) t c
+pub counts_now_reversed : (start : Contents) (calls : List Call) (t : ℕ) (c : Files) → t ≤ length calls
+    → ImagesAfter (files_of start) (newest_first calls) c → SinceAfter (files_of start) (newest_first calls) t c
 counts_now_reversed start calls t c le now = counts_now_after (files_of start) (newest_first calls) t c (omega (arith, length-reverse calls)) now
 
-pub only_now_reversed : (start : Contents) (calls : List Call) (c : Files) → SinceAfter (files_of start) (newest_first calls) (length calls) c → ImagesAfter (files_of start) (newest_first calls) c
+pub only_now_reversed : (start : Contents) (calls : List Call) (c : Files)
+    → SinceAfter (files_of start) (newest_first calls) (length calls) c → ImagesAfter (files_of start) (newest_first calls) c
 only_now_reversed start calls c left = only_now_after (files_of start) (newest_first calls) (length calls) c (omega (arith, length-reverse calls)) left
 
-pub numbered_reversed : (start : Contents) (calls : List Call) (c : Files) → ImagesAfter (files_of start) (newest_first calls) c → IsNumbered (next_number calls) c
-numbered_reversed start calls c left = numbered_more (next_number (newest_first calls)) (next_number calls) c (omega (arith, length-reverse calls)) (numbered_after start (newest_first calls) c left)
+pub numbered_reversed : (start : Contents) (calls : List Call) (c : Files) → ImagesAfter (files_of start) (newest_first calls) c
+    → IsNumbered (next_number calls) c
+numbered_reversed start calls c left =
+    numbered_more (next_number (newest_first calls)) (next_number calls) c (omega (arith, length-reverse calls))
+    (numbered_after start (newest_first calls) c left)

@@ -15,10 +15,12 @@ salt_in_page size file long whole =
     ∙ ap (λ (l : List ℕ). take 16 l) (take-append-drop size file)
 
 -- the keys that page 1 gives are the file's
-pub keys_from_page : (profile : Profile) (secret : Secret) (file : List ℕ) → 16 ≤ profile.page_size → profile.page_size ≤ length file → keys_of profile secret (stored_page profile.page_size 1 file) ≡ keys_of profile secret file
+pub keys_from_page : (profile : Profile) (secret : Secret) (file : List ℕ) → 16 ≤ profile.page_size → profile.page_size ≤ length file
+    → keys_of profile secret (stored_page profile.page_size 1 file) ≡ keys_of profile secret file
 keys_from_page profile secret file long whole =
     ap (λ (salt : List ℕ). record { profile = profile; keys = page_keys profile secret salt; salt = salt }) (salt_in_page profile.page_size file long whole)
 
 -- a buffer of a page's length that was read whole has page 1
-pub page_is : (size : ℕ) (page main : List ℕ) → length page ≡ size → size ≤ length main → (1 * length page ≤ length main → page ≡ stored_page (length page) 1 main) → page ≡ stored_page size 1 main
+pub page_is : (size : ℕ) (page main : List ℕ) → length page ≡ size → size ≤ length main
+    → (1 * length page ≤ length main → page ≡ stored_page (length page) 1 main) → page ≡ stored_page size 1 main
 page_is size page main long whole read = read (omega (arith, long, whole)) ∙ ap (λ (k : ℕ). stored_page k 1 main) long

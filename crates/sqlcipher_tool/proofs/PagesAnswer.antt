@@ -21,9 +21,11 @@ pub none_printed : (pages before after : List ℕ) → None ≡ slice_get pages 
 none_printed pages before after none put = put ∙ ap (λ (l : List ℕ). before ++ tag_lines l) (none_empty pages none) ∙ append-nil before
 
 -- this page is the first that is not accepted
-pub some_refused : (count : ℕ) (pages : List ℕ) (page : ℕ) → Some page ≡ slice_get pages 0 → pages_answer count pages ≡ record { status = Refused (PageTag page); text = tag_lines pages }
+pub some_refused : (count : ℕ) (pages : List ℕ) (page : ℕ) → Some page ≡ slice_get pages 0
+    → pages_answer count pages ≡ record { status = Refused (PageTag page); text = tag_lines pages }
 some_refused count [] page first = cc
-some_refused count (other ∷ rest) page first = let same : page ≡ other = cc in ap (λ (n : ℕ). record { status = Refused (PageTag n); text = tag_lines (other ∷ rest) }) (sym same)
+some_refused count (other ∷ rest) page first =
+    let same : page ≡ other = cc in ap (λ (n : ℕ). record { status = Refused (PageTag n); text = tag_lines (other ∷ rest) }) (sym same)
 
 -- a part of nothing is nothing
 empty_part : (put rest : List ℕ) → [] ≡ put ++ rest → put ≡ []
@@ -32,10 +34,15 @@ empty_part (byte ∷ put) rest whole = cc
 
 -- a part of the lines for pages is a part of the answer
 pub part_of_answer : (count : ℕ) (pages before after : List ℕ) → PutsPart (tag_lines pages) before after → PutsPart (pages_answer count pages).text before after
-part_of_answer count [] before after part = record { put = []; rest = tags_report count; whole = refl; appended = part.appended ∙ ap (λ (l : List ℕ). before ++ l) (empty_part part.put part.rest part.whole) }
+part_of_answer count [] before after part =
+    record { put = []; rest = tags_report count; whole = refl;
+        appended = part.appended ∙ ap (λ (l : List ℕ). before ++ l) (empty_part part.put part.rest part.whole) }
 part_of_answer count (page ∷ rest) before after part = part
 
 -- and so it is of what may be printed before a file fails
-pub part_of_begun : (count : ℕ) (pages before after : List ℕ) → PutsPart (tag_lines pages) before after → PutsPart (begun (pages_answer count pages)) before after
-part_of_begun count [] before after part = record { put = []; rest = tags_report count; whole = refl; appended = part.appended ∙ ap (λ (l : List ℕ). before ++ l) (empty_part part.put part.rest part.whole) }
+pub part_of_begun : (count : ℕ) (pages before after : List ℕ) → PutsPart (tag_lines pages) before after
+    → PutsPart (begun (pages_answer count pages)) before after
+part_of_begun count [] before after part =
+    record { put = []; rest = tags_report count; whole = refl;
+        appended = part.appended ∙ ap (λ (l : List ℕ). before ++ l) (empty_part part.put part.rest part.whole) }
 part_of_begun count (page ∷ rest) before after part = part

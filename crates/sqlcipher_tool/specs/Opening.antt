@@ -38,7 +38,8 @@ length_causes profile files =
 -- more whole pages than are served
 abbrev pub size_causes : Profile → Files → List Cause
 size_causes profile files =
-    record { holds = nat_lt max_database (whole_pages profile (main_of files) * profile.page_size); answer = refused (TooLarge (whole_pages profile (main_of files))) }
+    record { holds = nat_lt max_database (whole_pages profile (main_of files) * profile.page_size);
+        answer = refused (TooLarge (whole_pages profile (main_of files))) }
     ∷ []
 
 -- a key that does not fit

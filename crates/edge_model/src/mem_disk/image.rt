@@ -315,11 +315,7 @@ pub fn after_call(
             Ok(())
         }
         Call::Create(role) => {
-            let file = Numbered {
-                number,
-                bytes: Vec::new(alloc),
-            };
-            set_image(now, *role, Some(file));
+            set_image(now, *role, new_file(alloc, number));
             Ok(())
         }
         Call::Remove(role) => {

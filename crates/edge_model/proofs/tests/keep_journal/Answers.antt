@@ -15,14 +15,22 @@ created_main (inr made) = ap (λ (f : Files). f.main) made.1
 pub returns-in_err-sync-clause-any_moment : goal.returns-in_err-sync-clause-any_moment
 returns-in_err-sync-clause-any_moment g c told =
     let start = started_from g.met.D.Disk.only_now c.args.disk.now SameMain (λ d. refl) in
-    let made = goes_from g.met.D.Disk.counts_now (λ a b d ab bd. bd ∙ ab) (λ d f here step. created_main step) start (c.create.ensures.time told) (c.create.ensures.crash told) in
-    let wrote = goes_from g.met.D.Disk.counts_now (λ a b d ab bd. bd ∙ ab) (λ d f here step. step.0) made (c.write_at.ensures.time told) (c.write_at.ensures.crash told) in
+    let made =
+    goes_from g.met.D.Disk.counts_now (λ a b d ab bd. bd ∙ ab) (λ d f here step. created_main step) start (c.create.ensures.time told)
+    (c.create.ensures.crash told) in
+    let wrote =
+    goes_from g.met.D.Disk.counts_now (λ a b d ab bd. bd ∙ ab) (λ d f here step. step.0) made (c.write_at.ensures.time told)
+    (c.write_at.ensures.crash told) in
     goes_less g.met.D.Disk.counts_now wrote (c.sync.ensures.time told) (c.sync.ensures.crash told)
 
 pub returns-clause-any_moment : goal.returns-clause-any_moment
 returns-clause-any_moment g c told =
     let start = started_from g.met.D.Disk.only_now c.args.disk.now SameMain (λ d. refl) in
-    let made = goes_from g.met.D.Disk.counts_now (λ a b d ab bd. bd ∙ ab) (λ d f here step. created_main step) start (c.create.ensures.time told) (c.create.ensures.crash told) in
-    let wrote = goes_from g.met.D.Disk.counts_now (λ a b d ab bd. bd ∙ ab) (λ d f here step. step.0) made (c.write_at.ensures.time told) (c.write_at.ensures.crash told) in
+    let made =
+    goes_from g.met.D.Disk.counts_now (λ a b d ab bd. bd ∙ ab) (λ d f here step. created_main step) start (c.create.ensures.time told)
+    (c.create.ensures.crash told) in
+    let wrote =
+    goes_from g.met.D.Disk.counts_now (λ a b d ab bd. bd ∙ ab) (λ d f here step. step.0) made (c.write_at.ensures.time told)
+    (c.write_at.ensures.crash told) in
     let synced = goes_less g.met.D.Disk.counts_now wrote (c.sync.ensures.time told) (c.sync.ensures.crash told) in
     goes_less g.met.D.Disk.counts_now synced (c.sync_folder.ensures.time told) (c.sync_folder.ensures.crash told)

@@ -10,7 +10,8 @@ use Rattle.sqlcipher_tool.proofs.tags.check_pages.Given as goal
 abbrev pub invariant-loop-done : goal.invariant-loop-done
 invariant-loop-done g l = record {
   first : IsTrue g.D.Disk.tells → l.first ≡ slice_get (refused_pages l.codec (main_of (g.D.Disk.reads l.initial.disk)) l.done) 0;
-  text : IsTrue g.S.Sink.tells → IsTrue g.D.Disk.tells → g.S.Sink.taken l.out ≡ g.S.Sink.taken l.initial.out ++ tag_lines (refused_pages l.codec (main_of (g.D.Disk.reads l.initial.disk)) l.done);
+  text : IsTrue g.S.Sink.tells → IsTrue g.D.Disk.tells
+      → g.S.Sink.taken l.out ≡ g.S.Sink.taken l.initial.out ++ tag_lines (refused_pages l.codec (main_of (g.D.Disk.reads l.initial.disk)) l.done);
   only_read : IsTrue g.D.Disk.tells → OnlyRead g.D.Disk.reads g.D.Disk.images g.D.Disk.moment g.D.Disk.since l.initial.disk l.disk;
   disk_later : g.D.Disk.faults l.initial.disk ≤ g.D.Disk.faults l.disk;
   output_later : g.S.Sink.faults l.initial.out ≤ g.S.Sink.faults l.out;

@@ -5,7 +5,8 @@ use Rattle.edge_model.specs.Memory.{Supplied}
 use Rattle.edge_model.proofs.supply.Supply.hand_out.Goals as goal
 
 -- the front of the rest of a slice
-moved : (bytes slice front : List ℕ) (at count : ℕ) → slice ≡ bytes → front ≡ take count (take (length slice - at) (drop at slice)) → front ≡ take count (drop at bytes)
+moved : (bytes slice front : List ℕ) (at count : ℕ) → slice ≡ bytes → front ≡ take count (take (length slice - at) (drop at slice))
+    → front ≡ take count (drop at bytes)
 moved bytes slice front at count same is = is ∙ ap (λ (l : List ℕ). take count l) (take_rest slice at) ∙ ap (λ (l : List ℕ). take count (drop at l)) same
 
 -- what was left is what is moved and what is left then
@@ -24,7 +25,8 @@ returns-clause-left c =
     let at = c.self.inside.at in
     let count = c.copy_front-count.result in
     let front = take count c.copy_front-count.new.buf in
-    sym (ap (λ (s : Supplied). s.left) c.self.view_is) ∙ left_of bytes front at count (moved bytes c.deref.result.now front at count c.deref.ensures.value c.copy_front-count.ensures.front)
+    sym (ap (λ (s : Supplied). s.left) c.self.view_is)
+    ∙ left_of bytes front at count (moved bytes c.deref.result.now front at count c.deref.ensures.value c.copy_front-count.ensures.front)
 
 pub returns-clause-given : goal.returns-clause-given
 returns-clause-given c =
@@ -32,4 +34,5 @@ returns-clause-given c =
     let at = c.self.inside.at in
     let count = c.copy_front-count.result in
     let front = take count c.copy_front-count.new.buf in
-    given_of bytes front at count (moved bytes c.deref.result.now front at count c.deref.ensures.value c.copy_front-count.ensures.front) ∙ ap (λ (s : Supplied). s.given ++ front) c.self.view_is
+    given_of bytes front at count (moved bytes c.deref.result.now front at count c.deref.ensures.value c.copy_front-count.ensures.front)
+    ∙ ap (λ (s : Supplied). s.given ++ front) c.self.view_is
