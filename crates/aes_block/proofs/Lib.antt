@@ -1,6 +1,7 @@
 mod Vectors
 mod TableFacts
 mod WordFacts
+pub mod ByteFacts
 mod FieldFacts
 mod MixFacts
 mod StepFacts

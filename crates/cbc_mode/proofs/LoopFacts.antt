@@ -5,7 +5,7 @@ use Rattle.std.proofs.lemmas.List.{take_all}
 use Rattle.aes_block.specs.Aes.{xor_bytes, aes256, inv_aes256}
 use Rattle.cbc_mode.specs.Cbc.{block_at, block_before, cbc_decrypted, cbc_encrypted, cipher_block, plain_block}
 use Rattle.cbc_mode.proofs.BlockFacts.{block_left, head_more, joined, tail_more}
-use Rattle.cbc_mode.proofs.XorFacts.{length-xor}
+use Rattle.aes_block.proofs.ByteFacts.{length-xor}
 use Rattle.cbc_mode.proofs.ChainFacts.{Decrypts, Encrypts}
 
 pub record EncryptedUpTo (key iv old text last : List ℕ) (i : ℕ) : Type 0 where

@@ -63,9 +63,9 @@ impl Block {
         put_half(text, 16 * i + 8, self.high);
     }
 
-    /// The sum of two blocks.
+    /// The exclusive or of two blocks.
     #[inline(always)]
-    pub fn plus(self, other: Block) -> Block
+    pub fn xor(self, other: Block) -> Block
         ensures { bytes_of result ≡ xor_bytes (bytes_of self) (bytes_of other) }
     {
         Block {

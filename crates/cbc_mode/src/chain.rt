@@ -13,7 +13,7 @@ pub fn cbc_encrypt(aes: &Aes256, iv: &[u8; 16], text: &mut [u8])
 {
     let mut last = Block::at(iv, 0);
     'encryption: for i in 0..text.len() / 16 {
-        let mut block = Block::at(text, i).plus(last).to_bytes();
+        let mut block = Block::at(text, i).xor(last).to_bytes();
         aes.encrypt(&mut block);
         last = Block::at(&block, 0);
         last.put(text, i);
@@ -31,7 +31,7 @@ pub fn cbc_decrypt(aes: &Aes256, iv: &[u8; 16], text: &mut [u8])
         let stored = Block::at(text, i);
         let mut block = stored.to_bytes();
         aes.decrypt(&mut block);
-        Block::at(&block, 0).plus(before).put(text, i);
+        Block::at(&block, 0).xor(before).put(text, i);
         before = stored;
     }
 }

@@ -19,7 +19,7 @@ decryption-preserved c =
     rw c.put.ensures
     (decrypted_more key c.args.iv.now c.args.text.now c.decryption.text (bytes_of c.decryption.before) stored given _ c.decryption.i c.decryption.invariant (omega arith) refl refl
     c.at-stored.ensures (same ∙ c.decrypt.ensures.value ∙ ap (inv_aes256 key) c.to_bytes-block.ensures)
-    (ap (aes256 key) same ∙ c.decrypt.ensures.encrypts_to ∙ c.to_bytes-block.ensures) c.plus.ensures)
+    (ap (aes256 key) same ∙ c.decrypt.ensures.encrypts_to ∙ c.to_bytes-block.ensures) c.xor.ensures)
 
 pub returns-clause-value : goal.returns-clause-value
 returns-clause-value c =
