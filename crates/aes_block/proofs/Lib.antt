@@ -2,8 +2,8 @@ mod Vectors
 mod TableFacts
 mod WordFacts
 pub mod ByteFacts
-mod FieldFacts
-mod MixFacts
+pub mod FieldFacts
+pub mod MixFacts
 mod StepFacts
 mod RoundTrip
 pub mod KeyFacts

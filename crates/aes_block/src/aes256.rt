@@ -1,10 +1,10 @@
 // The cipher under one key.
-ghost use Rattle.std.specs.Prelude.{◌≡◌};
-ghost use Rattle.aes_block.specs.Aes.{aes256, inv_aes256};
+ghost use Rattle.std.specs.Prelude.{◌≡◌, ◌<◌};
+ghost use Rattle.aes_block.specs.Aes.{IsKey, aes256, inv_aes256, key_expansion, round_key};
 
 use crate::columns::{load, store};
 use crate::rounds::{decrypt_columns, encrypt_columns};
-use crate::schedule::{expand, invert};
+use crate::schedule::{expand, invert, round_key};
 use std::marker::Model;
 
 /// A key of AES-256, expanded for both directions. Contracts see it as the key's 32 bytes.
@@ -40,6 +40,23 @@ impl Aes256 {
             schedule,
             inverse_schedule,
         }
+    }
+
+    /// Round key `r` (FIPS 197, section 5.1.4).
+    pub fn round_key(&self, r: usize) -> [u8; 16]
+        requires { r < 15 }
+        ensures { result ≡ round_key (key_expansion self.now 52) r }
+    {
+        store(round_key(&self.schedule, r))
+    }
+
+    /// What contracts see is a key: 32 bytes.
+    #[inline(always)]
+    pub fn key_law(&self)
+        ensures { IsKey self.now }
+    {
+        // A use of a field, by which the proof learns the invariant.
+        let _schedule = &self.schedule;
     }
 
     /// Encrypts a block in place: Cipher (FIPS 197, section 5.1).

@@ -1,24 +1,21 @@
 -- What the loops of both directions keep: the blocks before block i are done, the others are as they were.
-use Rattle.std.proofs.Common.{◌≡◌, ℕ, suc, ◌+◌, ◌*◌, ◌/◌, ◌%◌, ◌<◌, ◌≤◌, inl, inr, List, ◌++◌, length, take, drop, ap, sym, ◌∙◌, refl, subst, arith}
-use Rattle.std.proofs.lemmas.Bool.{cases_lt}
+use Rattle.std.proofs.Common.{◌≡◌, ℕ, suc, ◌+◌, ◌*◌, ◌/◌, ◌%◌, ◌≤◌, List, ◌++◌, length, take, drop, ap, sym, ◌∙◌, refl, arith}
 use Rattle.std.proofs.lemmas.List.{take_all}
 use Rattle.aes_block.specs.Aes.{xor_bytes, aes256, inv_aes256}
-use Rattle.cbc_mode.specs.Cbc.{block_at, block_before, cbc_decrypted, cbc_encrypted, cipher_block, plain_block}
-use Rattle.cbc_mode.proofs.BlockFacts.{block_left, head_more, joined, tail_more}
+use Rattle.aes_block.specs.Blocks.{block_at}
+use Rattle.cbc_mode.specs.Cbc.{block_before, cbc_decrypted, cbc_encrypted, cipher_block, plain_block}
 use Rattle.aes_block.proofs.ByteFacts.{length-xor}
-use Rattle.cbc_mode.proofs.ChainFacts.{Decrypts, Encrypts}
+use Rattle.cbc_mode.proofs.BlockFacts.{block_left, head_more, joined, tail_more}
 
 pub record EncryptedUpTo (key iv old text last : List ℕ) (i : ℕ) : Type 0 where
   pub head : take (16 * i) text ≡ joined (λ j. cipher_block key iv old (suc j)) i
   pub tail : drop (16 * i) text ≡ drop (16 * i) old
   pub chained : last ≡ cipher_block key iv old i
-  pub decrypts : (j : ℕ) → j < i → Decrypts key iv old j
 
 pub record DecryptedUpTo (key iv old text last : List ℕ) (i : ℕ) : Type 0 where
   pub head : take (16 * i) text ≡ joined (plain_block key iv old) i
   pub tail : drop (16 * i) text ≡ drop (16 * i) old
   pub chained : last ≡ block_before iv old i
-  pub encrypts : (j : ℕ) → j < i → Encrypts key old j
 
 -- a block alone is its first block
 pub alone : (block : List ℕ) → length block ≡ 16 → block_at block 0 ≡ block
@@ -30,7 +27,6 @@ encrypted_none key iv text last len is = record {
   head = refl;
   tail = refl;
   chained = is ∙ alone iv len;
-  decrypts = λ j lt. absurd (omega arith);
 }
 
 pub decrypted_none : (key iv text last : List ℕ) → length iv ≡ 16 → last ≡ block_at iv 0 → DecryptedUpTo key iv text text last 0
@@ -38,23 +34,13 @@ decrypted_none key iv text last len is = record {
   head = refl;
   tail = refl;
   chained = is ∙ alone iv len;
-  encrypts = λ j lt. absurd (omega arith);
 }
 
-one_more : (P : ℕ → Type 0) (i : ℕ) → ((j : ℕ) → j < i → P j) → P i → (j : ℕ) → j < i + 1 → P j
-one_more P i h here j lt =
-    elim (cases_lt j i) [
-      | inl a ↦ h j a
-      | inr b ↦
-          let e : i ≡ j = omega arith in
-          subst P e here
-    ]
-
 pub encrypted_more : (key iv old text last plain sum block : List ℕ) (i : ℕ) → EncryptedUpTo key iv old text last i → 16 * i + 16 ≤ length text
-    → length block ≡ 16 → plain ≡ block_at text i → sum ≡ xor_bytes plain last → block ≡ aes256 key sum → inv_aes256 key block ≡ sum
+    → length block ≡ 16 → plain ≡ block_at text i → sum ≡ xor_bytes plain last → block ≡ aes256 key sum
     → EncryptedUpTo key iv old (take (16 * i) text ++ block ++ drop (16 * i + 16) text) block (i + 1)
 unfolding cipher_block
-encrypted_more key iv old text last plain sum block i h le len is sum_of done back =
+encrypted_more key iv old text last plain sum block i h le len is sum_of done =
     let sum_is : sum ≡ xor_bytes (block_at old i) (cipher_block key iv old i) =
     sum_of ∙ (λ k. xor_bytes ((is ∙ block_left old text i h.tail) k) (h.chained k)) in
     let block_is : block ≡ cipher_block key iv old (suc i) = done ∙ ap (aes256 key) sum_is in
@@ -63,18 +49,13 @@ encrypted_more key iv old text last plain sum block i h le len is sum_of done ba
       head = head_more text block i (λ j. cipher_block key iv old (suc j)) le len block_is h.head;
       tail = tail_more old text block i le len h.tail;
       chained = block_is ∙ ap (cipher_block key iv old) e;
-      decrypts = one_more (Decrypts key iv old) i h.decrypts
-          (record {
-            size = ap length (sym block_is) ∙ len;
-            back = ap (inv_aes256 key) (sym block_is) ∙ back ∙ sum_is;
-          });
     }
 
 pub decrypted_more : (key iv old text last stored block plain : List ℕ) (i : ℕ) → DecryptedUpTo key iv old text last i → 16 * i + 16 ≤ length text
-    → length block ≡ 16 → length last ≡ 16 → stored ≡ block_at text i → block ≡ inv_aes256 key stored → aes256 key block ≡ stored → plain ≡ xor_bytes block last
+    → length block ≡ 16 → length last ≡ 16 → stored ≡ block_at text i → block ≡ inv_aes256 key stored → plain ≡ xor_bytes block last
     → DecryptedUpTo key iv old (take (16 * i) text ++ plain ++ drop (16 * i + 16) text) stored (i + 1)
 unfolding plain_block
-decrypted_more key iv old text last stored block plain i h le len before is done back sum_is =
+decrypted_more key iv old text last stored block plain i h le len before is done sum_is =
     let stored_is : stored ≡ block_at old i = is ∙ block_left old text i h.tail in
     let block_is : block ≡ inv_aes256 key (block_at old i) = done ∙ ap (inv_aes256 key) stored_is in
     let plain_is : plain ≡ plain_block key iv old i = sum_is ∙ (λ k. xor_bytes (block_is k) (h.chained k)) in
@@ -84,11 +65,6 @@ decrypted_more key iv old text last stored block plain i h le len before is done
       head = head_more text plain i (plain_block key iv old) le size plain_is h.head;
       tail = tail_more old text plain i le size h.tail;
       chained = stored_is ∙ ap (block_before iv old) e;
-      encrypts = one_more (Encrypts key old) i h.encrypts
-          (record {
-            size = ap length (sym block_is) ∙ len;
-            back = ap (aes256 key) (sym block_is) ∙ back ∙ stored_is;
-          });
     }
 
 pub encrypted_all : (key iv old text last : List ℕ) (i : ℕ) → length text ≡ length old → length old % 16 ≡ 0 → i ≡ length old / 16

@@ -2,7 +2,7 @@
 ghost use Rattle.std.specs.Prelude.{◌≡◌, ◌+◌, ◌*◌, ◌≤◌, ◌++◌, length, take, drop};
 ghost use Rattle.std.specs.Int.{w64, to_le_bytes};
 ghost use Rattle.aes_block.specs.Aes.{xor_bytes};
-ghost use Rattle.cbc_mode.specs.Cbc.{block_at};
+ghost use Rattle.aes_block.specs.Blocks.{block_at};
 ghost use Rattle.cbc_mode.specs.Halves.{bytes_of};
 
 /// A block as two numbers, so that it stays in registers: its first eight bytes and its last, the first

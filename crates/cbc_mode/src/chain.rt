@@ -1,8 +1,9 @@
-// The two directions, block after block.
+// The two directions.
 ghost use Rattle.std.specs.Prelude.{◌≡◌, ◌%◌, length};
 ghost use Rattle.cbc_mode.specs.Cbc.{cbc_decrypted, cbc_encrypted};
 
 use crate::block::Block;
+use crate::piece::{PIECE, decrypt_piece};
 use aes_block::Aes256;
 
 /// Encrypts a text of whole blocks in place.
@@ -11,6 +12,7 @@ pub fn cbc_encrypt(aes: &Aes256, iv: &[u8; 16], text: &mut [u8])
     ensures value { text.new ≡ cbc_encrypted aes.now iv.now text.old }
     ensures decrypts_to { cbc_decrypted aes.now iv.now text.new ≡ text.old }
 {
+    aes.key_law();
     let mut last = Block::at(iv, 0);
     'encryption: for i in 0..text.len() / 16 {
         let mut block = Block::at(text, i).xor(last).to_bytes();
@@ -26,13 +28,14 @@ pub fn cbc_decrypt(aes: &Aes256, iv: &[u8; 16], text: &mut [u8])
     ensures value { text.new ≡ cbc_decrypted aes.now iv.now text.old }
     ensures encrypts_to { cbc_encrypted aes.now iv.now text.new ≡ text.old }
 {
-    let mut before = Block::at(iv, 0);
-    'decryption: for i in 0..text.len() / 16 {
-        let stored = Block::at(text, i);
-        let mut block = stored.to_bytes();
-        aes.decrypt(&mut block);
-        Block::at(&block, 0).xor(before).put(text, i);
-        before = stored;
+    aes.key_law();
+    let mut before = *iv;
+    'pieces: for p in 0..(text.len() / 16 + 63) / 64 {
+        let start = PIECE * p;
+        let end = (start + PIECE).min(text.len());
+        let last = Block::at(text, end / 16 - 1).to_bytes();
+        decrypt_piece(aes, &before, &mut text[start..end]);
+        before = last;
     }
 }
 
@@ -87,5 +90,26 @@ mod tests {
         assert_eq!(rt; text, ENCRYPTED);
         cbc_decrypt(&aes, &IV, &mut text);
         assert_eq!(rt; text, PLAIN);
+    }
+
+    // The same example sixteen times over, 64 blocks: the first block of each is chained to the last block of
+    // the one before, where the example has the IV.
+    #[test]
+    fn decrypts_64_blocks_of_the_example(rt: HostRuntime) {
+        let aes = Aes256::new(&KEY);
+        let mut text = [0u8; 1024];
+        for i in 0..1024usize {
+            text[i] = ENCRYPTED[i % 64];
+        }
+        cbc_decrypt(&aes, &IV, &mut text);
+        for i in 0..1024usize {
+            let at = i % 64;
+            let chained = if 64 <= i && at < 16 {
+                IV[at] ^ ENCRYPTED[48 + at]
+            } else {
+                0
+            };
+            assert_eq!(rt; text[i], PLAIN[at] ^ chained);
+        }
     }
 }

@@ -1,33 +1,40 @@
-use Rattle.std.proofs.Common.{◌≡◌, ℕ, List, arith, ap, ◌∙◌, refl}
-use Rattle.aes_block.specs.Aes.{aes256, inv_aes256}
-use Rattle.cbc_mode.specs.Cbc.{cbc_encrypted}
-use Rattle.cbc_mode.specs.Halves.{bytes_of}
-use Rattle.cbc_mode.proofs.ChainFacts.{cbc_encrypted-decrypted}
-use Rattle.cbc_mode.proofs.LoopFacts.{alone, decrypted_all, decrypted_more, decrypted_none}
+use Rattle.std.proofs.Common.{◌≡◌, ℕ, ◌+◌, ◌-◌, ◌*◌, ◌/◌, List, length, ap, ◌∙◌, arith, rules}
+use Rattle.std.specs.Prelude.{min}
+use Rattle.aes_block.specs.Aes.{IsBlock}
+use Rattle.aes_block.specs.Blocks.{block_at}
+use Rattle.cbc_mode.specs.Cbc.{IsText, cbc_encrypted}
+use Rattle.cbc_mode.proofs.ChainFacts.{round_trip}
+use Rattle.cbc_mode.proofs.PieceFacts.{part_all, part_at, part_more, part_none}
 use Rattle.cbc_mode.proofs.chain.cbc_decrypt.Goals as goal
 
-pub decryption-init : goal.decryption-init
-decryption-init c = decrypted_none c.args.aes.now c.args.iv.now c.args.text.now _ c.told-iv c.at-before.ensures
+pub pieces-init : goal.pieces-init
+pieces-init c =
+    part_at _ _ _ _ _ 0 (min (1024 * 0) (length c.args.text.now)) (omega arith) (part_none c.args.aes.now c.args.iv.now c.args.text.now)
 
-pub decryption-preserved : goal.decryption-preserved
-decryption-preserved c =
-    let key : List ℕ = c.args.aes.now in
-    let stored : List ℕ = bytes_of c.at-stored.result in
-    let block = c.decrypt.new.block in
-    let given : List ℕ = bytes_of c.at.result in
-    let same : given ≡ block = c.at.ensures ∙ alone block c.decrypt.array_long in
-    rw c.put.ensures
-    (decrypted_more key c.args.iv.now c.args.text.now c.decryption.text (bytes_of c.decryption.before) stored given _ c.decryption.i c.decryption.invariant (omega arith) refl refl
-    c.at-stored.ensures (same ∙ c.decrypt.ensures.value ∙ ap (inv_aes256 key) c.to_bytes-block.ensures)
-    (ap (aes256 key) same ∙ c.decrypt.ensures.encrypts_to ∙ c.to_bytes-block.ensures) c.xor.ensures)
+pub pieces-preserved : goal.pieces-preserved
+pieces-preserved c =
+    let start : ℕ = 1024 * c.pieces.p in
+    let end : ℕ = c.min-end.result in
+    let old : List ℕ = c.args.text.now in
+    let text : List ℕ = c.pieces.text in
+    let piece : List ℕ = c.decrypt_piece.new.piece in
+    let to : end ≡ min (start + 1024) (length old) = omega (arith, c.min-end.ensures) in
+    let size : length piece ≡ end - start = omega arith in
+    let begun = part_at _ _ _ _ _ (min start (length old)) start (omega arith) c.pieces.invariant in
+    let is_last : c.to_bytes-last.result ≡ block_at text (end / 16 - 1) = c.to_bytes-last.ensures ∙ c.at.ensures in
+    part_at _ _ _ _ _ end (min (1024 * (c.pieces.p + 1)) (length old)) (omega (arith, to))
+    (part_more c.args.aes.now c.args.iv.now old text c.pieces.before piece c.to_bytes-last.result start end begun
+    (omega arith) (omega (arith, to)) (omega (arith, to)) (omega (arith, to)) (omega arith) size c.decrypt_piece.ensures is_last)
 
 pub returns-clause-value : goal.returns-clause-value
 returns-clause-value c =
-    decrypted_all c.args.aes.now c.args.iv.now c.args.text.now c.decryption.text (bytes_of c.decryption.before) c.decryption.i (omega arith) (omega arith) (omega arith) c.decryption.invariant
+    part_all c.args.aes.now c.args.iv.now c.args.text.now c.pieces.text c.pieces.before (min (1024 * c.pieces.p) (length c.args.text.now))
+    (omega arith) (omega arith) c.pieces.invariant
 
 pub returns-clause-encrypts_to : goal.returns-clause-encrypts_to
 returns-clause-encrypts_to c =
-    let key = c.args.aes.now in
-    let iv = c.args.iv.now in
-    ap (cbc_encrypted key iv) (returns-clause-value c)
-    ∙ cbc_encrypted-decrypted key iv c.args.text.now c.told-iv c.requires (λ j lt. c.decryption.invariant.encrypts j (omega arith))
+    let key : List ℕ = c.args.aes.now in
+    let iv : List ℕ = c.args.iv.now in
+    let block : IsBlock iv = (c.told-iv, search rules) in
+    let text : IsText c.args.text.now = record { whole = c.requires; bytes = search rules } in
+    ap (cbc_encrypted key iv) (returns-clause-value c) ∙ (round_trip key iv c.args.text.now c.key_law.ensures block text).encrypts_back
