@@ -2,11 +2,11 @@
 ghost use Rattle.std.specs.Prelude.{◌≡◌, ◌<◌, ◌≤◌, length, take};
 ghost use Rattle.cipher_profile.specs.Profile.{IsListed};
 ghost use Rattle.page_codec.specs.MacKey.{mac_key};
-ghost use Rattle.page_codec.specs.Page.{FileKeys, accepts, bears_sign, cipher_start, fits, opened, tag};
+ghost use Rattle.page_codec.specs.Page.{FileKeys, accepts, bears_sign, cipher_start, fits, keys_of, opened, tag};
 
 use crate::tag::{MAX_TAG, TagKey};
 use aes_block::Aes256;
-use cipher_profile::{PageKeys, Profile};
+use cipher_profile::{PageKeys, Profile, Secret, derive};
 use std::marker::Model;
 
 /// The length of an IV, in bytes.
@@ -52,6 +52,17 @@ impl Codec {
             cipher,
             tags,
         }
+    }
+
+    /// The codec that the secret gives for a file with this stored page 1, which begins with the salt.
+    pub fn of_file(profile: Profile, secret: &Secret, page_1: &[u8]) -> Codec
+        requires listed { IsListed profile }
+        requires size { length page_1.now ≡ profile.page_size }
+        ensures { result ≡ keys_of profile secret.now page_1.now }
+    {
+        let mut salt = [0u8; SALT_LEN];
+        salt.copy_from_slice(&page_1[..SALT_LEN]);
+        Codec::new(profile, derive(secret, &profile, &salt), salt)
     }
 
     /// The file's profile.

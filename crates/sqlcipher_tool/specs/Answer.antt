@@ -57,14 +57,14 @@ IsFault InputFault = Unit {0}
 IsFault EntropyFault = Unit {0}
 IsFault OutOfMemory = Unit {0}
 
--- some first part of the text was appended
+-- a prefix of the text was appended
 pub record PutsPart (text before after : List ℕ) : Type 0 where
   pub put : List ℕ
   pub rest : List ℕ
   pub whole : text ≡ put ++ rest
   pub appended : after ≡ before ++ put
 
--- the whole text was appended, or after a fault some first part of it
+-- the whole text was appended, or after a fault a prefix of it
 abbrev pub Puts : Status → List ℕ → List ℕ → List ℕ → Type 0
 Puts Done text before after = after ≡ before ++ text
 Puts Usage text before after = after ≡ before ++ text

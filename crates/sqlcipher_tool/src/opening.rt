@@ -3,7 +3,7 @@ ghost use Rattle.std.specs.Prelude.{◌≡◌, ◌⊎◌, ◌+◌, ◌*◌, ◌/
 ghost use Rattle.edge_model.specs.Causes.{HasCause, Rose};
 ghost use Rattle.edge_model.specs.OnlyRead.{OnlyRead};
 ghost use Rattle.cipher_profile.specs.Profile.{IsListed};
-ghost use Rattle.page_codec.specs.Page.{stored_page, fits, keys_of};
+ghost use Rattle.page_codec.specs.Page.{fits};
 ghost use Rattle.sqlcipher_tool.specs.Answer.{first_of};
 ghost use Rattle.sqlcipher_tool.specs.Opening.{main_of, main_keys, first_page, length_causes, key_causes};
 ghost use Rattle.sqlcipher_tool.specs.Stop.{stop_answer, IsLate};
@@ -11,7 +11,7 @@ ghost use Rattle.sqlcipher_tool.specs.declared.opening.Stop.TheVariants.{DiskFau
 
 use crate::main_file::{MAX_PAGE, file_length, read_page};
 use crate::status::Refusal;
-use cipher_profile::{Profile, Secret, derive};
+use cipher_profile::{Profile, Secret};
 use edge_model::{Disk, Failed, Role};
 use page_codec::Codec;
 
@@ -100,18 +100,7 @@ pub fn codec_of<D: Disk>(
     let mut buffer = [0u8; MAX_PAGE];
     let page = &mut buffer[..profile.page_size as usize];
     read_page(disk, 1, page)?;
-    let codec = codec_by_page(profile, secret, page);
+    let codec = Codec::of_file(profile, secret, page);
     let fits = codec.key_fits(page);
     Ok((codec, fits))
-}
-
-// The codec that the secret gives for a file with this page 1, which begins with the salt.
-fn codec_by_page(profile: Profile, secret: &Secret, page: &[u8]) -> Codec
-    requires listed { IsListed profile }
-    requires size { length page.now ≡ profile.page_size }
-    ensures { result ≡ keys_of profile secret.now page.now }
-{
-    let mut salt = [0u8; 16];
-    salt.copy_from_slice(&page[..16]);
-    Codec::new(profile, derive(secret, &profile, &salt), salt)
 }

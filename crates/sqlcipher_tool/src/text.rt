@@ -82,7 +82,7 @@ impl Text {
         &self.bytes[..self.len]
     }
 
-    /// Appends the lines. After a failure the sink has some first part of them.
+    /// Appends the lines. After a failure the sink has a prefix of them.
     pub fn put<S: Sink>(&self, out: &mut S) -> Result<(), Failed>
         ensures done { OnOk result (IsTrue S.tells → S.taken out.new ≡ S.taken out.old ++ self.now) }
         ensures part { OnErr result (IsTrue S.tells → PutsPart self.now (S.taken out.old) (S.taken out.new)) }

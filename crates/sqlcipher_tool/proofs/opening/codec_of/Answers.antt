@@ -12,7 +12,7 @@ returns-clause-codec g c = λ told.
     let page = c.read_page.new.page in
     let long : length page ≡ profile.page_size = search rules in
     let listed : 16 ≤ profile.page_size = search (rules, c.requires.listed) in
-    c.codec_by_page-codec.ensures
+    c.of_file-codec.ensures
     ∙ ap (λ (p : List ℕ). keys_of profile secret p) (page_is profile.page_size page main long (c.requires.some told) (c.in_ok-read_page.ensures.told told))
     ∙ keys_from_page profile secret main listed (c.requires.some told)
 
@@ -26,5 +26,5 @@ returns-clause-fits g c = λ told.
     let paged = page_is profile.page_size page main long (c.requires.some told) (c.in_ok-read_page.ensures.told told) in
     c.key_fits-fits.ensures
     ∙ ap (λ (keys : FileKeys). fits keys page)
-        (c.codec_by_page-codec.ensures ∙ ap (λ (p : List ℕ). keys_of profile c.args.secret.now p) paged ∙ keys_from_page profile c.args.secret.now main listed (c.requires.some told))
+        (c.of_file-codec.ensures ∙ ap (λ (p : List ℕ). keys_of profile c.args.secret.now p) paged ∙ keys_from_page profile c.args.secret.now main listed (c.requires.some told))
     ∙ ap (λ (p : List ℕ). fits (main_keys profile c.args.secret.now (g.D.Disk.reads c.args.disk.now)) p) paged
