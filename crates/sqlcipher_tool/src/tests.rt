@@ -3,12 +3,15 @@
 // In the tagged file, page n has 4,032 bytes n. Its tags were computed with Python's hmac and hashlib, for profile 4 and
 // the raw key of the bytes 0 to 31. The sealed files have an empty table leaf on each page, and are sealed by page_codec,
 // which its own tests compare with pages from outside.
-ghost use Rattle.std.specs.Prelude.{◌≡◌, ◌≤◌, length};
+ghost use Rattle.std.specs.Prelude.{◌≡◌, ◌≤◌, length, false, refl};
 ghost use Rattle.cipher_profile.specs.Profile.{usable};
 
+use crate::main_file::read_page;
 use crate::{Status, run};
 use cipher_profile::{Profile, derive, profile_of, read_key};
-use edge_model::{MemDisk, MemEntropy, MemSink, MemSource, SilentDisk, SilentSink, SilentSource};
+use edge_model::{
+    Disk, Failed, MemDisk, MemEntropy, MemSink, MemSource, Role, SilentDisk, SilentSink, SilentSource,
+};
 use page_codec::Codec;
 use std::alloc::Global;
 use std::process::Abort;
@@ -387,4 +390,88 @@ fn answers_each_row_of_the_older_profiles(rt: HostRuntime) -> Result<(), Fail> {
         KEY,
         ("journal is there\n", 2),
     )
+}
+
+// A disk that tells nothing, and reads half of what is asked for.
+#[derive(Drop)]
+struct HalfDisk {
+    inner: SilentDisk,
+}
+
+impl Disk for HalfDisk {
+    ghost use Rattle.edge_model.specs.Files.{nothing};
+    ghost use Rattle.edge_model.specs.MemDisk.{mem_faults};
+    ghost use Rattle.edge_model.specs.Silent.{nothing_numbered};
+
+    ghost tells = { false };
+
+    ghost reads = { λ _. nothing };
+
+    ghost images = { λ _ c. c ≡ nothing };
+
+    ghost moment = { λ _. 0 };
+
+    ghost since = { λ _ _ c. c ≡ nothing };
+
+    ghost next = { λ _. 0 };
+
+    ghost faults = { λ s. mem_faults s.inner.inner };
+
+    ghost reads_now = { λ _. refl };
+
+    ghost counts_now = { λ _ _ _ _ now. now };
+
+    ghost only_now = { λ _ _ left. left };
+
+    ghost numbered = { λ _ c is. nothing_numbered c is };
+
+    fn length(&mut self, role: Role) -> Result<Option<u64>, Failed> {
+        self.inner.length(role)
+    }
+
+    fn read_at(&mut self, role: Role, at: u64, buf: &mut [u8]) -> Result<usize, Failed> {
+        let half = buf.len() / 2;
+        self.inner.read_at(role, at, &mut buf[..half])
+    }
+
+    fn write_at(&mut self, role: Role, at: u64, bytes: &[u8]) -> Result<(), Failed> {
+        self.inner.write_at(role, at, bytes)
+    }
+
+    fn cut(&mut self, role: Role, len: u64) -> Result<(), Failed> {
+        self.inner.cut(role, len)
+    }
+
+    fn sync(&mut self, role: Role) -> Result<(), Failed> {
+        self.inner.sync(role)
+    }
+
+    fn create(&mut self, role: Role) -> Result<(), Failed> {
+        self.inner.create(role)
+    }
+
+    fn remove(&mut self, role: Role) -> Result<(), Failed> {
+        self.inner.remove(role)
+    }
+
+    fn rename_fresh(&mut self) -> Result<(), Failed> {
+        self.inner.rename_fresh()
+    }
+
+    fn sync_folder(&mut self) -> Result<(), Failed> {
+        self.inner.sync_folder()
+    }
+}
+
+#[test]
+fn takes_what_a_short_read_leaves_out_as_zeros(rt: HostRuntime) -> Result<(), Fail> {
+    let main = [1, 2, 3, 4, 5, 6, 7, 8];
+    let disk = MemDisk::with_files(rt.alloc(), Some(&main), None, None)?;
+    let mut disk = HalfDisk {
+        inner: SilentDisk { inner: disk },
+    };
+    let mut page = [9u8; 8];
+    assert!(rt; read_page(&mut disk, 1, &mut page).is_ok());
+    assert_eq!(rt; page, [1, 2, 3, 4, 0, 0, 0, 0]);
+    Ok(())
 }
