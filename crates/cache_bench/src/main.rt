@@ -1,0 +1,138 @@
+//! Finds and evicts pages again and again, to be timed.
+//!
+//! `cache_bench hits FRAMES TIMES`: so many look-ups that find their page in a full cache, each of which makes the page the most
+//! recently used and reads its first byte. `cache_bench evictions FRAMES TIMES`: so many pages that are not held and come in for
+//! the least recently used one. `cache_bench lru_hits` and `cache_bench lru_evictions`: the same keys in the same order in a plain
+//! `LruCache`. Each prints how many look-ups found something.
+#![tactic(auto)]
+
+ghost use Rattle.std.specs.Prelude.{◌≤◌, ◌<◌};
+ghost use Rattle.std.specs.NonZero.{non_zero_usize_get};
+
+use lru::LruCache;
+use page_cache::Cache;
+use std::num::NonZeroUsize;
+use std::{env, io};
+
+const USABLE: usize = 4016;
+
+// The next number of a fixed sequence (D. E. Knuth's MMIX).
+fn next(state: u64) -> u64 {
+    state
+        .wrapping_mul(6_364_136_223_846_793_005)
+        .wrapping_add(1_442_695_040_888_963_407)
+}
+
+// A page from 1 up to this one.
+fn page_of(state: u64, frames: u32) -> u32
+    requires { 1 ≤ frames }
+    ensures { 1 ≤ result }
+{
+    ((state >> 33) % frames as u64) as u32 + 1
+}
+
+fn place(cache: &mut Cache, n: u32) {
+    if !cache.is_held(n) {
+        let _placed = cache.hold(n).is_ok();
+    }
+}
+
+fn first(bytes: &[u8]) -> u64 {
+    if bytes.is_empty() { 0 } else { bytes[0] as u64 }
+}
+
+fn hits(cache: &mut Cache, frames: u32, times: u64) -> u64
+    requires { 1 ≤ frames }
+{
+    for n in 0..frames {
+        place(cache, n.wrapping_add(1));
+    }
+    let mut found = 0u64;
+    let mut state = 1u64;
+    for _ in 0..times {
+        state = next(state);
+        let n = page_of(state, frames);
+        if cache.touch(n) {
+            if let Some(bytes) = cache.get(n) {
+                found = found.wrapping_add(first(bytes)).wrapping_add(1);
+            }
+        }
+    }
+    found
+}
+
+fn evictions(cache: &mut Cache, times: u64) -> u64 {
+    let mut found = 0u64;
+    for n in 0..times {
+        if let Some(old) = cache.victim() {
+            if cache.discard(old) {
+                found = found.wrapping_add(1);
+            }
+        }
+        place(cache, n as u32);
+    }
+    found
+}
+
+fn lru_hits(cache: &mut LruCache<u32, u32>, frames: u32, times: u64) -> u64
+    requires { 1 ≤ frames }
+{
+    for n in 0..frames {
+        let _was = cache.put(n.wrapping_add(1), 0);
+    }
+    let mut found = 0u64;
+    let mut state = 1u64;
+    for _ in 0..times {
+        state = next(state);
+        let n = page_of(state, frames);
+        if let Some(value) = cache.get(&n) {
+            found = found.wrapping_add(*value as u64).wrapping_add(1);
+        }
+    }
+    found
+}
+
+fn lru_evictions(cache: &mut LruCache<u32, u32>, times: u64) -> u64 {
+    let mut found = 0u64;
+    for n in 0..times {
+        if !cache.contains(&(n as u32)) {
+            if let Ok(Some(_)) = cache.push(n as u32, 0) {
+                found = found.wrapping_add(1);
+            }
+        }
+    }
+    found
+}
+
+fn number(words: &Vec<String>, at: usize, otherwise: u64) -> u64 {
+    match words.get(at) {
+        Some(word) => word.as_str().parse::<u64>().unwrap_or(otherwise),
+        None => otherwise,
+    }
+}
+
+fn main(rt: HostRuntime) -> io::Result<()> {
+    let words: Vec<String> = env::args(&rt)?.collect(rt.alloc())?;
+    let word = match words.get(1) {
+        Some(word) => word.as_str(),
+        None => "hits",
+    };
+    let frames = number(&words, 2, 64).max(1).min(100_000) as u32;
+    let times = number(&words, 3, 1_000);
+    let Some(cap) = NonZeroUsize::new(frames as usize) else {
+        return Err(io::ErrorKind::InvalidInput.into());
+    };
+    let Ok(mut keys) = LruCache::new(rt.alloc(), cap) else {
+        return Err(io::ErrorKind::OutOfMemory.into());
+    };
+    let Ok(mut cache) = Cache::new(rt.alloc(), frames, USABLE) else {
+        return Err(io::ErrorKind::OutOfMemory.into());
+    };
+    let found = match word {
+        "evictions" => evictions(&mut cache, times),
+        "lru_hits" => lru_hits(&mut keys, frames, times),
+        "lru_evictions" => lru_evictions(&mut keys, times),
+        _ => hits(&mut cache, frames, times),
+    };
+    println!(rt; "{found}")
+}
