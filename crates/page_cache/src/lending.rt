@@ -1,6 +1,6 @@
 // The calls that find a page and lend it at once. A proof that is generated learns what they ensure of the cache only from `is_held`,
 // `hold` and `at_mut`, so callers whose contracts speak of the cache afterwards use those.
-ghost use Rattle.std.specs.Prelude.{◌≡◌, length, false, IfOk, OnErr, option_map, replicate};
+ghost use Rattle.std.specs.Prelude.{◌≡◌, ◌<◌, length, false, IfOk, OnOk, OnErr, option_map, replicate};
 ghost use Rattle.std.specs.Borrow.{sem};
 ghost use Rattle.page_cache.specs.Pages.{bytes_at, is_held};
 
@@ -28,7 +28,7 @@ impl Cache {
         requires { is_held n self.old.held ≡ false }
         ensures* writes_back { sem 𝓛 (LendsPlaced self.entry n result) }
         ensures value { IfOk result (λ bytes. bytes.now ≡ replicate self.old.usable 0) }
-        ensures full { OnErr result (length self.old.held ≡ self.old.frames) }
+        ensures full { OnOk result (length self.old.held < self.old.frames) × OnErr result (length self.old.held ≡ self.old.frames) }
     {
         if self.claim(n) {
             Ok(self.at_mut(n))

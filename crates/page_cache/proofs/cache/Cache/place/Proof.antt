@@ -1,5 +1,5 @@
 -- `place` puts a page into a frame and lends its bytes, and the cache follows them. Assumes `Logic`.
-use mathlib.Core.Path.{◌≡◌, refl, ap, subst}
+use mathlib.Core.Path.{◌≡◌, refl, ap}
 use mathlib.Core.Bool.{Bool, true, false}
 use Prim.Native.Nat.{ℕ, ◌<◌}
 use mathlib.Core.List.{List, [], ◌∷◌}
@@ -36,7 +36,7 @@ use denote.Triple.Spec.{triple_of}
 use denote.Triple.Table.{framed}
 use denote.Triple.Walked.{Stays, stay_dropped, walk_of, ends_at, says, Goes-dropped, Goes-spent_ref}
 use Rattle.std.proofs.raw_atomic.Walks.{proved}
-use Rattle.std.specs.Prelude.{Ok, Err, None, Some, replicate, length}
+use Rattle.std.specs.Prelude.{Ok, Err, Some, replicate, length}
 use Rattle.std.specs.contracts.result.Result as res
 use Rattle.page_cache.proofs.Options.{ok_in, err_in, is_on, is_off}
 use Rattle.page_cache.proofs.CallerLemmas.{not_held, fresh_bytes, fresh_held, changed_fresh}
@@ -90,7 +90,7 @@ place_spec 𝓤 𝓛 𝓜 𝓡 wired =
     (and_then ! (get ! refl) (and_then ! (get ! refl) (no_more !))) (λ v.
     use1 𝓛 (later (some (Given v))) (id⊢ 𝓤 _) $ await ! tt $ pick ! (λ r. split ! $ split ! $ split ! $ lft_end ! tt $
     -- [α is over; nothing; the answer; the rest of the clauses; what the lender keeps]
-    move ! (3 ∷ []) $ pick ! (λ ws. split ! $ move ! (1 ∷ []) $ split ! $ heard ! _ (λ put. split ! $ heard ! _ (λ _. split ! $ heard ! _ (λ no_frame. heard ! _ (λ kept. fsplit ! $ fsplit ! $
+    move ! (3 ∷ []) $ pick ! (λ ws. split ! $ move ! (1 ∷ []) $ split ! $ heard ! _ (λ put. split ! $ heard ! _ (λ some_frame. split ! $ heard ! _ (λ no_frame. heard ! _ (λ kept. fsplit ! $ fsplit ! $
     -- [the loan's last value; its borrow; nothing; α is over; nothing; the answer; what the lender keeps]
     move ! (3 ∷ 6 ∷ 0 ∷ []) $ use3 𝓛 (later (‵ (Ref κ (record s { now = ws.0 })) ⊛ ‵ (flft κ q))) (comes_back 𝓛 R (named 0) κ (α ∷ []) q s.ghost_name b o δ s.now ws.0) $ await ! tt $ split ! $
     -- [the reference; the token of κ; the loan's borrow; nothing; nothing; the answer]
@@ -127,7 +127,7 @@ place_spec 𝓤 𝓛 𝓜 𝓡 wired =
     use1 𝓛 (‵ ((res.the_row Bytes Full-row).own_val (Ok x) (live 0 (of_list (v' ∷ [])) ∷ []))) (ok_in 𝓛 Bytes Full-row x v') $
     suffices ! _ (ends_at 𝓛 f.ended stayed c y (live 0 (of_list (v' ∷ []))) (Ok x) (tt, (tt, tt)) (tt, (tt, tt))) $
     let zeros : x.now ≡ replicate s.now.usable 0 = fresh_bytes n s.now.usable s.now.held x.now same in
-    nothing ! $ nothing ! $ fjoin ! $ nothing ! $ fjoin ! $ join ! $ nothing ! $ move ! (2 ∷ 0 ∷ []) $ join ! $ join ! $ frame ! $ frame ! $ says ! tt $
+    nothing ! $ nothing ! $ fjoin ! $ nothing ! $ fjoin ! $ join ! $ nothing ! $ move ! (2 ∷ 0 ∷ []) $ join ! $ join ! $ frame ! $ frame ! $ says ! (some_frame (is_on r there), tt) $
     use0 𝓛 (raw (fact 𝓤 (x.now ≡ replicate s.now.usable 0))) (fact_i 𝓤 (x.now ≡ replicate s.now.usable 0) (emp 𝓤) zeros) $ done !)))))))
     (λ none.
     rewrite ! 0 (λ (now : Pages). ‵ (Ref κ (record s { now = now }))) (kept (is_off r none)) refl $
@@ -141,6 +141,6 @@ place_spec 𝓤 𝓛 𝓜 𝓡 wired =
     use0 𝓛 (‵ (Full-row.own_val full (vstruct vnil ∷ []))) (makes_shadow 𝓛 (Full-row.own_val full (vstruct vnil ∷ [])) (λ vss. (tt, tt)) (tt, (refl, tt))) $
     use1 𝓛 (‵ ((res.the_row Bytes Full-row).own_val (Err full) (live 1 (of_list (vstruct vnil ∷ [])) ∷ []))) (err_in 𝓛 Bytes Full-row full (vstruct vnil)) $
     suffices ! _ (ends_at 𝓛 f.ended stayed c y (live 1 (of_list (vstruct vnil ∷ []))) (Err full) (tt, (tt, tt)) (tt, (tt, tt))) $
-    nothing ! $ nothing ! $ fjoin ! $ nothing ! $ fjoin ! $ join ! $ nothing ! $ move ! (2 ∷ 0 ∷ []) $ join ! $ join ! $ frame ! $ frame ! $ says ! (no_frame (is_off r none)) $
+    nothing ! $ nothing ! $ fjoin ! $ nothing ! $ fjoin ! $ join ! $ nothing ! $ move ! (2 ∷ 0 ∷ []) $ join ! $ join ! $ frame ! $ frame ! $ says ! (tt, no_frame (is_off r none)) $
     use0 𝓛 (raw (fact 𝓤 (Unit {0}))) (fact_i 𝓤 (Unit {0}) (emp 𝓤) tt) $ done !)
     )))))))))))))
