@@ -6,8 +6,7 @@
 //! `LruCache`. Each prints how many look-ups found something.
 #![tactic(auto)]
 
-ghost use Rattle.std.specs.Prelude.{◌≤◌, ◌<◌};
-ghost use Rattle.std.specs.NonZero.{non_zero_usize_get};
+ghost use Rattle.std.specs.Prelude.{◌≤◌};
 
 use lru::LruCache;
 use page_cache::Cache;
@@ -61,7 +60,7 @@ fn hits(cache: &mut Cache, frames: u32, times: u64) -> u64
     found
 }
 
-fn evictions(cache: &mut Cache, times: u64) -> u64 {
+fn evictions(cache: &mut Cache, times: u32) -> u64 {
     let mut found = 0u64;
     for n in 0..times {
         if let Some(old) = cache.victim() {
@@ -69,7 +68,7 @@ fn evictions(cache: &mut Cache, times: u64) -> u64 {
                 found = found.wrapping_add(1);
             }
         }
-        place(cache, n as u32);
+        place(cache, n);
     }
     found
 }
@@ -92,11 +91,11 @@ fn lru_hits(cache: &mut LruCache<u32, u32>, frames: u32, times: u64) -> u64
     found
 }
 
-fn lru_evictions(cache: &mut LruCache<u32, u32>, times: u64) -> u64 {
+fn lru_evictions(cache: &mut LruCache<u32, u32>, times: u32) -> u64 {
     let mut found = 0u64;
     for n in 0..times {
-        if !cache.contains(&(n as u32)) {
-            if let Ok(Some(_)) = cache.push(n as u32, 0) {
+        if !cache.contains(&n) {
+            if let Ok(Some(_)) = cache.push(n, 0) {
                 found = found.wrapping_add(1);
             }
         }
@@ -118,7 +117,7 @@ fn main(rt: HostRuntime) -> io::Result<()> {
         None => "hits",
     };
     let frames = number(&words, 2, 64).max(1).min(100_000) as u32;
-    let times = number(&words, 3, 1_000);
+    let times = number(&words, 3, 1_000).min(u32::MAX as u64) as u32;
     let Some(cap) = NonZeroUsize::new(frames as usize) else {
         return Err(io::ErrorKind::InvalidInput.into());
     };
@@ -130,9 +129,9 @@ fn main(rt: HostRuntime) -> io::Result<()> {
     };
     let found = match word {
         "evictions" => evictions(&mut cache, times),
-        "lru_hits" => lru_hits(&mut keys, frames, times),
+        "lru_hits" => lru_hits(&mut keys, frames, times as u64),
         "lru_evictions" => lru_evictions(&mut keys, times),
-        _ => hits(&mut cache, frames, times),
+        _ => hits(&mut cache, frames, times as u64),
     };
     println!(rt; "{found}")
 }
