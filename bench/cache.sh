@@ -14,7 +14,7 @@ echo "built for $cpu"
 exec python3 - <<'PYTHON'
 import resource, subprocess
 
-TIMES = {"hits": 10_000_000, "evictions": 3_000_000}
+TIMES = {"hits": 4_000_000, "evictions": 1_000_000}
 RUNS = 5
 
 # Processor time of the program, in seconds.

@@ -60,15 +60,24 @@ fn hits(cache: &mut Cache, frames: u32, times: u64) -> u64
     found
 }
 
+// A page comes in, and where no frame is free the least recently used page goes for it.
+fn comes_in(cache: &mut Cache, n: u32) -> bool {
+    if cache.is_held(n) || cache.hold(n).is_ok() {
+        return false;
+    }
+    if let Some(old) = cache.victim() {
+        let _gone = cache.discard(old);
+    }
+    place(cache, n);
+    true
+}
+
 fn evictions(cache: &mut Cache, times: u32) -> u64 {
     let mut found = 0u64;
     for n in 0..times {
-        if let Some(old) = cache.victim() {
-            if cache.discard(old) {
-                found = found.wrapping_add(1);
-            }
+        if comes_in(cache, n) {
+            found = found.wrapping_add(1);
         }
-        place(cache, n);
     }
     found
 }
