@@ -1,1 +1,2 @@
 mod HeaderLemmas
+pub mod VarintLemmas

@@ -2,3 +2,4 @@ pub mod Bytes
 pub mod Count
 pub mod Header
 pub mod Rules
+pub mod Varint
