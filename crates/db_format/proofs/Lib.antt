@@ -1,2 +1,4 @@
 mod HeaderLemmas
+pub mod RecordLemmas
+pub mod SerialLemmas
 pub mod VarintLemmas

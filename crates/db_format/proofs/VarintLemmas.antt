@@ -5,7 +5,7 @@ use Rattle.std.proofs.Math.Seq.{take-append_seam, get_or-append_seam, take-lengt
 use Rattle.std.proofs.Math.ListN.{set}
 use Rattle.std.proofs.lemmas.Bool.{cases_lt, cases_eq, ltb-true, ltb-false, lt-ltb, le-ltb, le-leb, lt-leb}
 use Rattle.std.proofs.lemmas.Bool.Decides.{nat_tests}
-use Rattle.std.proofs.lemmas.List.{length-take, length-take-le, get_or-take, take-take, drop-set, get_or_append_left, get_or-append_right}
+use Rattle.std.proofs.lemmas.List.{length-take, length-take-le, get_or-take, take-take, take-append-le, drop-set, get_or_append_left, get_or-append_right}
 use Rattle.std.proofs.lemmas.List.FromFn.{get_or-range_with_len}
 use Rattle.std.proofs.lemmas.List.Sums.{fold_more, fold-append, position_or_len_is, fails_before_first, passes_at_first, prefix_len-le-length}
 use Rattle.std.specs.List.{position_or_len, range_with_len}
@@ -241,7 +241,7 @@ varint-read bytes number n read =
           let both : (spelled (take (varint_len bytes) bytes), varint_len bytes) ≡ (number, n) = cc in
           let size : varint_len bytes ≡ n = ap (λ (p : ℕ × ℕ). p.1) both in
           let value : spelled (take (varint_len bytes) bytes) ≡ number = ap (λ (p : ℕ × ℕ). p.0) both in
-          record { size = size; within = omega arith; value = rw size at value }
+          record { size = size; within = rw size at whole; value = rw size at value }
     ]
 
 -- as many sevens of bits as there are bytes
@@ -264,3 +264,50 @@ varint_size-le bytes number is =
           let some : 0 < length bytes = omega (arith, read.size) in
           absurd (omega (arith, seven_bits-below bytes (length bytes) (omega arith), varint_size-shortest number (length bytes) some fewer))
     ]
+
+-- ---- what follows a whole varint does not count
+
+same-at : (xs ys : List ℕ) (n k : ℕ) → take n xs ≡ take n ys → k < n → get_or ys k 0 ≡ get_or xs k 0
+same-at xs ys n k same below =
+    sym (get_or-take n ys k 0 below) ∙ ap (λ bytes. get_or bytes k 0) (sym same) ∙ get_or-take n xs k 0 below
+
+varint_len-same : (xs ys : List ℕ) (n : ℕ) → varint_len xs ≡ n → n ≤ length xs → n ≤ length ys → take n xs ≡ take n ys
+    → varint_len ys ≡ n
+varint_len-same xs ys n size within room same =
+    let at = position_or_len (λ byte. nat_lt byte 128) (take 8 xs) in
+    let most = prefix_len-le-length (λ byte. not (nat_lt byte 128)) (take 8 xs) in
+    let place : at + 1 ≡ n = size in
+    let sizes : at ≤ 8 = omega (arith, length-take 8 xs) in
+    ap (λ k. k + 1) (position_or_len_is (λ byte. nat_lt byte 128) (take 8 ys) at 0
+      (omega (arith, length-take 8 ys))
+      (λ k below.
+        rw (get_or-take 8 ys k 0 (omega arith), same-at xs ys n k same (omega arith), ← get_or-take 8 xs k 0 (omega arith))
+          (fails_before_first (λ byte. nat_lt byte 128) (take 8 xs) k 0 below))
+      (λ inside.
+        let short : at < 8 = omega (arith, length-take 8 ys) in
+        rw (get_or-take 8 ys at 0 short, same-at xs ys n at same (omega arith), ← get_or-take 8 xs at 0 short)
+          (passes_at_first (λ byte. nat_lt byte 128) (take 8 xs) 0 (omega (arith, length-take 8 xs)))))
+    ∙ size
+
+pub varint-same : (xs ys : List ℕ) (number n : ℕ) → varint xs ≡ Some (number, n) → n ≤ length ys → take n xs ≡ take n ys
+    → varint ys ≡ Some (number, n)
+varint-same xs ys number n read room same =
+    let is = varint-read xs number n read in
+    varint-whole ys n (varint_len-same xs ys n is.size is.within room same) room
+    ∙ ap (λ v. Some (v, n)) (ap spelled (sym same) ∙ is.value)
+
+pub varint-append : (bytes rest : List ℕ) (number n : ℕ) → varint bytes ≡ Some (number, n) → varint (bytes ++ rest) ≡ Some (number, n)
+varint-append bytes rest number n read =
+    let is = varint-read bytes number n read in
+    varint-same bytes (bytes ++ rest) number n read (omega (arith, is.within, length-append bytes rest))
+      (sym (take-append-le n bytes rest is.within))
+
+-- the bytes of a varint that was read are a whole one
+pub varint-take : (bytes : List ℕ) (number n : ℕ) → varint bytes ≡ Some (number, n) → IsVarintOf (take n bytes) number
+varint-take bytes number n read =
+    let is = varint-read bytes number n read in
+    let size : length (take n bytes) ≡ n = length-take-le n bytes is.within in
+    rw size (varint-same bytes (take n bytes) number n read (omega arith) (sym (take-take n n bytes (omega arith))))
+
+pub varint-some : (bytes : List ℕ) (number n : ℕ) → varint bytes ≡ Some (number, n) → 1 ≤ n
+varint-some bytes number n read = omega (arith, (varint-read bytes number n read).size)

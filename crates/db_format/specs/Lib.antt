@@ -1,5 +1,9 @@
 pub mod Bytes
+pub mod Column
 pub mod Count
 pub mod Header
+pub mod Record
 pub mod Rules
+pub mod Serial
+pub mod Value
 pub mod Varint

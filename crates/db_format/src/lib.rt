@@ -4,14 +4,20 @@
 #![tactic(auto)]
 
 mod bytes;
+mod column;
 mod count;
 mod header;
+mod record;
+mod serial;
 #[cfg(test)]
 mod tests;
+mod value;
 mod varint;
 #[cfg(test)]
 mod varint_tests;
 
 pub use count::{CountRefusal, counted_pages};
 pub use header::{Header, HeaderRefusal, read_header, write_header};
+pub use record::{LONGEST_PAYLOAD, RecordFault, RecordView};
+pub use value::Value;
 pub use varint::{LONGEST_VARINT, read_varint, write_varint};

@@ -1,0 +1,81 @@
+// Serial types, section 2.1.
+ghost use Rattle.std.specs.Prelude.{◌≡◌, ◌+◌, ◌-◌, ◌*◌, ◌^◌, ◌≤◌, ◌<◌, length, nat_lt, pos, negsuc, true, false, MatchOption, if◌then◌else◌};
+ghost use Rattle.db_format.specs.Value.{datum_of};
+ghost use Rattle.db_format.specs.Serial.{big_endian, is_type, signed, size_of, value_of};
+
+use crate::value::Value;
+
+// How many bytes of the body a value of this type takes. `None` for the two reserved types.
+#[tactic(auto, unfolding(crate::specs::Serial::size_of))]
+pub(crate) fn serial_size(serial: u64) -> Option<u64>
+    ensures { MatchOption result (is_type serial ≡ false) (λ size. (is_type serial ≡ true) × (size ≡ size_of serial)) }
+{
+    match serial {
+        0..=4 => Some(serial),
+        5 => Some(6),
+        6 | 7 => Some(8),
+        8 | 9 => Some(0),
+        10 | 11 => None,
+        _ => Some((serial - 12) / 2),
+    }
+}
+
+// What the bytes of a value of this type mean.
+#[tactic(auto, unfolding(crate::specs::Serial::size_of, crate::specs::Serial::value_of))]
+pub(crate) fn value_of(serial: u64, bytes: &[u8]) -> Value<'_>
+    requires { size_of serial ≡ length bytes.now }
+    ensures { datum_of result ≡ value_of serial bytes.now }
+{
+    match serial {
+        0 => Value::Null,
+        1..=6 => Value::Int(integer(bytes)),
+        7 => Value::Float(float(bytes)),
+        8 => Value::Int(0),
+        9 => Value::Int(1),
+        _ if serial % 2 == 0 => Value::Blob(bytes),
+        _ => Value::Text(bytes),
+    }
+}
+
+fn float(bytes: &[u8]) -> [u8; 8]
+    requires { length bytes.now ≡ 8 }
+    ensures { result ≡ bytes.now }
+{
+    let mut float = [0; 8];
+    float.copy_from_slice(bytes);
+    float
+}
+
+// The big-endian number of these bytes, in two's complement.
+fn integer(bytes: &[u8]) -> i64
+    requires some { 1 ≤ length bytes.now }
+    requires few { length bytes.now ≤ 8 }
+    ensures { result ≡ signed (8 * length bytes.now) (big_endian bytes.now) }
+{
+    with_sign(big_endian(bytes), 1 << (8 * bytes.len() - 1))
+}
+
+fn big_endian(bytes: &[u8]) -> u64
+    requires { length bytes.now ≤ 8 }
+    ensures value { result ≡ big_endian bytes.now }
+    ensures fits { result < 256 ^ length bytes.now }
+{
+    let mut number = 0u64;
+    for byte in bytes {
+        number = number * 256 + u64::from(*byte);
+    }
+    number
+}
+
+// A number below twice this limit, of which those from the limit on are the negative ones.
+fn with_sign(number: u64, limit: u64) -> i64
+    requires limit { limit ≤ 2 ^ 63 }
+    requires fits { number < 2 * limit }
+    ensures { result ≡ (if nat_lt number limit then pos number else negsuc (2 * limit - 1 - number)) }
+{
+    if number < limit {
+        number as i64
+    } else {
+        -1 - (limit - 1 - (number - limit)) as i64
+    }
+}
