@@ -68,12 +68,14 @@ values_within (suc most) (byte ∷ types) body =
 unfoldable pub values_in : List ℕ → List ℕ → Option (List Datum)
 values_in types body = values_within (length types) types body
 
+-- the values after a header of this length, whose own length takes so many bytes; none where it is shorter than that or longer
+-- than the payload
+abbrev pub values_after : List ℕ → ℕ × ℕ → Option (List Datum)
+values_after payload (size, first) =
+    if nat_le first size && nat_le size (length payload)
+    then values_in (drop first (take size payload)) (drop size payload)
+    else None
+
 -- the values of a payload: none exactly where it is a record of no values
 unfoldable pub columns : List ℕ → Option (List Datum)
-columns payload =
-    option_and_then
-    (λ head.
-        if nat_le head.1 head.0 && nat_le head.0 (length payload)
-        then values_in (drop head.1 (take head.0 payload)) (drop head.0 payload)
-        else None)
-    (varint payload)
+columns payload = option_and_then (values_after payload) (varint payload)

@@ -40,6 +40,8 @@ impl<'a> RecordView<'a> {
     pub fn read(payload: &'a [u8]) -> Result<RecordView<'a>, RecordFault>
         requires { length payload.now ≤ longest_payload }
         ensures read { MatchResult result (λ row. columns payload.now ≡ Some row) (λ _. columns payload.now ≡ None) }
+        ensures is_record { IfOk result (IsRecordOf payload.now) }
+        ensures no_record { IfErr result (λ _. (values : List Datum) → ¬ IsRecordOf payload.now values) }
     {
         let Some((size, first)) = read_varint(payload) else {
             return Err(RecordFault);
