@@ -1,5 +1,6 @@
 mod HeaderLemmas
 pub mod RecordLemmas
 pub mod RelationLemmas
+pub mod RowLemmas
 pub mod SerialLemmas
 pub mod VarintLemmas

@@ -1,5 +1,5 @@
 -- Records: the values of the first column and of the later ones, and that a record is read as its values.
-use Rattle.std.proofs.Common.{◌≡◌, ℕ, zero, suc, ◌+◌, ◌<◌, ◌≤◌, List, [], ◌∷◌, ◌++◌, length, take, drop, get_or, Option, Some, None, true, false, refl, sym, ap, ◌∙◌, arith, length-drop, inl, inr}
+use Rattle.std.proofs.Common.{◌≡◌, ℕ, zero, suc, ◌<◌, ◌≤◌, List, [], ◌∷◌, length, take, drop, get_or, Option, Some, None, true, false, refl, sym, ap, ◌∙◌, arith, length-drop, inl, inr}
 use Rattle.std.specs.Option.{option_map, option_and_then}
 use Rattle.std.proofs.lemmas.Bool.{cases_lt, le-leb, lt-leb}
 use Rattle.std.specs.Prelude.{unwrap_or}
@@ -21,8 +21,8 @@ same_fuel (suc a) (suc b) [] body p q = refl
 same_fuel (suc a) (suc b) (byte ∷ types) body p q =
     go (varint (byte ∷ types)) refl
     (λ n some later.
-      let shorter = length-drop n (byte ∷ types) in
-      same_fuel a b (drop n (byte ∷ types)) later (omega arith) (omega arith))
+    let shorter = length-drop n (byte ∷ types) in
+    same_fuel a b (drop n (byte ∷ types)) later (omega arith) (omega arith))
   where
     go : (read : Option (ℕ × ℕ)) → varint (byte ∷ types) ≡ read
         → ((n : ℕ) → 1 ≤ n → (later : List ℕ) → values_within a (drop n (byte ∷ types)) later ≡ values_within b (drop n (byte ∷ types)) later)
@@ -76,7 +76,7 @@ pub values_in-split : (types body bytes later_types later_body : List ℕ) (seri
     → values_in types body ≡ option_map (λ values. value_of serial bytes ∷ values) (values_in later_types later_body)
 values_in-split types body bytes later_types later_body serial n size read typed sized held front types_left body_left =
     rw (front, types_left, body_left, sized)
-      (values_in-first types body serial n read ∙ first_value-held serial body _ typed (omega arith))
+    (values_in-first types body serial n read ∙ first_value-held serial body _ typed (omega arith))
 
 -- ---- the header
 
@@ -133,10 +133,10 @@ are_split value (Some rest) values is =
 pub types-left : (types body : List ℕ) (values : List Datum) → values_in types body ≡ Some values → 0 < length values → 0 < length types
 types-left types body values read some =
     elim (cases_lt 0 (length types)) [
-      inl left ↦ left
-    | inr none ↦
-      let empty : [] ≡ values = the_same (sym (values_in-end types body (omega arith)) ∙ read) in
-      absurd (omega (arith, ap length empty))
+      | inl left ↦ left
+      | inr none ↦
+          let empty : [] ≡ values = the_same (sym (values_in-end types body (omega arith)) ∙ read) in
+          absurd (omega (arith, ap length empty))
     ]
   where
     the_same : Some [] ≡ Some values → [] ≡ values

@@ -1,18 +1,18 @@
 -- The values that are read off the bytes of a payload are those of the record that it is.
-use Rattle.std.proofs.Common.{◌≡◌, ℕ, zero, suc, ◌+◌, ◌-◌, ◌<◌, ◌≤◌, List, [], ◌∷◌, ◌++◌, length, take, drop, get_or, Option, Some, None, true, false, refl, sym, ap, ap₂, ◌∙◌, arith, append_assoc, length-append, length-drop, inl, inr}
+use Rattle.std.proofs.Common.{◌≡◌, ℕ, zero, suc, ◌+◌, ◌≤◌, List, [], ◌∷◌, ◌++◌, length, take, drop, Option, Some, None, true, refl, sym, ap, ap₂, ◌∙◌, arith, append_assoc, length-append, length-drop, inl, inr}
 use Rattle.std.proofs.Math.Seq.{take-append_seam, drop-append_seam}
 use Rattle.std.proofs.lemmas.Bool.{cases_lt, cases_Bool, le-leb, lt-leb}
 use Rattle.std.proofs.lemmas.List.{length-take-le, take-append-drop, take-take}
 use Rattle.std.specs.Option.{option_map, option_and_then}
-use Rattle.db_format.specs.Varint.{IsVarintOf, varint}
+use Rattle.db_format.specs.Varint.{varint}
 use Rattle.db_format.specs.Value.{Datum}
 use Rattle.db_format.specs.Serial.{is_type, size_of, value_of}
-use Rattle.db_format.specs.Record.{AreColumns, Column, IsColumn, IsRecordOf, body_of, columns, first_value, types_of, values_after, values_in, values_of, values_within}
-use Rattle.db_format.proofs.VarintLemmas.{varint-append, varint-read, varint-take}
-use Rattle.db_format.proofs.RecordLemmas.{are_split, columns-split, values_in-end, values_in-split}
+use Rattle.db_format.specs.Record.{AreColumns, Column, IsRecordOf, body_of, columns, first_value, types_of, values_after, values_in, values_of, values_within}
+use Rattle.db_format.proofs.VarintLemmas.{varint-append, varint-take}
+use Rattle.db_format.proofs.RecordLemmas.{columns-split, values_in-end, values_in-split}
 
 -- the columns of a record are read as their values
-values_in-columns : (columns : List Column) (rest : List ℕ) → AreColumns columns
+pub values_in-columns : (columns : List Column) (rest : List ℕ) → AreColumns columns
     → values_in (types_of columns) (body_of columns ++ rest) ≡ Some (values_of columns)
 values_in-columns [] rest each = values_in-end [] rest refl
 values_in-columns (column ∷ columns) rest each =
@@ -23,9 +23,9 @@ values_in-columns (column ∷ columns) rest each =
     let later = values_in-columns columns rest each.1 in
     ap (values_in (column.spelling ++ types)) regroup
     ∙ values_in-split (column.spelling ++ types) (column.bytes ++ body) column.bytes types body column.serial (length column.spelling)
-      (length column.bytes) (varint-append column.spelling types column.serial (length column.spelling) is.spelled) is.typed (sym is.sized)
-      (omega (arith, length-append column.bytes body)) (sym (take-append_seam column.bytes body)) (sym (drop-append_seam column.spelling types))
-      (sym (drop-append_seam column.bytes body))
+    (length column.bytes) (varint-append column.spelling types column.serial (length column.spelling) is.spelled) is.typed (sym is.sized)
+    (omega (arith, length-append column.bytes body)) (sym (take-append_seam column.bytes body)) (sym (drop-append_seam column.spelling types))
+    (sym (drop-append_seam column.bytes body))
     ∙ ap (option_map (λ values. value_of column.serial column.bytes ∷ values)) later
 
 -- a record is read as its values
@@ -72,8 +72,8 @@ found_more types body values serial n read typed held (Some rest) is found =
       rest = later.rest;
       types_are = sym (take-append-drop n types) ∙ ap (λ xs. take n types ++ xs) later.types_are;
       body_is =
-        sym (take-append-drop (size_of serial) body) ∙ ap (λ xs. take (size_of serial) body ++ xs) later.body_is
-        ∙ sym (append_assoc (take (size_of serial) body) (body_of later.columns) later.rest);
+          sym (take-append-drop (size_of serial) body) ∙ ap (λ xs. take (size_of serial) body ++ xs) later.body_is
+          ∙ sym (append_assoc (take (size_of serial) body) (body_of later.columns) later.rest);
       each = (
         record {
           spelled = varint-take types serial n read;
@@ -90,13 +90,13 @@ found_first : (types body : List ℕ) (values : List Datum) (serial n : ℕ) →
     → ((rest : List Datum) → later ≡ Some rest → Found (drop n types) (drop (size_of serial) body) rest) → Found types body values
 found_first types body values serial n read later is found =
     elim (cases_Bool (is_type serial)) [
-      inl typed ↦
-      elim (cases_lt (length body) (size_of serial)) [
-        inl short ↦ absurd (cc (rw (typed, lt-leb (size_of serial) (length body) short) at is))
-      | inr held ↦
-        found_more types body values serial n read typed held later (rw (typed, le-leb (size_of serial) (length body) held) at is) found
-      ]
-    | inr reserved ↦ absurd (cc (rw reserved at is))
+      | inl typed ↦
+          elim (cases_lt (length body) (size_of serial)) [
+            | inl short ↦ absurd (cc (rw (typed, lt-leb (size_of serial) (length body) short) at is))
+            | inr held ↦
+                found_more types body values serial n read typed held later (rw (typed, le-leb (size_of serial) (length body) held) at is) found
+          ]
+      | inr reserved ↦ absurd (cc (rw reserved at is))
     ]
 
 found_within : (most : ℕ) (types body : List ℕ) (values : List Datum) → values_within most types body ≡ Some values → Found types body values
@@ -126,16 +126,16 @@ record_of payload values size first read held within found =
     let head = take first payload in
     let types = types_of found.columns in
     let counts : size ≡ length head + length types =
-      omega (arith, length-take-le first payload (omega arith), ap length found.types_are, length-drop first (take size payload), length-take-le size payload within) in
+    omega (arith, length-take-le first payload (omega arith), ap length found.types_are, length-drop first (take size payload), length-take-le size payload within) in
     let front : take size payload ≡ head ++ types =
-      sym (take-append-drop first (take size payload)) ∙ ap₂ ◌++◌ (take-take first size payload held) found.types_are in
+    sym (take-append-drop first (take size payload)) ∙ ap₂ ◌++◌ (take-take first size payload held) found.types_are in
     record {
       head = head;
       columns = found.columns;
       rest = found.rest;
       parts =
-        sym (take-append-drop size payload) ∙ ap₂ ◌++◌ front found.body_is
-        ∙ sym (append_assoc (head ++ types) (body_of found.columns) found.rest);
+          sym (take-append-drop size payload) ∙ ap₂ ◌++◌ front found.body_is
+          ∙ sym (append_assoc (head ++ types) (body_of found.columns) found.rest);
       counted = rw (← counts) (varint-take payload size first read);
       each = found.each;
       holds = found.holds;
@@ -151,15 +151,15 @@ IsRecordOf-columns payload values is = go (varint payload) refl is
     go None read is = absurd (cc)
     go (Some (size, first)) read is =
         elim (cases_lt size first) [
-          inl short ↦ absurd (cc (rw (lt-leb first size short) at is))
-        | inr held ↦
-          elim (cases_lt (length payload) size) [
-            inl long ↦ absurd (cc (rw (le-leb first size held, lt-leb size (length payload) long) at is))
-          | inr within ↦
-            record_of payload values size first read held within
-              (found (drop first (take size payload)) (drop size payload) values
-                (rw (le-leb first size held, le-leb size (length payload) within) at is))
-          ]
+          | inl short ↦ absurd (cc (rw (lt-leb first size short) at is))
+          | inr held ↦
+              elim (cases_lt (length payload) size) [
+                | inl long ↦ absurd (cc (rw (le-leb first size held, lt-leb size (length payload) long) at is))
+                | inr within ↦
+                    record_of payload values size first read held within
+                    (found (drop first (take size payload)) (drop size payload) values
+                    (rw (le-leb first size held, le-leb size (length payload) within) at is))
+              ]
         ]
 
 pub no_record : (payload : List ℕ) → columns payload ≡ None → (values : List Datum) → ¬ IsRecordOf payload values

@@ -121,7 +121,7 @@ unfolding varint_size
 varint_size-least number = omega arith
 
 -- a spelling of fewer than nine bytes holds the number
-varint_size-holds : (number : ℕ) → varint_size number < 9 → number < 128 ^ varint_size number
+pub varint_size-holds : (number : ℕ) → varint_size number < 9 → number < 128 ^ varint_size number
 unfolding varint_size
 varint_size-holds number short =
     let at = position_or_len (λ count. nat_lt number (128 ^ count)) (range_with_len 1 8) in
@@ -132,7 +132,7 @@ varint_size-holds number short =
     rw same at fits
 
 -- and no shorter one does
-varint_size-shortest : (number count : ℕ) → 0 < count → count < varint_size number → 128 ^ count ≤ number
+pub varint_size-shortest : (number count : ℕ) → 0 < count → count < varint_size number → 128 ^ count ≤ number
 unfolding varint_size
 varint_size-shortest number count some fewer =
     let test = fails_before_first (λ count. nat_lt number (128 ^ count)) (range_with_len 1 8) (count - 1) 0 (omega arith) in
@@ -279,14 +279,14 @@ varint_len-same xs ys n size within room same =
     let place : at + 1 ≡ n = size in
     let sizes : at ≤ 8 = omega (arith, length-take 8 xs) in
     ap (λ k. k + 1) (position_or_len_is (λ byte. nat_lt byte 128) (take 8 ys) at 0
-      (omega (arith, length-take 8 ys))
-      (λ k below.
-        rw (get_or-take 8 ys k 0 (omega arith), same-at xs ys n k same (omega arith), ← get_or-take 8 xs k 0 (omega arith))
-          (fails_before_first (λ byte. nat_lt byte 128) (take 8 xs) k 0 below))
-      (λ inside.
-        let short : at < 8 = omega (arith, length-take 8 ys) in
-        rw (get_or-take 8 ys at 0 short, same-at xs ys n at same (omega arith), ← get_or-take 8 xs at 0 short)
-          (passes_at_first (λ byte. nat_lt byte 128) (take 8 xs) 0 (omega (arith, length-take 8 xs)))))
+    (omega (arith, length-take 8 ys))
+    (λ k below.
+    rw (get_or-take 8 ys k 0 (omega arith), same-at xs ys n k same (omega arith), ← get_or-take 8 xs k 0 (omega arith))
+    (fails_before_first (λ byte. nat_lt byte 128) (take 8 xs) k 0 below))
+    (λ inside.
+    let short : at < 8 = omega (arith, length-take 8 ys) in
+    rw (get_or-take 8 ys at 0 short, same-at xs ys n at same (omega arith), ← get_or-take 8 xs at 0 short)
+    (passes_at_first (λ byte. nat_lt byte 128) (take 8 xs) 0 (omega (arith, length-take 8 xs)))))
     ∙ size
 
 pub varint-same : (xs ys : List ℕ) (number n : ℕ) → varint xs ≡ Some (number, n) → n ≤ length ys → take n xs ≡ take n ys
@@ -300,7 +300,7 @@ pub varint-append : (bytes rest : List ℕ) (number n : ℕ) → varint bytes �
 varint-append bytes rest number n read =
     let is = varint-read bytes number n read in
     varint-same bytes (bytes ++ rest) number n read (omega (arith, is.within, length-append bytes rest))
-      (sym (take-append-le n bytes rest is.within))
+    (sym (take-append-le n bytes rest is.within))
 
 -- the bytes of a varint that was read are a whole one
 pub varint-take : (bytes : List ℕ) (number n : ℕ) → varint bytes ≡ Some (number, n) → IsVarintOf (take n bytes) number

@@ -10,4 +10,4 @@ pub record IsFirst (column : FirstColumn) (types body : List ℕ) : Type 0 where
   pub sized : size_of column.serial ≡ length column.bytes.now
   pub fewer : length column.later_types.now < length types
   pub values : values_in types body
-    ≡ option_map (λ values. value_of column.serial column.bytes.now ∷ values) (values_in column.later_types.now column.later_body.now)
+      ≡ option_map (λ values. value_of column.serial column.bytes.now ∷ values) (values_in column.later_types.now column.later_body.now)

@@ -3,6 +3,7 @@ pub mod Column
 pub mod Count
 pub mod Header
 pub mod Record
+pub mod Row
 pub mod Rules
 pub mod Serial
 pub mod Value

@@ -17,7 +17,7 @@ pub enum CountRefusal {
 }
 
 /// The length of the largest database that is read, in bytes.
-const LARGEST_DATABASE: u64 = 1 << 30;
+pub const LARGEST_DATABASE: u64 = 1 << 30;
 
 /// How many pages the database in a file of this length, in bytes, has. Bytes past the last page are no part of it.
 /// An empty file whose header does not say how many pages there are has none.

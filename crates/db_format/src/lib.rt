@@ -7,7 +7,9 @@ mod bytes;
 mod column;
 mod count;
 mod header;
+mod memory;
 mod record;
+mod row;
 mod serial;
 #[cfg(test)]
 mod tests;
@@ -16,8 +18,10 @@ mod varint;
 #[cfg(test)]
 mod varint_tests;
 
-pub use count::{CountRefusal, counted_pages};
+pub use count::{CountRefusal, LARGEST_DATABASE, counted_pages};
 pub use header::{Header, HeaderRefusal, read_header, write_header};
+pub use memory::OutOfMemory;
 pub use record::{LONGEST_PAYLOAD, RecordFault, RecordView};
+pub use row::{RowPieces, write_row};
 pub use value::Value;
 pub use varint::{LONGEST_VARINT, read_varint, write_varint};

@@ -1,6 +1,7 @@
 // Serial types, section 2.1.
 ghost use Rattle.std.specs.Prelude.{◌≡◌, ◌+◌, ◌-◌, ◌*◌, ◌^◌, ◌≤◌, ◌<◌, length, nat_lt, pos, negsuc, true, false, MatchOption, if◌then◌else◌};
 ghost use Rattle.db_format.specs.Value.{datum_of};
+ghost use Rattle.db_format.specs.Row.{integer_type, steps};
 ghost use Rattle.db_format.specs.Serial.{big_endian, is_type, signed, size_of, value_of};
 
 use crate::value::Value;
@@ -77,5 +78,46 @@ fn with_sign(number: u64, limit: u64) -> i64
         number as i64
     } else {
         -1 - (limit - 1 - (number - limit)) as i64
+    }
+}
+
+// The least of the types 1 to 6 that holds an integer.
+#[tactic(auto, unfolding(crate::specs::Row::integer_type))]
+pub(crate) fn integer_type(number: i64) -> u64
+    ensures least { result ≡ integer_type number }
+    ensures some { 1 ≤ result }
+    ensures few { result ≤ 6 }
+{
+    match steps(number) {
+        0..=0x7f => 1,
+        0x80..=0x7fff => 2,
+        0x8000..=0x7f_ffff => 3,
+        0x80_0000..=0x7fff_ffff => 4,
+        0x8000_0000..=0x7fff_ffff_ffff => 5,
+        _ => 6,
+    }
+}
+
+// How far an integer is from 0, or from -1 if it is negative.
+fn steps(number: i64) -> u64
+    ensures { result ≡ steps number }
+{
+    if number < 0 {
+        (-1 - number) as u64
+    } else {
+        number as u64
+    }
+}
+
+// How many bytes an integer is written with.
+#[tactic(auto, unfolding(crate::specs::Serial::size_of))]
+pub(crate) fn integer_size(number: i64) -> usize
+    ensures size { result ≡ size_of (integer_type number) }
+    ensures few { result ≤ 8 }
+{
+    match integer_type(number) {
+        5 => 6,
+        6 => 8,
+        serial => serial as usize,
     }
 }

@@ -43,7 +43,7 @@ pub fn write_varint(value: u64, out: &mut [u8; 9]) -> usize
 
 // How many bytes the shortest spelling takes.
 #[tactic(auto, unfolding(crate::specs::Varint::varint_size))]
-fn varint_size(value: u64) -> usize
+pub(crate) fn varint_size(value: u64) -> usize
     ensures size { result ≡ varint_size value }
     ensures least { 1 ≤ result }
     ensures most { result ≤ 9 }

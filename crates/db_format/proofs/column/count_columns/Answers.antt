@@ -1,4 +1,4 @@
-use Rattle.std.proofs.Common.{◌≡◌, ◌+◌, length, sym, ◌∙◌, add-zero}
+use Rattle.std.proofs.Common.{◌≡◌, length, sym, ◌∙◌, add-zero}
 use Rattle.std.proofs.lemmas.Bool.{eqb-true}
 use Rattle.db_format.proofs.RecordLemmas.{values_in-end}
 use Rattle.db_format.proofs.column.count_columns.Goals as goal

@@ -1,4 +1,4 @@
-use Rattle.std.proofs.Common.{◌≡◌, length, drop, arith, ap, sym, ◌∙◌, length-drop}
+use Rattle.std.proofs.Common.{length, arith, ap, sym, ◌∙◌, length-drop}
 use Rattle.std.proofs.lemmas.List.{take_rest}
 use Rattle.db_format.proofs.VarintLemmas.{varint-some}
 use Rattle.db_format.proofs.RecordLemmas.{values_in-first, values_in-cut, values_in-split, first_value-reserved, first_value-short}
@@ -16,7 +16,7 @@ pub returns-then-size-body : goal.returns-then-size-body
 returns-then-size-body c =
     values_in-first c.args.types.now c.args.body.now c.in-Some.serial c.in-Some.len (sym c.in-Some.ensures.read)
     ∙ first_value-short c.in-Some.serial c.args.body.now _ c.in-Some-serial_size.ensures.0
-      (omega (arith, c.in-Some-serial_size.ensures.1, c.if-size-body.true))
+    (omega (arith, c.in-Some-serial_size.ensures.1, c.if-size-body.true))
 
 pub returns : goal.returns
 returns c =
@@ -27,7 +27,7 @@ returns c =
       sized = omega (arith, c.in-Some-serial_size.ensures.1, c.split_at.ensures.front_len);
       fewer = omega (arith, ap length left, length-drop c.in-Some.len types, c.requires);
       values =
-        values_in-split types c.args.body.now _ _ _ c.in-Some.serial c.in-Some.len c.in-Some-serial_size.size (sym c.in-Some.ensures.read)
+          values_in-split types c.args.body.now _ _ _ c.in-Some.serial c.in-Some.len c.in-Some-serial_size.size (sym c.in-Some.ensures.read)
           c.in-Some-serial_size.ensures.0 c.in-Some-serial_size.ensures.1 (omega (arith, c.if-size-body.false)) c.split_at.ensures.front left
           c.split_at.ensures.back;
     }

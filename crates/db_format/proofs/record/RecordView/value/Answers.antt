@@ -1,11 +1,11 @@
-use Rattle.std.proofs.Common.{◌≡◌, ◌<◌, ◌+◌, length, drop, Some, arith, ap, sym, ◌∙◌, length-drop, drop-drop}
+use Rattle.std.proofs.Common.{drop, Some, arith, ap, sym, ◌∙◌, length-drop, drop-drop}
 use Rattle.db_format.proofs.RecordLemmas.{are_split, types-left}
 use Rattle.db_format.proofs.record.RecordView.value.Goals as goal
 
 pub first_column-requires : goal.first_column-requires
 first_column-requires c =
     types-left c.loop-earlier.types.now c.loop-earlier.body.now (drop c.loop-earlier._earlier c.args.self.now) c.loop-earlier.invariant
-      (omega (arith, length-drop c.loop-earlier._earlier c.args.self.now))
+    (omega (arith, length-drop c.loop-earlier._earlier c.args.self.now))
 
 pub loop-earlier-preserved : goal.loop-earlier-preserved
 loop-earlier-preserved c =
@@ -16,4 +16,4 @@ loop-earlier-preserved c =
 pub first_column-requires-2 : goal.first_column-requires-2
 first_column-requires-2 c =
     types-left c.loop-earlier.types.now c.loop-earlier.body.now (drop c.loop-earlier._earlier c.args.self.now) c.loop-earlier.invariant
-      (omega (arith, length-drop c.loop-earlier._earlier c.args.self.now))
+    (omega (arith, length-drop c.loop-earlier._earlier c.args.self.now))
