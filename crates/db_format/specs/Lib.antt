@@ -7,4 +7,5 @@ pub mod Row
 pub mod Rules
 pub mod Serial
 pub mod Value
+pub mod Values
 pub mod Varint

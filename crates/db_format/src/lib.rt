@@ -1,4 +1,4 @@
-//! The plain data of SQLite's database file format: the header of a database, the count of its pages, and varints.
+//! The plain data of SQLite's database file format: the header of a database, the count of its pages, varints and records.
 //!
 //! What is read are decrypted pages. Section numbers are those of SQLite's "Database File Format".
 #![tactic(auto)]
@@ -9,11 +9,14 @@ mod count;
 mod header;
 mod memory;
 mod record;
+#[cfg(test)]
+mod record_tests;
 mod row;
 mod serial;
 #[cfg(test)]
 mod tests;
 mod value;
+mod values;
 mod varint;
 #[cfg(test)]
 mod varint_tests;
@@ -24,4 +27,5 @@ pub use memory::OutOfMemory;
 pub use record::{LONGEST_PAYLOAD, RecordFault, RecordView};
 pub use row::{RowPieces, write_row};
 pub use value::Value;
+pub use values::Values;
 pub use varint::{LONGEST_VARINT, read_varint, write_varint};

@@ -8,6 +8,7 @@ ghost use Rattle.db_format.specs.Record.{IsRecordOf, columns, longest_payload, v
 use crate::column::{count_columns, first_column};
 use crate::serial::value_of;
 use crate::value::Value;
+use crate::values::Values;
 use crate::varint::read_varint;
 use std::marker::Model;
 
@@ -36,6 +37,8 @@ impl<'a> Model for RecordView<'a> {
 }
 
 impl<'a> RecordView<'a> {
+    ghost use Rattle.db_format.specs.Values.{values_left};
+
     /// Reads a record. Bytes after its last value are passed over.
     pub fn read(payload: &'a [u8]) -> Result<RecordView<'a>, RecordFault>
         requires { length payload.now ≤ longest_payload }
@@ -83,6 +86,16 @@ impl<'a> RecordView<'a> {
         match first_column(types, body) {
             Some(column) => value_of(column.serial, column.bytes),
             None => unreachable!(),
+        }
+    }
+
+    /// Its values, from the first on.
+    pub fn values(&self) -> Values<'a>
+        ensures { values_left result ≡ self.now }
+    {
+        Values {
+            types: self.types,
+            body: self.body,
         }
     }
 }
