@@ -164,3 +164,8 @@ IsRecordOf-columns payload values is = go (varint payload) refl is
 
 pub no_record : (payload : List ℕ) → columns payload ≡ None → (values : List Datum) → ¬ IsRecordOf payload values
 no_record payload none values is = absurd (cc (none, columns-IsRecordOf payload values is))
+
+-- a payload is a record of no other values
+pub same_record : (payload : List ℕ) (row : List Datum) → columns payload ≡ Some row → (values : List Datum)
+    → IsRecordOf payload values → values ≡ row
+same_record payload row read values is = cc (read, columns-IsRecordOf payload values is)

@@ -44,6 +44,7 @@ impl<'a> RecordView<'a> {
         requires { length payload.now ≤ longest_payload }
         ensures read { MatchResult result (λ row. columns payload.now ≡ Some row) (λ _. columns payload.now ≡ None) }
         ensures is_record { IfOk result (IsRecordOf payload.now) }
+        ensures only { IfOk result (λ row. (values : List Datum) → IsRecordOf payload.now values → values ≡ row) }
         ensures no_record { IfErr result (λ _. (values : List Datum) → ¬ IsRecordOf payload.now values) }
     {
         let Some((size, first)) = read_varint(payload) else {

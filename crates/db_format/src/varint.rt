@@ -28,9 +28,12 @@ pub fn read_varint(bytes: &[u8]) -> Option<(u64, usize)>
 
 /// Writes the shortest spelling of a number at the start of `out`, and returns how many bytes it takes.
 pub fn write_varint(value: u64, out: &mut [u8; 9]) -> usize
+    // The spelling stands at the start, and the bytes after it stay.
     ensures bytes { out.new ≡ varint_bytes value ++ drop result out.old }
     ensures size { result ≡ length (varint_bytes value) }
     ensures within { (1 ≤ result) × (result ≤ 9) }
+
+    // It is read back, and no spelling is shorter.
     ensures reads_back { IsVarintOf (take result out.new) value }
     ensures shortest { (bytes : List ℕ) → IsVarintOf bytes value → result ≤ length bytes }
 {

@@ -1,7 +1,7 @@
 use Rattle.std.proofs.Common.{drop, ap, sym, ◌∙◌}
 use Rattle.std.proofs.lemmas.List.{take_rest}
 use Rattle.db_format.proofs.RecordLemmas.{columns-cut, columns-short, columns-long, columns-split, some-counted, none-counted}
-use Rattle.db_format.proofs.RelationLemmas.{IsRecordOf-columns, no_record}
+use Rattle.db_format.proofs.RelationLemmas.{IsRecordOf-columns, no_record, same_record}
 use Rattle.db_format.proofs.record.RecordView.read.Goals as goal
 use Rattle.db_format.proofs.record.RecordView.read.Goals.{then-size-first-via-then-size-first, then-size-first-via-else-size-first+then-size-payload}
 
@@ -41,6 +41,9 @@ returns-in-Some-count_columns-clause-read c = held c
 
 pub returns-in-Some-count_columns-clause-is_record : goal.returns-in-Some-count_columns-clause-is_record
 returns-in-Some-count_columns-clause-is_record c = IsRecordOf-columns c.args.payload.now _ (held c)
+
+pub returns-in-Some-count_columns-clause-only : goal.returns-in-Some-count_columns-clause-only
+returns-in-Some-count_columns-clause-only c = same_record c.args.payload.now _ (held c)
 
 bad : goal.returns-in-None-clause-read
 bad c =
