@@ -3,4 +3,5 @@ pub mod RecordLemmas
 pub mod RelationLemmas
 pub mod RowLemmas
 pub mod SerialLemmas
+mod SeenLemmas
 pub mod VarintLemmas

@@ -8,4 +8,8 @@ pub mod Rules
 pub mod Serial
 pub mod Value
 pub mod Values
+pub mod MemPages
+pub mod Pages
+pub mod Seen
+pub mod Source
 pub mod Varint

@@ -1,4 +1,6 @@
 //! The plain data of SQLite's database file format: the header of a database, the count of its pages, varints and records.
+//! The plain data of SQLite's database file format: the header of a database, the count of its pages, and varints; where
+//! pages come from, marks of those that were met, and what can be wrong with their structure.
 //!
 //! What is read are decrypted pages. Section numbers are those of SQLite's "Database File Format".
 #![tactic(auto)]
@@ -6,6 +8,7 @@
 mod bytes;
 mod column;
 mod count;
+mod defect;
 mod header;
 mod memory;
 mod record;
@@ -13,6 +16,10 @@ mod record;
 mod record_tests;
 mod row;
 mod serial;
+mod mem_pages;
+mod seen;
+mod source;
+mod source_tests;
 #[cfg(test)]
 mod tests;
 mod value;
@@ -28,4 +35,9 @@ pub use record::{LONGEST_PAYLOAD, RecordFault, RecordView};
 pub use row::{RowPieces, write_row};
 pub use value::Value;
 pub use values::Values;
+pub use bytes::{u16_at, u32_at};
+pub use defect::Defect;
+pub use mem_pages::{MemPages, NoPage};
+pub use seen::Seen;
+pub use source::PageSource;
 pub use varint::{LONGEST_VARINT, read_varint, write_varint};
