@@ -71,7 +71,8 @@ module _ (kind : Kind) (bytes : List ℕ) (header : ℕ) where
         (is_there i below)
 
 -- how a page of this kind reads, whose array lies on it
-module _ (n : ℕ) (plain bytes : List ℕ) (header : ℕ) (kind : Kind) (same : bytes ≡ plain) (place : header ≡ header_at n) (kind_is : kind_at n plain ≡ Some kind) where
+module _ (n : ℕ) (plain bytes : List ℕ) (header : ℕ) (kind : Kind) (same : bytes ≡ plain) (place : header ≡ header_at n)
+    (kind_is : kind_at n plain ≡ Some kind) where
   by_kind : read_page n plain ≡ read_kind bytes header kind
   by_kind = ap (read_any plain (header_at n)) kind_is ∙ ap (λ h. read_kind plain h kind) (sym place) ∙ ap (λ b. read_kind b header kind) (sym same)
 

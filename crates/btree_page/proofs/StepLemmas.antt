@@ -43,20 +43,23 @@ double-is zero = refl
 double-is (suc h) = let rest : double h ≡ 2 * h = double-is h in omega arith
 
 module _ (right : Option ℕ) where
-  leaf-step : (cells : List Cell) → AreOf false cells → (i : ℕ) (c : Cell) → slice_get cells i ≡ Some c → slice_get (steps cells right) i ≡ Some (cell_step c false)
+  leaf-step : (cells : List Cell) → AreOf false cells → (i : ℕ) (c : Cell) → slice_get cells i ≡ Some c
+      → slice_get (steps cells right) i ≡ Some (cell_step c false)
   leaf-step [] leaves i c is = absurd (let within = slice_get_within [] i c is in omega arith)
   leaf-step (d ∷ cells) leaves zero c is = rw (leaf-cons d cells right (leaves 0 d refl)) (ap (option_map (λ c. cell_step c false)) is)
   leaf-step (d ∷ cells) leaves (suc i) c is =
       rw (leaf-cons d cells right (leaves 0 d refl)) (leaf-step cells (λ k. leaves (suc k)) i c is)
 
-  first-step : (cells : List Cell) → AreOf true cells → (h : ℕ) (c : Cell) → slice_get cells h ≡ Some c → slice_get (steps cells right) (double h) ≡ Some (cell_step c false)
+  first-step : (cells : List Cell) → AreOf true cells → (h : ℕ) (c : Cell) → slice_get cells h ≡ Some c
+      → slice_get (steps cells right) (double h) ≡ Some (cell_step c false)
   unfolding double
   first-step [] interior h c is = absurd (let within = slice_get_within [] h c is in omega arith)
   first-step (d ∷ cells) interior zero c is = rw (interior-cons d cells right (interior 0 d refl)) (ap (option_map (λ c. cell_step c false)) is)
   first-step (d ∷ cells) interior (suc h) c is =
       rw (interior-cons d cells right (interior 0 d refl)) (first-step cells (λ k. interior (suc k)) h c is)
 
-  second-step : (cells : List Cell) → AreOf true cells → (h : ℕ) (c : Cell) → slice_get cells h ≡ Some c → slice_get (steps cells right) (suc (double h)) ≡ Some (cell_step c true)
+  second-step : (cells : List Cell) → AreOf true cells → (h : ℕ) (c : Cell) → slice_get cells h ≡ Some c
+      → slice_get (steps cells right) (suc (double h)) ≡ Some (cell_step c true)
   unfolding double
   second-step [] interior h c is = absurd (let within = slice_get_within [] h c is in omega arith)
   second-step (d ∷ cells) interior zero c is = rw (interior-cons d cells right (interior 0 d refl)) (ap (option_map (λ c. cell_step c true)) is)
@@ -118,16 +121,19 @@ mapped : {X : Type 0} (f : X → Cell) (o : Option X) (c : Cell) (b : Bool) → 
 mapped f None c b all is = cc
 mapped f (Some x) c b all is = let same : f x ≡ c = cc in ap has_child (sym same) ∙ all x
 
-chained : {X : Type 0} (f : X → Option Cell) (o : Option X) (c : Cell) (b : Bool) → ((x : X) → f x ≡ Some c → has_child c ≡ b) → option_and_then f o ≡ Some c → has_child c ≡ b
+chained : {X : Type 0} (f : X → Option Cell) (o : Option X) (c : Cell) (b : Bool) → ((x : X) → f x ≡ Some c → has_child c ≡ b)
+    → option_and_then f o ≡ Some c → has_child c ≡ b
 chained f None c b all is = cc
 chained f (Some x) c b all is = all x is
 
 pub kind-cell : (kind : Kind) (usable : ℕ) (bytes : List ℕ) (c : Cell) → cell_of kind usable bytes ≡ Some c → has_child c ≡ is_interior kind
 kind-cell TableLeaf usable bytes c is =
-    chained _ (sized bytes) c false (λ size. chained _ (keyed size.1) c false (λ key. mapped _ (stored_of Table usable size.0 key.1) c false (λ stored. refl))) is
+    chained _ (sized bytes) c false (λ size. chained _ (keyed size.1) c false
+    (λ key. mapped _ (stored_of Table usable size.0 key.1) c false (λ stored. refl))) is
 kind-cell TableInterior usable bytes c is =
     chained _ (childed bytes) c true (λ left. mapped _ (keyed left.1) c true (λ key. refl)) is
 kind-cell IndexLeaf usable bytes c is =
     chained _ (sized bytes) c false (λ size. mapped _ (stored_of Index usable size.0 size.1) c false (λ stored. refl)) is
 kind-cell IndexInterior usable bytes c is =
-    chained _ (childed bytes) c true (λ left. chained _ (sized left.1) c true (λ size. mapped _ (stored_of Index usable size.0 size.1) c true (λ stored. refl))) is
+    chained _ (childed bytes) c true (λ left. chained _ (sized left.1) c true
+    (λ size. mapped _ (stored_of Index usable size.0 size.1) c true (λ stored. refl))) is

@@ -43,7 +43,9 @@ stored_of family usable size bytes =
     let local = local_len family usable size in
     if nat_le size local
     then (if nat_le local (length bytes) then Some (record { size = size; local = take local bytes; first = 0 }) else None)
-    else (if nat_le (local + 4) (length bytes) then Some (record { size = size; local = take local bytes; first = u32_at bytes local }) else None)
+    else (if nat_le (local + 4) (length bytes)
+    then Some (record { size = size; local = take local bytes; first = u32_at bytes local })
+    else None)
 
 -- the length of a payload, and what follows it; none where it is too long to be read
 abbrev pub sized : List ℕ → Option (ℕ × List ℕ)

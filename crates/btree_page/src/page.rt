@@ -37,7 +37,8 @@ impl<'a> Model for PageView<'a> {
 
     ghost view = { λ page. node_at page.array.kind page.array.bytes.now page.array.header };
 
-    ghost invariant = { λ page. first_lost page.array.kind page.array.bytes.now page.array.header ≡ cell_count page.array.bytes.now page.array.header };
+    ghost invariant = { λ page. first_lost page.array.kind page.array.bytes.now page.array.header
+        ≡ cell_count page.array.bytes.now page.array.header };
 }
 
 impl<'a> PageView<'a> {

@@ -3,6 +3,7 @@ ghost use Rattle.std.specs.Prelude.{◌≡◌, ◌≤◌, ◌+◌, ◌-◌, leng
 ghost use Rattle.std.specs.Option.{option_map};
 ghost use Rattle.db_format.specs.Pages.{IsUsable};
 ghost use Rattle.btree_page.specs.Cell.{stored_of};
+ghost use Rattle.btree_page.specs.Shown.{payload_shown};
 ghost use Rattle.btree_page.specs.Payload.{family_if, least_local, local_len, max_payload, most_local};
 
 use db_format::u32_at;
@@ -57,7 +58,7 @@ pub fn read_payload<'a>(
     bytes: &'a [u8],
 ) -> Option<Payload<'a>>
     requires { IsUsable usable }
-    ensures { option_map (λ payload. record { size = payload.length; local = payload.local.now; first = payload.first }) result ≡ stored_of (family_if table) usable length bytes.now }
+    ensures { option_map payload_shown result ≡ stored_of (family_if table) usable length bytes.now }
 {
     let local = local_len(table, usable, length);
     if length <= local as u64 {

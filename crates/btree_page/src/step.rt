@@ -69,7 +69,8 @@ fn is_second(interior: bool, index: u32) -> bool
 
 // What an interior page leads to behind its cells: its right child, then nothing.
 fn last_step<'a>(array: &CellArray<'a>, index: u32) -> Step<'a>
-    ensures { step_shown result ≡ (if index == 2 * array.now.count then Some (child (u32_at array.now.bytes.now (array.now.header + 8))) else None) }
+    ensures { step_shown result
+        ≡ (if index == 2 * array.now.count then Some (child (u32_at array.now.bytes.now (array.now.header + 8))) else None) }
 {
     if index as u64 == 2 * array.count() as u64 {
         Step::Child(array.right())

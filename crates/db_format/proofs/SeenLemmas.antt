@@ -1,23 +1,16 @@
--- One bit set.
-use Rattle.std.proofs.Common.{◌≡◌, ℕ, zero, suc, ◌+◌, ◌*◌, ◌/◌, ◌%◌, ◌^◌, ◌<◌, ◌≤◌, Bool, true, false, List, [], ◌∷◌, ◌==◌, length, slice_index, slice_index_or, slice_set, if◌then◌else◌, arith, refl, ap, sym, subst, ◌∙◌}
+-- Marks: one bit set, every other bit as it was.
+use Rattle.std.proofs.Common.{◌≡◌, ℕ, zero, suc, ◌+◌, ◌*◌, ◌/◌, ◌%◌, ◌^◌, ◌<◌, ◌≤◌, Bool, true, false, List, [], ◌∷◌, ◌==◌, length, slice_index, slice_index_or, slice_set, replicate, if◌then◌else◌, arith, rules, w8, refl, ap, sym, subst, ◌∙◌}
 use Rattle.std.specs.Int.{bit_at}
+use Rattle.std.specs.Prelude.{bit_or, nat_lt}
+use Rattle.std.proofs.lemmas.Bool.{eqb-true, eqb-false, ltb-true, ltb-false}
 use Rattle.std.proofs.lemmas.Grind.{common_steps}
-use Rattle.std.specs.Prelude.{bit_or}
-use Rattle.std.proofs.Common.{rules}
+use Rattle.std.proofs.lemmas.List.{get_or-set_same, get_or-set_other, get_or-replicate, get_or_past, length-replicate}
 use Rattle.std.proofs.lemmas.List.Sums.{sum_by-cons}
-use Rattle.std.proofs.Common.{w8}
-use Rattle.std.proofs.lemmas.Bool.{eqb-true, eqb-false}
-use Rattle.std.proofs.lemmas.List.{get_or-set_same, get_or-set_other}
-use Rattle.std.proofs.lemmas.Nat.Bits.{bit_at_set_same, bit_at_set_other}
-use Rattle.db_format.specs.Pages.{also, nothing}
+use Rattle.std.proofs.lemmas.Nat.Bits.{bit_at_set_same, bit_at_set_other, bit_at-zero}
 use Rattle.std.proofs.Math.Path.{fun_ext}
-use Rattle.std.proofs.lemmas.Bool.{ltb-true, ltb-false}
-use Rattle.std.specs.Prelude.{nat_lt}
-use Rattle.std.proofs.lemmas.List.{get_or-replicate, get_or_past, length-replicate}
-use Rattle.std.proofs.Common.{replicate}
-use Rattle.std.proofs.lemmas.Nat.Bits.{bit_at-zero}
-use Rattle.db_format.specs.Seen.{marked, open_count}
-use Rattle.db_format.specs.Seen.{bit_of, bits_from}
+use Rattle.db_format.specs.Pages.{also, nothing}
+use Rattle.db_format.specs.Seen.{bit_of, bits_from, marked, open_count}
+use Rattle.db_format.specs.declared.seen.Seen.TheInside.{Inside}
 
 pub length-bits : (bytes : List ℕ) (at more : ℕ) → length (bits_from bytes at more) ≡ more
 length-bits bytes at zero = refl
@@ -59,7 +52,8 @@ put_here bytes n h =
     ap (λ b. bit_at b (n % 8) == 1) (get_or-set_same bytes (n / 8) (bit_or (slice_index bytes (n / 8)) (1 * 2 ^ (n % 8) % 2 ^ 8)) 0 h)
     ∙ ap (λ v. v == 1) (bit_at_set_same w8 (slice_index bytes (n / 8)) (n % 8) small)
 
-others_by : (bytes : List ℕ) (n m : ℕ) (b : Bool) → (m / 8 == n / 8) ≡ b → n / 8 < length bytes → (m ≡ n → ⊥) → bit_of (put bytes n) m ≡ bit_of bytes m
+others_by : (bytes : List ℕ) (n m : ℕ) (b : Bool) → (m / 8 == n / 8) ≡ b → n / 8 < length bytes → (m ≡ n → ⊥)
+    → bit_of (put bytes n) m ≡ bit_of bytes m
 others_by bytes n m true e h other =
     let same : m / 8 ≡ n / 8 = eqb-true _ _ e in
     let apart : m % 8 ≡ n % 8 → ⊥ = λ z. other (omega arith) in
@@ -69,7 +63,8 @@ others_by bytes n m true e h other =
     ∙ ap (λ v. v == 1) (bit_at_set_other w8 (slice_index bytes (n / 8)) (n % 8) small (m % 8) apart)
     ∙ ap (λ k. bit_at (slice_index bytes k) (m % 8) == 1) (sym same)
 others_by bytes n m false e h other =
-    ap (λ b. bit_at b (m % 8) == 1) (get_or-set_other bytes (n / 8) (m / 8) (bit_or (slice_index bytes (n / 8)) (1 * 2 ^ (n % 8) % 2 ^ 8)) 0 (λ z. eqb-false _ _ e z))
+    ap (λ b. bit_at b (m % 8) == 1)
+    (get_or-set_other bytes (n / 8) (m / 8) (bit_or (slice_index bytes (n / 8)) (1 * 2 ^ (n % 8) % 2 ^ 8)) 0 (λ z. eqb-false _ _ e z))
 
 pub put_others : (bytes : List ℕ) (n m : ℕ) → n / 8 < length bytes → (m ≡ n → ⊥) → bit_of (put bytes n) m ≡ bit_of bytes m
 put_others bytes n m h other = others_by bytes n m _ refl h other
@@ -91,28 +86,34 @@ open_set (b ∷ marks) (suc n) h fresh =
     let two : open_count (b ∷ marks) ≡ (if b then 0 else 1) + open_count marks = sum_by-cons _ b marks in
     omega arith
 
--- a view and its bytes
-module _ (now : List Bool) (items : List ℕ) (size n : ℕ) (view : now ≡ bits_from items 0 size) where
-  pub long : length now ≡ size
-  long = ap length view ∙ length-bits items 0 size
+-- marks whose fields are these
+module _ (inside : Inside) (now : List Bool) (view : bits_from inside.bytes.items 0 inside.size ≡ now) (n : ℕ) where
+  size_is : length now ≡ inside.size
+  size_is = sym (ap length view) ∙ length-bits inside.bytes.items 0 inside.size
 
-  pub room : (bytes : List ℕ) → bytes ≡ items → n < size → size ≤ 8 * length items → n / 8 < length bytes
-  room bytes same less enough = let e : length bytes ≡ length items = ap length same in omega arith
+  pub within : n < length now → n < inside.size
+  within less = let size : length now ≡ inside.size = size_is in omega arith
 
-  pub has_bit : (bytes : List ℕ) → bytes ≡ items → n < size → bit_of bytes n ≡ marked now n
+  pub room : (bytes : List ℕ) → bytes ≡ inside.bytes.items → n < inside.size → inside.size ≤ 8 * length inside.bytes.items
+      → n / 8 < length bytes
+  room bytes same less enough = let e : length bytes ≡ length inside.bytes.items = ap length same in omega arith
+
+  pub has_bit : (bytes : List ℕ) → bytes ≡ inside.bytes.items → n < inside.size → bit_of bytes n ≡ marked now n
   has_bit bytes same less =
       let z : 0 + n ≡ n = omega arith in
-      ap (λ b. bit_of b n) same ∙ ap (bit_of items) (sym z) ∙ sym (get-bits items 0 size n less) ∙ ap (λ l. marked l n) (sym view)
+      ap (λ b. bit_of b n) same ∙ ap (bit_of inside.bytes.items) (sym z)
+      ∙ sym (get-bits inside.bytes.items 0 inside.size n less) ∙ ap (λ l. marked l n) view
 
-  pub past : size ≤ n → marked now n ≡ false
-  past behind = get_or_past now n false (let l : length now ≡ size = long in omega arith)
+  pub past : inside.size ≤ n → marked now n ≡ false
+  past behind = get_or_past now n false (let size : length now ≡ inside.size = size_is in omega arith)
 
-  pub set_view : (bytes new : List ℕ) → bytes ≡ items → n < size → bit_of new n ≡ true
-      → ((m : ℕ) → (m ≡ n → ⊥) → bit_of new m ≡ bit_of bytes m) → bits_from new 0 size ≡ slice_set now n true
+  pub set_view : (bytes new : List ℕ) → bytes ≡ inside.bytes.items → n < inside.size → bit_of new n ≡ true
+      → ((m : ℕ) → (m ≡ n → ⊥) → bit_of new m ≡ bit_of bytes m) → bits_from new 0 inside.size ≡ slice_set now n true
   set_view bytes new same less here others =
       let z : 0 + n ≡ n = omega arith in
-      set-bits items new 0 size n less (ap (bit_of new) z ∙ here) (λ m other. others m (λ e. other (e ∙ sym z)) ∙ ap (λ b. bit_of b m) same)
-      ∙ ap (λ l. slice_set l n true) (sym view)
+      set-bits inside.bytes.items new 0 inside.size n less (ap (bit_of new) z ∙ here)
+      (λ m other. others m (λ e. other (e ∙ sym z)) ∙ ap (λ b. bit_of b m) same)
+      ∙ ap (λ l. slice_set l n true) view
 
 -- no bit is set
 zero_at : (k i : ℕ) (b : Bool) → nat_lt i k ≡ b → slice_index (replicate k 0) i ≡ 0

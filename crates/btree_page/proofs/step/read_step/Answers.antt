@@ -16,7 +16,8 @@ returns-in-Some-clause-step c page reads =
     let place = c.in_ok-array.ensures.place in
     let all = whole c.args.n c.args.plain.now array.bytes.now array.header array.kind place.0 place.1 c.in_ok-array.ensures.kind array.inside page reads in
     let interior : c.is_interior-interior.result ≡ is_interior array.kind = c.is_interior-interior.ensures ∙ ap is_interior c.kind.ensures in
-    let at : c.cell_index-at.result ≡ cell_index (is_interior array.kind) c.args.index = c.cell_index-at.ensures ∙ ap (λ i. cell_index i c.args.index) interior in
+    let at : c.cell_index-at.result ≡ cell_index (is_interior array.kind) c.args.index =
+    c.cell_index-at.ensures ∙ ap (λ i. cell_index i c.args.index) interior in
     let there : cell_at array.kind array.bytes.now array.header (cell_index (is_interior array.kind) c.args.index) ≡ Some (cell_shown c.in-Some.cell) =
     ap (cell_at array.kind array.bytes.now array.header) (sym at) ∙ sym c.cell.ensures.read ∙ ap (option_map cell_shown) c.in-Some.is in
     let below : cell_index (is_interior array.kind) c.args.index < cell_count array.bytes.now array.header = omega (arith, array.counted, at) in

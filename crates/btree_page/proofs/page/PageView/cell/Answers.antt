@@ -19,7 +19,8 @@ unreachable-requires c =
     let size = count-cells array.kind array.bytes.now array.header c.self.invariant in
     let view = ap (λ node. length node.cells) c.self.view_is in
     let below : c.args.index < cell_count array.bytes.now array.header = omega (arith, size, view, c.requires) in
-    let there : is_none (cell_at array.kind array.bytes.now array.header c.args.index) ≡ false = is_there array.kind array.bytes.now array.header c.self.invariant c.args.index below in
+    let there : is_none (cell_at array.kind array.bytes.now array.header c.args.index) ≡ false =
+    is_there array.kind array.bytes.now array.header c.self.invariant c.args.index below in
     let lost : option_map cell_shown c.cell.result ≡ None = ap (option_map cell_shown) c.in-None.is in
     let gone : true ≡ false = ap is_none (sym (sym c.cell.ensures.read ∙ lost)) ∙ there in
     absurd (cc gone)

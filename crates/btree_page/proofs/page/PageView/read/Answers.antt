@@ -30,4 +30,5 @@ pub returns : goal.returns
 returns c =
     let array = c.in_ok-array.array in
     let place = c.in_ok-array.ensures.place in
-    sym (reads_whole c.args.n c.args.plain.now array.bytes.now array.header array.kind place.0 place.1 c.in_ok-array.ensures.kind array.inside (invariant_of-result c))
+    sym (reads_whole c.args.n c.args.plain.now array.bytes.now array.header array.kind place.0 place.1
+    c.in_ok-array.ensures.kind array.inside (invariant_of-result c))
