@@ -18,7 +18,8 @@ u32_back n small = omega arith
 pub header_is : (count nonce initial sector size : ℕ) → is_header (header_bytes count nonce initial sector size) ≡ true
 header_is count nonce initial sector size = refl
 
-pub header_fields : (header : SegmentHeader) → header.count < 4294967296 → header.nonce < 4294967296 → header.initial < 4294967296 → header.sector < 4294967296 → header.page_size < 4294967296
+pub header_fields : (header : SegmentHeader) → header.count < 4294967296 → header.nonce < 4294967296 → header.initial < 4294967296
+    → header.sector < 4294967296 → header.page_size < 4294967296
     → HasFields (header_bytes header.count header.nonce header.initial header.sector header.page_size) header
 header_fields header count nonce initial sector size =
     (sym (u32_back header.count count), sym (u32_back header.nonce nonce), sym (u32_back header.initial initial), sym (u32_back header.sector sector), sym (u32_back header.page_size size))
@@ -34,8 +35,10 @@ just_behind xs ys p is = let e : p ≡ p + 0 = omega arith in ap (λ (n : ℕ). 
 
 pub u32_behind : (xs : List ℕ) (s p : ℕ) → p ≡ length xs → s < 4294967296 → u32_at p (xs ++ u32_bytes s) ≡ s
 u32_behind xs s p is small =
-    ap (λ (a : ℕ). joined a (get_or (xs ++ u32_bytes s) (p + 1) 0) (get_or (xs ++ u32_bytes s) (p + 2) 0) (get_or (xs ++ u32_bytes s) (p + 3) 0)) (just_behind xs (u32_bytes s) p is)
-    ∙ ap (λ (b : ℕ). joined (s / 16777216 % 256) b (get_or (xs ++ u32_bytes s) (p + 2) 0) (get_or (xs ++ u32_bytes s) (p + 3) 0)) (behind xs (u32_bytes s) p 1 is)
+    ap (λ (a : ℕ). joined a (get_or (xs ++ u32_bytes s) (p + 1) 0) (get_or (xs ++ u32_bytes s) (p + 2) 0) (get_or (xs ++ u32_bytes s) (p + 3) 0))
+    (just_behind xs (u32_bytes s) p is)
+    ∙ ap (λ (b : ℕ). joined (s / 16777216 % 256) b (get_or (xs ++ u32_bytes s) (p + 2) 0) (get_or (xs ++ u32_bytes s) (p + 3) 0))
+    (behind xs (u32_bytes s) p 1 is)
     ∙ ap (λ (c : ℕ). joined (s / 16777216 % 256) (s / 65536 % 256) c (get_or (xs ++ u32_bytes s) (p + 3) 0)) (behind xs (u32_bytes s) p 2 is)
     ∙ ap (λ (d : ℕ). joined (s / 16777216 % 256) (s / 65536 % 256) (s / 256 % 256) d) (behind xs (u32_bytes s) p 3 is)
     ∙ u32_back s small

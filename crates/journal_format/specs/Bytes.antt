@@ -3,7 +3,8 @@ use Rattle.std.specs.Prelude.{ℕ, ◌+◌, ◌*◌, ◌/◌, ◌%◌, List, [],
 
 -- the number in the four bytes from `at` on
 abbrev pub u32_at : ℕ → List ℕ → ℕ
-u32_at at bytes = slice_index bytes at * 16777216 + slice_index bytes (at + 1) * 65536 + slice_index bytes (at + 2) * 256 + slice_index bytes (at + 3)
+u32_at at bytes =
+    slice_index bytes at * 16777216 + slice_index bytes (at + 1) * 65536 + slice_index bytes (at + 2) * 256 + slice_index bytes (at + 3)
 
 -- a number as four bytes
 abbrev pub u32_bytes : ℕ → List ℕ

@@ -37,13 +37,17 @@ damaged : pages_of (played 8 (first ++ replicate 16 0 ++ 0 ∷ second)) ≡ 2 �
 damaged = refl
 
 -- count 5 and one whole record, and then 5 bytes of a second
-short : pages_of (played 8 (header_bytes 5 5 4 32 8 ++ replicate 4 0 ++ record_bytes 5 2 (replicate 8 9) ++ replicate 5 1)) ≡ 2 ∷ []
+short : pages_of (played 8 (header_bytes 5 5 4 32 8 ++ replicate 4 0 ++ record_bytes 5 2 (replicate 8 9) ++ replicate 5 1))
+    ≡ 2 ∷ []
 short = refl
 
 -- count ffffffff, two whole records and 5 bytes more
-open_ended : pages_of (played 8 (header_bytes 4294967295 5 4 32 8 ++ replicate 4 0 ++ record_bytes 5 2 (replicate 8 9) ++ record_bytes 5 3 (replicate 8 9) ++ replicate 5 1)) ≡ 2 ∷ 3 ∷ []
+open_ended : pages_of (played 8 (header_bytes 4294967295 5 4 32 8 ++ replicate 4 0
+    ++ record_bytes 5 2 (replicate 8 9) ++ record_bytes 5 3 (replicate 8 9) ++ replicate 5 1)) ≡ 2 ∷ 3 ∷ []
 open_ended = refl
 
 -- a number above the initial size is passed over; number 0 ends it
-above : pages_of (played 8 (header_bytes 4 5 4 32 8 ++ replicate 4 0 ++ record_bytes 5 9 (replicate 8 9) ++ record_bytes 5 3 (replicate 8 9) ++ record_bytes 5 0 (replicate 8 9) ++ record_bytes 5 1 (replicate 8 9))) ≡ 3 ∷ []
+above : pages_of (played 8 (header_bytes 4 5 4 32 8 ++ replicate 4 0
+    ++ record_bytes 5 9 (replicate 8 9) ++ record_bytes 5 3 (replicate 8 9)
+    ++ record_bytes 5 0 (replicate 8 9) ++ record_bytes 5 1 (replicate 8 9))) ≡ 3 ∷ []
 above = refl

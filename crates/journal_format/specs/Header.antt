@@ -45,7 +45,9 @@ page_size_at at journal = u32_at 24 (head_at at journal)
 
 -- the sector sizes: the powers of two from 32 to 65,536
 abbrev pub is_sector : ℕ → Bool
-is_sector n = n == 32 || n == 64 || n == 128 || n == 256 || n == 512 || n == 1024 || n == 2048 || n == 4096 || n == 8192 || n == 16384 || n == 32768 || n == 65536
+is_sector n =
+    n == 32 || n == 64 || n == 128 || n == 256 || n == 512 || n == 1024 || n == 2048 || n == 4096
+    || n == 8192 || n == 16384 || n == 32768 || n == 65536
 
 -- the 28 bytes of a header with these fields
 abbrev pub header_bytes : ℕ → ℕ → ℕ → ℕ → ℕ → List ℕ

@@ -42,11 +42,13 @@ abbrev pub is_sound : ℕ → List ℕ → Bool
 is_sound nonce bytes = not (page_of bytes == 0) && u32_at (length bytes - 4) bytes == sum_of nonce (image_of bytes)
 
 abbrev pub record_at : ℕ → List ℕ → Place → Record
-record_at size journal place = record { page = page_of (bytes_at size journal place); image = image_of (bytes_at size journal place) }
+record_at size journal place =
+    record { page = page_of (bytes_at size journal place); image = image_of (bytes_at size journal place) }
 
 -- the record is whole and sound
 abbrev pub is_good : ℕ → List ℕ → Place → Bool
-is_good size journal place = length (bytes_at size journal place) == size + 8 && is_sound place.nonce (bytes_at size journal place)
+is_good size journal place =
+    length (bytes_at size journal place) == size + 8 && is_sound place.nonce (bytes_at size journal place)
 
 -- the bytes of a record
 abbrev pub record_bytes : ℕ → ℕ → List ℕ → List ℕ

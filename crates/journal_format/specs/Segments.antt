@@ -26,7 +26,8 @@ ends_super_by sector end front tail =
     && nat_le 1 (u32_at 0 tail) && nat_le (u32_at 0 tail) (end - sector - 16)
 
 abbrev pub names_super : List ℕ → Bool
-names_super journal = ends_super_by (sector_at 0 journal) (length journal) (take 44 journal) (take 16 (drop (length journal - 16) journal))
+names_super journal =
+    ends_super_by (sector_at 0 journal) (length journal) (take 44 journal) (take 16 (drop (length journal - 16) journal))
 
 -- the least multiple of a unit that is no less than the number
 abbrev pub rounded_up : ℕ → ℕ → ℕ
@@ -54,7 +55,8 @@ places_from zero size sector at journal = []
 places_from (suc more) size sector at journal =
     if has_header at journal
     then places_of (sought size sector at journal) size (nonce_at at journal) (at + sector)
-    ++ (if is_open_ended at journal then [] else places_from more size sector (rounded_up sector (at + sector + sought size sector at journal * (size + 8))) journal)
+    ++ (if is_open_ended at journal then []
+    else places_from more size sector (rounded_up sector (at + sector + sought size sector at journal * (size + 8))) journal)
     else []
 
 -- the places of the whole journal. A segment has a byte, so there are no more of them than bytes.
@@ -64,7 +66,8 @@ places size journal = places_from (length journal) size (sector_at 0 journal) 0 
 -- the records at these places, up to the first that is not good
 abbrev pub good_front : ℕ → List ℕ → List Place → List Record
 good_front size journal [] = []
-good_front size journal (place ∷ rest) = if is_good size journal place then record_at size journal place ∷ good_front size journal rest else []
+good_front size journal (place ∷ rest) =
+    if is_good size journal place then record_at size journal place ∷ good_front size journal rest else []
 
 -- What a hot journal plays, in order: the good records up to the first that is not, without those of pages above the initial
 -- size. Sector size and initial size are the first header's.
