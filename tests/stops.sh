@@ -1,0 +1,75 @@
+#!/usr/bin/env bash
+# Stops the built program at each of its writing calls of the system, and then lets it run to its end: it must leave the
+# files that a run without a stop leaves. It is skipped, with a line that says so, where strace is missing or cannot trace.
+#
+#     tests/stops.sh FILE WORDS.. < KEYS
+#
+# FILE and the files beside it (FILE-journal, FILE-migrated) stay as they are; copies of them are worked on. The words are
+# those of a command that may be run again and then makes the same files, as `recover` is. PROGRAM names another program.
+set -u
+top=$(cd "$(dirname "$0")/.." && pwd) || exit 1
+program=${PROGRAM:-$top/out/sqlcipher-tool}
+if [ $# -lt 2 ]; then
+    echo "stops: FILE and the words of a command are missing"
+    exit 1
+fi
+file=$(readlink -f "$1")
+shift
+folder=$(mktemp -d) || exit 1
+trap 'rm -rf "$folder"' EXIT
+cat > "$folder/keys"
+
+if ! strace -qq -o /dev/null true 2> /dev/null; then
+    echo "stops: skipped, since strace is missing or cannot trace"
+    exit 0
+fi
+if [ ! -x "$program" ]; then
+    echo "stops: $program is not built"
+    exit 1
+fi
+
+# The calls that change a file or a folder, or sync one. An open counts where it may make a file.
+writing=openat,open,creat,write,pwrite64,writev,pwritev,ftruncate,fsync,fdatasync,unlink,unlinkat,rename,renameat,renameat2
+
+place() { # place FOLDER: the files as they were
+    mkdir "$folder/$1" && cp "$file" "$folder/$1/file" || exit 1
+    for beside in journal migrated; do
+        [ ! -e "$file-$beside" ] || cp "$file-$beside" "$folder/$1/file-$beside" || exit 1
+    done
+}
+
+place whole
+(cd "$folder/whole" && strace -f -qq -o "$folder/calls" -e trace="$writing" "$program" file "$@" \
+    < "$folder/keys" > "$folder/lines")
+status=$?
+if [ "$status" -ne 0 ]; then
+    echo "stops: without a stop the program ends with $status"
+    exit 1
+fi
+
+# NAME NUMBER for each call that writes, numbered among those of its name, as strace counts them
+sed -E 's/^[0-9]+ +//' "$folder/calls" | awk -F'(' '
+    { seen[$1]++ }
+    $1 ~ /^open/ && !/O_CREAT/ { next }
+    /^[a-z]/ { print $1, seen[$1] }' > "$folder/stops"
+
+stopped=0
+differ=0
+while read -r name number; do
+    place stopped
+    # The call is not made, and the program is killed there.
+    { (cd "$folder/stopped" && strace -f -qq -o /dev/null -e trace="$name" \
+        -e inject="$name:error=EIO:signal=KILL:when=$number" "$program" file "$@" < "$folder/keys" > /dev/null) } 2> /dev/null
+    killed=$?
+    (cd "$folder/stopped" && "$program" file "$@" < "$folder/keys" > /dev/null)
+    status=$?
+    stopped=$((stopped + 1))
+    if [ "$killed" -ne 137 ] || [ "$status" -ne 0 ] || ! diff -r "$folder/whole" "$folder/stopped" > /dev/null; then
+        differ=$((differ + 1))
+        echo "stops: $name $number: stopped with $killed, then ended with $status, or the files differ"
+    fi
+    rm -rf "$folder/stopped"
+done < "$folder/stops"
+
+echo "stops: $stopped stops of $*, $differ that differ"
+[ "$stopped" -gt 0 ] && [ "$differ" -eq 0 ]
