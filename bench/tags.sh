@@ -1,12 +1,18 @@
 #!/usr/bin/env bash
 # Times `tags 4` on a file of 100 MiB beside the plain SHA-512 of as many bytes, the derivation of each profile's keys, and
 # pages opened and sealed; beside them, in the same run, their peers: openssl, and Python's hashlib for the derivations.
-# Needs rt and python3; without openssl, its line is left out.
+# Needs rt and python3; without openssl, its line is left out. Each time is that of a whole run, its start of about a
+# millisecond among it.
 set -eu
 cd "$(dirname "$0")/.."
+command -v python3 > /dev/null || { echo "tags.sh: python3 is missing" >&2; exit 1; }
 if grep -qw avx2 /proc/cpuinfo; then cpu=x86-64-v3; else cpu=x86-64-v2; fi
 ./sqlcipher-tool --version > /dev/null
-(cd crates/page_bench && rt run --cpu "$cpu" > /dev/null 2>&1) || { echo "tags.sh: rt run does not build page_bench" >&2; exit 1; }
+said=$(cd crates/page_bench && rt run --cpu "$cpu" 2>&1) || {
+    echo "$said" >&2
+    echo "tags.sh: rt run does not build page_bench" >&2
+    exit 1
+}
 echo "built for $cpu"
 exec python3 - <<'PYTHON'
 import hashlib, hmac, os, shutil, subprocess, tempfile, time
@@ -56,7 +62,6 @@ with tempfile.TemporaryDirectory() as folder:
         out.write(source.read(4096))
     tags = least(["./out/sqlcipher-tool", path, "tags", "4"], LINE)
     hashed = least(["crates/page_bench/out/page_bench", "hash", str(PAGES)])
-    nothing = least(["crates/page_bench/out/page_bench", "hash", "0"])
     mib = PAGES * 4096 / 2**20
     print(f"tags 4, 100 MiB            {mib / tags:7.0f} MiB/s   {hashed / tags:5.2f} of the plain hash")
     print(f"SHA-512 of the kit         {mib / hashed:7.0f} MiB/s")
@@ -72,7 +77,7 @@ with tempfile.TemporaryDirectory() as folder:
 # The keys of a passphrase, the two rounds for the key of the tags among them.
 for word, name, rounds in (("1", "sha1", 4_000), ("2", "sha1", 4_000), ("3", "sha1", 64_000), ("4", "sha512", 256_000)):
     times = max(1, 512_000 // rounds // 2)
-    derive = (least(["crates/page_bench/out/page_bench", "derive", word, str(times)]) - nothing) / times
+    derive = least(["crates/page_bench/out/page_bench", "derive", word, str(times)]) / times
     peer = min(timed(lambda: hashlib.pbkdf2_hmac(name, b"password", bytes(16), rounds, 32)) for _ in range(RUNS))
     print(f"keys of profile {word}        {derive * 1000:9.2f} ms    {derive / peer:5.2f} of the time of hashlib.pbkdf2_hmac")
 
@@ -80,7 +85,7 @@ for word, name, rounds in (("1", "sha1", 4_000), ("2", "sha1", 4_000), ("3", "sh
 for word, size, covered, name in (("3", 976, 996, "sha1"), ("4", 4016, 4036, "sha512")):
     for verb in ("open", "seal"):
         times = 80_000_000 // size
-        spent = (least(["crates/page_bench/out/page_bench", verb, word, str(times)]) - nothing) / times
+        spent = least(["crates/page_bench/out/page_bench", verb, word, str(times)]) / times
         line = f"{verb} pages of profile {word}  {1 / spent:9.0f} pages/s"
         if shutil.which("openssl"):
             for has_aes in (False, True):

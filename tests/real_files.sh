@@ -1,7 +1,9 @@
 #!/usr/bin/env bash
 # Compares the program with the independent reference in tests/reference: the printed lines and the status have to be the
-# same. The files are those that the reference makes, and, where the product `sqlcipher` is installed, those that it makes.
-# What can't be done is skipped, with a line that says so: all of it without Python's `cryptography`.
+# same. The files are those that the reference makes and those that the product `sqlcipher` makes, its version 4 among them.
+# The reference is tried on known answers first, and the product's files have to be those of tests/reference/real_files.tsv.
+# What can't be done here is left out, with a line that says so: all of it without Python's `cryptography`, the product's
+# files where the product is not installed and can't be.
 set -u
 top=$(cd "$(dirname "$0")/.." && pwd) || exit 1
 oracle=$top/tests/reference/oracle/sqlcipher_oracle.py
@@ -15,6 +17,13 @@ if ! python3 -c 'import cryptography' 2> /dev/null; then
     echo "real files: skipped, since Python's cryptography is missing"
     exit 0
 fi
+
+"$tool" --version > /dev/null || { echo "real files: the program is not built"; exit 1; }
+python3 "$top/tests/reference/oracle/check_rows.py" > "$folder/rows" || {
+    echo "real files: the reference fails its known answers"
+    grep -v '^note' "$folder/rows"
+    exit 1
+}
 
 k0="x'000102030405060708090a0b0c0d0e0f101112131415161718191a1b1c1d1e1f'"
 k1="x'ffffffffffffffffffffffffffffffffffffffffffffffffffffffffffffffff'"
@@ -35,7 +44,7 @@ compare_with() { # compare_with FILE KEYFILE WORDS..
     shift 2
     python3 "$oracle" "$file" "$@" < "$key" > "$folder/expected" 2> /dev/null
     local expected=$?
-    "$tool" "$file" "$@" < "$key" > "$folder/found"
+    "$tool" "$file" "$@" < "$key" > "$folder/found" 2> /dev/null
     local found=$?
     compared=$((compared + 1))
     if [ "$expected" -ne "$found" ] || ! cmp -s "$folder/expected" "$folder/found"; then
@@ -126,23 +135,62 @@ for len in 0 1 1023 1024 4095 4096 4097; do
     compare "$folder/cut.db" "$k0" probe
 done
 
-# What the product itself makes, with its versions 1 to 3. A journal stops `tags` and `header` here, so such files are
-# compared by `probe` alone.
-if command -v sqlcipher > /dev/null && command -v strace > /dev/null; then
-    mkdir "$folder/product"
-    bash "$top/tests/reference/make_real_files.sh" "$folder/product" > /dev/null 2>&1
-    while IFS=$'\t' read -r name profile _; do
-        file=$folder/product/$name
+# What the product itself makes. A journal stops `tags` and `header` here, so files beside which one stands are compared by
+# `probe` alone.
+fail() { echo "real files: $*"; exit 1; }
+
+four() { # four: the product built for version 4, nothing where it can't be built here
+    [ -z "${SQLCIPHER4:-}" ] || { echo "$SQLCIPHER4"; return; }
+    command -v sqlcipher4 && return
+    "$top/tests/reference/build_sqlcipher4.sh" "$top/out/product" >&2
+    case $? in
+        0) echo "$top/out/product/sqlcipher4" ;;
+        3) ;;
+        *) return 1 ;;
+    esac
+}
+
+product_files() {
+    local product=$folder/product table=$folder/table.tsv program name profile journal file key
+    program=$(four) || fail "the product of version 4 is not built"
+    if [ -n "$program" ]; then
+        cp "$top/tests/reference/real_files.tsv" "$table"
+    else
+        echo "real files: those of version 4 are left out, since its product can't be built here"
+        awk -F'\t' '$2 != 4' "$top/tests/reference/real_files.tsv" > "$table"
+    fi
+    mkdir "$product"
+    SQLCIPHER4=$program sh "$top/tests/reference/make_real_files.sh" "$product" > "$folder/made" 2>&1 || {
+        cat "$folder/made"
+        fail "the product's files are not made"
+    }
+    # The files, their journals and all that the reference reads in them are those of the table.
+    python3 "$top/tests/reference/oracle/check_files.py" compare "$product" "$table" > "$folder/compared" || {
+        cat "$folder/made" "$folder/compared"
+        fail "the product's files are not those of the table"
+    }
+    while IFS=$'\t' read -r name profile _ _ journal _; do
+        [ "$name" != file ] || continue
+        file=$product/$name
         key=${file%.db}.key
-        [ -f "$file" ] && [ -f "$key" ] || continue
+        [ -f "$file" ] && [ -f "$key" ] || fail "$name or its key is not made"
         compare_with "$file" "$key" probe
-        [ -f "$file-journal" ] && continue
+        if [ "$journal" != none ]; then
+            [ -f "$file-journal" ] || fail "$name has no journal"
+            continue
+        fi
         compare_with "$file" "$key" tags "$profile"
         compare_with "$file" "$key" header "$profile"
-    done < "$folder/product/manifest.tsv"
+    done < "$table"
+}
+
+"$top/tests/install_product.sh"
+if command -v sqlcipher > /dev/null && command -v strace > /dev/null; then
+    product_files
 else
-    echo "real files: those of the product are skipped, since sqlcipher or strace is missing"
+    echo "real files: those of the product are left out, since sqlcipher or strace is missing and can't be installed"
 fi
 
 echo "real files: $((compared - differ)) of $compared comparisons are the same"
-[ "$differ" -eq 0 ]
+[ "$differ" -eq 0 ] || exit 1
+"$top/tests/edges.sh"

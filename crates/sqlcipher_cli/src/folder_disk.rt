@@ -1,64 +1,81 @@
 // The files of a folder, as a disk that tells nothing.
-ghost use Rattle.std.specs.Prelude.{◌≡◌, ◌≤◌, false, refl, is_ok, IfOk, Ok};
-ghost use Rattle.edge_model.specs.Causes.{HasCause};
+ghost use Rattle.std.specs.Prelude.{◌≡◌, ◌≤◌, false, refl};
 ghost use Rattle.edge_model.specs.Files.{nothing};
 ghost use Rattle.edge_model.specs.Silent.{nothing_numbered};
 
+use crate::failure::{Failure, called, settle};
+use crate::paths::Paths;
 use crate::role_file::RoleFile;
 use edge_model::{Disk, Failed, Role};
-use std::alloc::{AllocError, Global};
-use std::fs::File;
-use std::io;
+use std::fs::{File, Metadata};
 
 /// FILE, FILE-journal and FILE-migrated.
 #[derive(Drop)]
 pub struct FolderDisk<'a> {
     rt: &'a HostRuntime,
-    folder: String,
-    main: RoleFile,
-    journal: RoleFile,
-    fresh: RoleFile,
+    folder: &'a str,
+    main: RoleFile<'a>,
+    journal: RoleFile<'a>,
+    fresh: RoleFile<'a>,
     /// How often the disk has failed.
     pub faults: u64,
+    /// The last failure.
+    pub last: Option<Failure<'a>>,
 }
 
 impl<'a> FolderDisk<'a> {
-    /// The files beside this path. It touches none of them.
-    pub fn new(
-        alloc: Global,
-        rt: &'a HostRuntime,
-        path: &str,
-    ) -> Result<FolderDisk<'a>, AllocError> {
-        Ok(FolderDisk {
+    /// The files with these paths. It touches none of them.
+    pub fn new(rt: &'a HostRuntime, paths: &'a Paths) -> FolderDisk<'a> {
+        let main = paths.main.as_str();
+        let barred = match paths.unresolved {
+            Some(error) => Some(Failure {
+                name: main,
+                call: "resolve",
+                error,
+            }),
+            None => None,
+        };
+        FolderDisk {
             rt,
-            folder: String::from_str(alloc, folder_of(path))?,
-            main: RoleFile::new(String::from_str(alloc, path)?),
-            journal: RoleFile::new(format!(in alloc; "{path}-journal")?),
-            fresh: RoleFile::new(format!(in alloc; "{path}-migrated")?),
+            folder: paths.folder.as_str(),
+            main: RoleFile::new(main, barred),
+            journal: RoleFile::new(paths.journal.as_str(), barred),
+            fresh: RoleFile::new(paths.fresh.as_str(), barred),
             faults: 0,
-        })
+            last: None,
+        }
     }
-}
 
-// What stands before the last slash; the present folder where there is none.
-fn folder_of(path: &str) -> &str {
-    match path.rsplit_once('/') {
-        None => ".",
-        Some(("", _)) => "/",
-        Some((folder, _)) => folder,
+    /// Whether Main was not there when it was last asked for.
+    pub fn lacks_main(&self) -> bool {
+        self.main.is_absent()
     }
-}
 
-/// Counts an error.
-pub fn settle<T: Drop>(faults: &mut u64, outcome: io::Result<T>) -> Result<T, Failed>
-    ensures cause { HasCause faults.old faults.new result }
-    ensures value { IfOk result (λ value. outcome ≡ Ok value) }
-{
-    match outcome {
-        Ok(value) => Ok(value),
-        Err(_) => {
-            *faults = faults.saturating_add(1);
-            Err(Failed)
+    /// Whether Main begins as SQLite's files do that are not encrypted.
+    pub fn is_plain(&mut self) -> bool {
+        let mut bytes = [0u8; 15];
+        match self.main.read_at(self.rt, 0, &mut bytes) {
+            Ok(_) => bytes[..] == b"SQLite format 3"[..],
+            Err(_) => false,
+        }
+    }
+
+    // The file that Journal and Fresh are to be like, none where there is none.
+    fn model(&self, role: Role) -> Result<Option<Metadata>, Failure<'a>> {
+        match role {
+            Role::Main => Ok(None),
+            Role::Journal | Role::Fresh => self.main.found(self.rt),
+        }
+    }
+
+    fn make(&mut self, role: Role) -> Result<(), Failure<'a>>
+        ensures uncounted { self.new.faults ≡ self.old.faults }
+    {
+        let model = self.model(role)?;
+        match role {
+            Role::Main => self.main.create(self.rt, model.as_ref()),
+            Role::Journal => self.journal.create(self.rt, model.as_ref()),
+            Role::Fresh => self.fresh.create(self.rt, model.as_ref()),
         }
     }
 }
@@ -92,7 +109,7 @@ impl<'a> Disk for FolderDisk<'a> {
             Role::Journal => self.journal.length(self.rt),
             Role::Fresh => self.fresh.length(self.rt),
         };
-        settle(&mut self.faults, outcome)
+        settle(&mut self.faults, &mut self.last, outcome)
     }
 
     fn read_at(&mut self, role: Role, at: u64, buf: &mut [u8]) -> Result<usize, Failed> {
@@ -101,7 +118,7 @@ impl<'a> Disk for FolderDisk<'a> {
             Role::Journal => self.journal.read_at(self.rt, at, buf),
             Role::Fresh => self.fresh.read_at(self.rt, at, buf),
         };
-        settle(&mut self.faults, outcome)
+        settle(&mut self.faults, &mut self.last, outcome)
     }
 
     fn write_at(&mut self, role: Role, at: u64, bytes: &[u8]) -> Result<(), Failed> {
@@ -110,7 +127,7 @@ impl<'a> Disk for FolderDisk<'a> {
             Role::Journal => self.journal.write_at(self.rt, at, bytes),
             Role::Fresh => self.fresh.write_at(self.rt, at, bytes),
         };
-        settle(&mut self.faults, outcome)
+        settle(&mut self.faults, &mut self.last, outcome)
     }
 
     fn cut(&mut self, role: Role, len: u64) -> Result<(), Failed> {
@@ -119,7 +136,7 @@ impl<'a> Disk for FolderDisk<'a> {
             Role::Journal => self.journal.cut(self.rt, len),
             Role::Fresh => self.fresh.cut(self.rt, len),
         };
-        settle(&mut self.faults, outcome)
+        settle(&mut self.faults, &mut self.last, outcome)
     }
 
     fn sync(&mut self, role: Role) -> Result<(), Failed> {
@@ -128,16 +145,12 @@ impl<'a> Disk for FolderDisk<'a> {
             Role::Journal => self.journal.sync(self.rt),
             Role::Fresh => self.fresh.sync(self.rt),
         };
-        settle(&mut self.faults, outcome)
+        settle(&mut self.faults, &mut self.last, outcome)
     }
 
     fn create(&mut self, role: Role) -> Result<(), Failed> {
-        let outcome = match role {
-            Role::Main => self.main.create(self.rt),
-            Role::Journal => self.journal.create(self.rt),
-            Role::Fresh => self.fresh.create(self.rt),
-        };
-        settle(&mut self.faults, outcome)
+        let outcome = self.make(role);
+        settle(&mut self.faults, &mut self.last, outcome)
     }
 
     fn remove(&mut self, role: Role) -> Result<(), Failed> {
@@ -146,20 +159,21 @@ impl<'a> Disk for FolderDisk<'a> {
             Role::Journal => self.journal.remove(self.rt),
             Role::Fresh => self.fresh.remove(self.rt),
         };
-        settle(&mut self.faults, outcome)
+        settle(&mut self.faults, &mut self.last, outcome)
     }
 
     fn rename_fresh(&mut self) -> Result<(), Failed> {
         let outcome = self.fresh.rename_to(self.rt, &mut self.main);
-        settle(&mut self.faults, outcome)
+        settle(&mut self.faults, &mut self.last, outcome)
     }
 
     fn sync_folder(&mut self) -> Result<(), Failed> {
-        let outcome = sync_folder(self.rt, self.folder.as_str());
-        settle(&mut self.faults, outcome)
+        let outcome = sync_folder(self.rt, self.folder);
+        settle(&mut self.faults, &mut self.last, outcome)
     }
 }
 
-fn sync_folder(rt: &HostRuntime, folder: &str) -> io::Result<()> {
-    File::open(rt, folder)?.sync_all()
+fn sync_folder<'a>(rt: &HostRuntime, folder: &'a str) -> Result<(), Failure<'a>> {
+    let opened = called(folder, "open", File::open(rt, folder))?;
+    called(folder, "sync", opened.sync_all())
 }

@@ -16,7 +16,7 @@ commands
 profiles
   1, 2, 3, 4      the version of SQLCipher that wrote the file (1 has no tags)
 
-standard input: a key line for each key that the command reads (each of these: one)
+standard input: one line, the key
   x'HEX'          a raw key, 64 hex digits
   anything else   a passphrase, 1 to 1,024 bytes up to the line feed
 
@@ -31,8 +31,11 @@ exit status
   7  the source of random bytes failed
   8  out of memory
 
-example, on a file FILE
-  echo 'correct horse battery staple' | sqlcipher-tool FILE probe
+Standard error has a line that says why, where the answer leaves that open.
+
+examples, on a file FILE
+  sqlcipher-tool FILE probe < KEYFILE
+  IFS= read -rs KEY && printf '%s\\n' \"$KEY\" | sqlcipher-tool FILE tags 4
 ";
 
 /// The text of `--version`.

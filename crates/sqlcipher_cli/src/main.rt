@@ -1,33 +1,41 @@
 //! The program: the top call over the files of a folder, the standard streams and the system's random bytes.
 #![tactic(auto)]
 
+mod advice;
+mod failure;
 mod folder_disk;
 mod help;
+mod line_form;
+mod paths;
 mod role_file;
 mod streams;
 #[cfg(test)]
 mod tests;
 
+use failure::Failure;
 use folder_disk::FolderDisk;
+use paths::Paths;
 use sqlcipher_tool::{Status, run};
-use std::alloc::Global;
-use std::env;
 use std::process::ExitCode;
-use streams::{DeviceEntropy, InputSource, OutputSink};
+use std::{env, io};
+use streams::{DeviceEntropy, InputSource, OutputSink, StandIns};
 
 fn main(rt: HostRuntime) -> ExitCode {
+    let _stand_ins = StandIns::new(&rt);
     ExitCode::from(status_of(&rt))
 }
 
-// The exit status. Where memory does not suffice for the words and the paths, nothing is printed.
+// The exit status. Where memory does not suffice for the words and the paths, standard output has nothing.
 fn status_of(rt: &HostRuntime) -> u8 {
     match arguments(rt) {
         Ok(words) => answer(rt, words.as_slice()),
-        Err(_) => Status::OutOfMemory.code(),
+        Err(error) if error.kind() == io::ErrorKind::OutOfMemory => out_of_memory(rt),
+        // A word is not UTF-8, so the words are no command.
+        Err(_) => serve(rt, "", &[]),
     }
 }
 
-fn arguments(rt: &HostRuntime) -> Result<Vec<String>, std::io::Error> {
+fn arguments(rt: &HostRuntime) -> io::Result<Vec<String>> {
     let mut words = Vec::new(rt.alloc());
     for word in env::args(rt)?.skip(1) {
         words.push(word)?;
@@ -36,39 +44,47 @@ fn arguments(rt: &HostRuntime) -> Result<Vec<String>, std::io::Error> {
 }
 
 fn answer(rt: &HostRuntime, words: &[String]) -> u8 {
-    let alloc = rt.alloc();
     let Ok(words) = words
         .iter()
         .map(|word| word.as_str())
-        .collect::<Vec<&str>>(alloc)
+        .collect::<Vec<&str>>(rt.alloc())
     else {
-        return Status::OutOfMemory.code();
+        return out_of_memory(rt);
     };
     match words.as_slice() {
         ["--help"] => print(rt, help::HELP),
         ["--version"] => print(rt, help::VERSION),
-        [] => serve(rt, alloc, "", &[]),
-        [file, rest @ ..] => serve(rt, alloc, file, rest),
+        [] => serve(rt, "", &[]),
+        [file, rest @ ..] => serve(rt, file, rest),
     }
+}
+
+fn out_of_memory(rt: &HostRuntime) -> u8 {
+    advice::say(rt, advice::OUT_OF_MEMORY);
+    Status::OutOfMemory.code()
 }
 
 fn print(rt: &HostRuntime, text: &str) -> u8 {
     match rt.print(text) {
         Ok(()) => Status::Done.code(),
-        Err(_) => Status::OutputFault.code(),
+        Err(error) => {
+            let (name, call) = ("standard output", "write");
+            advice::say(rt, Failure { name, call, error });
+            Status::OutputFault.code()
+        }
     }
 }
 
-fn serve(rt: &HostRuntime, alloc: Global, file: &str, words: &[&str]) -> u8 {
-    let Ok(mut disk) = FolderDisk::new(alloc, rt, file) else {
-        return Status::OutOfMemory.code();
+fn serve(rt: &HostRuntime, file: &str, words: &[&str]) -> u8 {
+    let Ok(paths) = Paths::new(rt, file) else {
+        return out_of_memory(rt);
     };
-    let mut input = InputSource { rt, faults: 0 };
-    let mut out = OutputSink { rt, faults: 0 };
-    let mut entropy = DeviceEntropy {
-        rt,
-        device: None,
-        faults: 0,
-    };
-    run(alloc, words, &mut input, &mut out, &mut entropy, &mut disk).code()
+    let mut disk = FolderDisk::new(rt, &paths);
+    let mut input = InputSource::new(rt);
+    let mut out = OutputSink::new(rt);
+    let mut entropy = DeviceEntropy::new(rt);
+    let alloc = rt.alloc();
+    let status = run(alloc, words, &mut input, &mut out, &mut entropy, &mut disk);
+    advice::explain(rt, status, file, &input, &out, &entropy, &mut disk);
+    status.code()
 }

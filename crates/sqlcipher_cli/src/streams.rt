@@ -1,16 +1,35 @@
 // The standard streams and the system's random bytes, which tell nothing.
-ghost use Rattle.std.specs.Prelude.{◌≤◌, ◌<◌, [], false, length, IfOk};
+ghost use Rattle.std.specs.Prelude.{◌≤◌, ◌<◌, ◌≤ℤ◌, [], false, length, IfOk, IfSome};
+ghost use Rattle.std.specs.Fd.{file_raw_fd};
 
-use crate::folder_disk::settle;
+use crate::failure::{Failure, called, settle};
+use crate::line_form::LineForm;
 use edge_model::{Entropy, Failed, Sink, Source};
-use std::fs::File;
+use std::fs::{File, OpenOptions};
 use std::io::{self, Read, Write};
+use std::os::fd::AsRawFd;
 
 /// Standard input.
 #[derive(Drop)]
 pub struct InputSource<'a> {
-    pub rt: &'a HostRuntime,
+    rt: &'a HostRuntime,
+    /// What shows of the first line.
+    pub line: LineForm,
+    /// How often the stream has failed.
     pub faults: u64,
+    /// The last failure.
+    pub last: Option<Failure<'a>>,
+}
+
+impl<'a> InputSource<'a> {
+    pub fn new(rt: &'a HostRuntime) -> InputSource<'a> {
+        InputSource {
+            rt,
+            line: LineForm::new(),
+            faults: 0,
+            last: None,
+        }
+    }
 }
 
 impl<'a> Source for InputSource<'a> {
@@ -21,8 +40,11 @@ impl<'a> Source for InputSource<'a> {
     ghost faults = { λ source. source.faults };
 
     fn take(&mut self, buf: &mut [u8]) -> Result<usize, Failed> {
-        let outcome = read_some(self.rt, buf);
-        settle(&mut self.faults, outcome)
+        let outcome = called("standard input", "read", read_some(self.rt, buf));
+        if let Ok(count) = outcome {
+            self.line.see(&buf[..count]);
+        }
+        settle(&mut self.faults, &mut self.last, outcome)
     }
 }
 
@@ -42,8 +64,21 @@ fn read_some(rt: &HostRuntime, buf: &mut [u8]) -> io::Result<usize>
 /// Standard output. A write that takes nothing is a fault.
 #[derive(Drop)]
 pub struct OutputSink<'a> {
-    pub rt: &'a HostRuntime,
+    rt: &'a HostRuntime,
+    /// How often the stream has failed.
     pub faults: u64,
+    /// The last failure.
+    pub last: Option<Failure<'a>>,
+}
+
+impl<'a> OutputSink<'a> {
+    pub fn new(rt: &'a HostRuntime) -> OutputSink<'a> {
+        OutputSink {
+            rt,
+            faults: 0,
+            last: None,
+        }
+    }
 }
 
 impl<'a> Sink for OutputSink<'a> {
@@ -54,8 +89,8 @@ impl<'a> Sink for OutputSink<'a> {
     ghost faults = { λ sink. sink.faults };
 
     fn put(&mut self, piece: &[u8]) -> Result<usize, Failed> {
-        let outcome = write_some(self.rt, piece);
-        settle(&mut self.faults, outcome)
+        let outcome = called("standard output", "write", write_some(self.rt, piece));
+        settle(&mut self.faults, &mut self.last, outcome)
     }
 }
 
@@ -80,9 +115,23 @@ const DEVICE: &str = "/dev/urandom";
 /// The system's random bytes. The device is opened when they are first drawn.
 #[derive(Drop)]
 pub struct DeviceEntropy<'a> {
-    pub rt: &'a HostRuntime,
-    pub device: Option<File>,
+    rt: &'a HostRuntime,
+    device: Option<File>,
+    /// How often the device has failed.
     pub faults: u64,
+    /// The last failure.
+    pub last: Option<Failure<'a>>,
+}
+
+impl<'a> DeviceEntropy<'a> {
+    pub fn new(rt: &'a HostRuntime) -> DeviceEntropy<'a> {
+        DeviceEntropy {
+            rt,
+            device: None,
+            faults: 0,
+            last: None,
+        }
+    }
 }
 
 impl<'a> Entropy for DeviceEntropy<'a> {
@@ -96,16 +145,55 @@ impl<'a> Entropy for DeviceEntropy<'a> {
 
     fn fill(&mut self, buf: &mut [u8]) -> Result<(), Failed> {
         let outcome = read_device(self.rt, &mut self.device, buf);
-        settle(&mut self.faults, outcome)
+        settle(&mut self.faults, &mut self.last, outcome)
     }
 }
 
-fn read_device(rt: &HostRuntime, device: &mut Option<File>, buf: &mut [u8]) -> io::Result<()> {
+fn read_device(
+    rt: &HostRuntime,
+    device: &mut Option<File>,
+    buf: &mut [u8],
+) -> Result<(), Failure<'static>> {
     if device.is_none() {
-        *device = Some(File::open(rt, DEVICE)?);
+        *device = Some(called(DEVICE, "open", File::open(rt, DEVICE))?);
     }
-    match device {
+    let outcome = match device {
         Some(file) => file.read_exact(buf),
         None => Err(io::ErrorKind::NotFound.into()),
+    };
+    called(DEVICE, "read", outcome)
+}
+
+/// What stands in for the standard streams that are closed, so that no file of the database gets the number of one.
+#[derive(Drop)]
+pub struct StandIns {
+    input: Option<File>,
+    output: Option<File>,
+    errors: Option<File>,
+}
+
+impl StandIns {
+    /// The stand-in for input can't be read, and the others can't be written, so each fails as a closed stream does.
+    pub fn new(rt: &HostRuntime) -> StandIns {
+        StandIns {
+            input: stand_in(rt, OpenOptions::new().write(true), 0),
+            output: stand_in(rt, OpenOptions::new().read(true), 2),
+            errors: stand_in(rt, OpenOptions::new().read(true), 2),
+        }
+    }
+}
+
+// The system gives the least number that is free. The file is kept where that is at most this one.
+fn stand_in(rt: &HostRuntime, options: &OpenOptions, highest: i32) -> Option<File>
+    ensures number { IfSome result (λ file. file_raw_fd file ≤ℤ highest) }
+{
+    let file = match options.open(rt, "/dev/null") {
+        Ok(file) => file,
+        Err(_) => File::open(rt, "/").ok()?,
+    };
+    if file.as_raw_fd() <= highest {
+        Some(file)
+    } else {
+        None
     }
 }

@@ -1,10 +1,17 @@
-// The adapters over a real folder: a file of one page of SQLCipher 4, whose tag was computed with Python's hmac.
+// The adapters over a real folder.
+ghost use Rattle.std.specs.Prelude.{◌≡◌, false};
+
 use crate::folder_disk::FolderDisk;
+use crate::line_form::LineForm;
+use crate::paths::Paths;
 use crate::streams::DeviceEntropy;
-use edge_model::{Disk, Failed, MemSink, MemSource, Role};
+use Role::{Fresh, Journal, Main};
+use Step::{Create, Cut, Remove, Rename, Sync, SyncFolder, Write};
+use edge_model::{Disk, Failed, MemDisk, MemSink, MemSource, Role, SilentDisk};
 use sqlcipher_tool::{Status, run};
-use std::alloc::Global;
-use std::fs::{self, OpenOptions};
+use std::alloc::{AllocError, Global};
+use std::fs::{self, OpenOptions, Permissions};
+use std::os::unix::fs::{PermissionsExt, symlink};
 use std::process::Abort;
 use std::test::Fail;
 use std::{env, process};
@@ -14,16 +21,20 @@ const TAG: &str =
 
 const KEY: &[u8] = b"x'000102030405060708090a0b0c0d0e0f101112131415161718191a1b1c1d1e1f'\n";
 
+// A page of SQLCipher 4, whose tag was computed with Python's hmac.
+fn page(alloc: Global) -> Result<Vec<u8>, Fail> {
+    let mut page = vec![in alloc; 1u8; 4032]?;
+    page.extend_from_slice(hex::decode(alloc, TAG)?.as_slice())?;
+    Ok(page)
+}
+
 // `tags 4` on the file at the path.
 fn answer(rt: &HostRuntime, alloc: Global, path: &str) -> Result<(Status, Vec<u8>), Fail> {
-    let mut disk = FolderDisk::new(alloc, rt, path)?;
+    let paths = Paths::new(rt, path)?;
+    let mut disk = FolderDisk::new(rt, &paths);
     let mut input = MemSource::new(alloc, KEY, &[])?;
     let mut out = MemSink::new(alloc, &[])?;
-    let mut entropy = DeviceEntropy {
-        rt,
-        device: None,
-        faults: 0,
-    };
+    let mut entropy = DeviceEntropy::new(rt);
     let status = run(
         alloc,
         &["tags", "4"],
@@ -35,48 +46,157 @@ fn answer(rt: &HostRuntime, alloc: Global, path: &str) -> Result<(Status, Vec<u8
     Ok((status, out.bytes().to_vec(alloc)?))
 }
 
-// Writing, renaming and removing, as read back.
-fn change(test: &impl Abort, rt: &HostRuntime, alloc: Global, path: &str) -> Result<(), Fail> {
-    let mut disk = FolderDisk::new(alloc, rt, path)?;
-    let mut buf = [0u8; 10];
-    assert_eq!(test; disk.length(Role::Main), Ok(Some(4096)));
-    assert_eq!(test; disk.read_at(Role::Main, 4092, &mut buf), Ok(4));
-    assert_eq!(test; disk.length(Role::Fresh), Ok(None));
-    assert_eq!(test; disk.sync(Role::Fresh), Err(Failed));
-    assert_eq!(test; disk.create(Role::Fresh), Ok(()));
-    assert_eq!(test; disk.create(Role::Fresh), Err(Failed));
-    assert_eq!(test; disk.write_at(Role::Fresh, 2, b"abcdef"), Ok(()));
-    assert_eq!(test; disk.cut(Role::Fresh, 6), Ok(()));
-    assert_eq!(test; disk.cut(Role::Fresh, 60), Ok(()));
-    assert_eq!(test; disk.sync(Role::Fresh), Ok(()));
+/// A call of a disk that changes it, as data.
+#[derive(Clone, Copy, Debug)]
+enum Step {
+    Write(Role, u64, &'static [u8]),
+    Cut(Role, u64),
+    Sync(Role),
+    Create(Role),
+    Remove(Role),
+    Rename,
+    SyncFolder,
+}
+
+fn take<D: Disk>(disk: &mut D, step: Step) -> Result<(), Failed>
+    requires { D.tells ≡ false }
+{
+    match step {
+        Write(role, at, bytes) => disk.write_at(role, at, bytes),
+        Cut(role, len) => disk.cut(role, len),
+        Sync(role) => disk.sync(role),
+        Create(role) => disk.create(role),
+        Remove(role) => disk.remove(role),
+        Rename => disk.rename_fresh(),
+        SyncFolder => disk.sync_folder(),
+    }
+}
+
+/// A role's length, and what a read of eight bytes gives.
+type Seen = (Result<Option<u64>, Failed>, Result<usize, Failed>, [u8; 8]);
+
+fn seen<D: Disk>(disk: &mut D, role: Role, at: u64) -> Seen {
+    let mut bytes = [0u8; 8];
+    let length = disk.length(role);
+    let count = disk.read_at(role, at, &mut bytes);
+    (length, count, bytes)
+}
+
+/// Writes in, at and past the end, cuts, changes of names, and calls on roles without a file.
+const STEPS: [Step; 24] = [
+    Write(Main, 2, b"middle"),
+    Write(Main, 17, b"after a gap"),
+    Write(Main, 90, b""),
+    Cut(Main, 90),
+    Cut(Main, 21),
+    Sync(Main),
+    Write(Journal, 0, b"none"),
+    Cut(Journal, 0),
+    Sync(Journal),
+    Remove(Journal),
+    Rename,
+    Create(Journal),
+    Write(Journal, 5, b"late"),
+    Sync(Journal),
+    SyncFolder,
+    Create(Fresh),
+    Write(Fresh, 0, b"fresh bytes"),
+    Sync(Fresh),
+    Remove(Journal),
+    Rename,
+    Write(Main, 3, b"new"),
+    Cut(Main, 0),
+    Remove(Main),
+    Sync(Main),
+];
+
+// The disk in memory is proved to meet the trait, so what it answers is what the trait says.
+fn answers_as_in_memory(
+    test: &impl Abort,
+    rt: &HostRuntime,
+    alloc: Global,
+    path: &str,
+) -> Result<(), Fail> {
+    fs::write(rt, path, b"twelve bytes")?;
+    let paths = Paths::new(rt, path)?;
+    let mut real = FolderDisk::new(rt, &paths);
+    let inner = MemDisk::with_files(alloc, Some(b"twelve bytes"), None, None);
+    let mut told = SilentDisk {
+        inner: inner.map_err(|_| AllocError)?,
+    };
+    for step in STEPS {
+        assert_eq!(test; take(&mut real, step), take(&mut told, step), "{step:?}");
+        for role in [Main, Journal, Fresh] {
+            for at in [0, 6, 30] {
+                let read = seen(&mut real, role, at);
+                assert_eq!(test;
+                    read,
+                    seen(&mut told, role, at),
+                    "{role:?} at {at} after {step:?}"
+                );
+            }
+        }
+    }
+    Ok(())
+}
+
+fn mode_of(rt: &HostRuntime, path: &str) -> Result<u32, Fail> {
+    Ok(fs::symlink_metadata(rt, path)?.permissions().mode() & 0o777)
+}
+
+// Through a link: the journal and the new file stand beside the file with its mode, and the link stays a link.
+fn follows_links(
+    test: &impl Abort,
+    rt: &HostRuntime,
+    alloc: Global,
+    folder: &str,
+) -> Result<(), Fail> {
+    let (path, link) = (
+        format!(in alloc; "{folder}/file.db")?,
+        format!(in alloc; "{folder}/link.db")?,
+    );
+    let journal = format!(in alloc; "{folder}/file.db-journal")?;
+    fs::write(rt, path.as_str(), b"old")?;
+    fs::set_permissions(rt, path.as_str(), Permissions::from_mode(0o640))?;
+    symlink(rt, "file.db", link.as_str())?;
+    let paths = Paths::new(rt, link.as_str())?;
+    let mut disk = FolderDisk::new(rt, &paths);
+    assert_eq!(test; disk.create(Journal), Ok(()));
+    assert_eq!(test; mode_of(rt, journal.as_str())?, 0o640);
+    assert_eq!(test; disk.create(Journal), Err(Failed));
+    assert_eq!(test; disk.create(Fresh), Ok(()));
+    assert_eq!(test; disk.write_at(Fresh, 0, b"new"), Ok(()));
+    assert_eq!(test; disk.sync(Fresh), Ok(()));
     assert_eq!(test; disk.rename_fresh(), Ok(()));
-    assert_eq!(test; disk.sync_folder(), Ok(()));
-    assert_eq!(test; disk.length(Role::Main), Ok(Some(6)));
-    assert_eq!(test; disk.length(Role::Fresh), Ok(None));
-    assert_eq!(test; disk.read_at(Role::Main, 0, &mut buf), Ok(6));
-    assert_eq!(test; buf[..6], b"\0\0abcd"[..]);
-    assert_eq!(test; disk.rename_fresh(), Err(Failed));
-    assert_eq!(test; disk.remove(Role::Main), Ok(()));
-    assert_eq!(test; disk.remove(Role::Main), Err(Failed));
-    assert_eq!(test; disk.length(Role::Main), Ok(None));
-    assert_eq!(test; disk.faults, 4);
+    assert_eq!(test; fs::read(rt, path.as_str())?.as_slice(), b"new".as_slice());
+    assert_eq!(test; mode_of(rt, path.as_str())?, 0o640);
+    assert!(test; fs::symlink_metadata(rt, link.as_str())?.is_symlink());
+    assert_eq!(test; disk.remove(Journal), Ok(()));
+    assert_eq!(test; disk.remove(Main), Ok(()));
+    let paths = Paths::new(rt, link.as_str())?;
+    let mut disk = FolderDisk::new(rt, &paths);
+    assert_eq!(test; disk.length(Main), Err(Failed));
+    assert_eq!(test; disk.create(Main), Err(Failed));
+    fs::remove_file(rt, link.as_str())?;
     Ok(())
 }
 
 // A file that was cut since its length was answered, and one that may not be written.
-fn refuse(test: &impl Abort, rt: &HostRuntime, alloc: Global, path: &str) -> Result<(), Fail> {
-    let mut disk = FolderDisk::new(alloc, rt, path)?;
-    let mut buf = [0u8; 10];
+fn refuses(test: &impl Abort, rt: &HostRuntime, path: &str) -> Result<(), Fail> {
     fs::write(rt, path, b"twelve bytes")?;
-    assert_eq!(test; disk.length(Role::Main), Ok(Some(12)));
+    let paths = Paths::new(rt, path)?;
+    let mut disk = FolderDisk::new(rt, &paths);
+    let mut buf = [0u8; 10];
+    assert_eq!(test; disk.length(Main), Ok(Some(12)));
     fs::write(rt, path, b"twelve")?;
-    assert_eq!(test; disk.read_at(Role::Main, 4, &mut buf), Err(Failed));
+    assert_eq!(test; disk.read_at(Main, 4, &mut buf), Err(Failed));
     let mut permissions = fs::metadata(rt, path)?.permissions();
     permissions.set_readonly(true);
     fs::set_permissions(rt, path, permissions)?;
     // A privileged process may write it all the same.
     let denied = OpenOptions::new().write(true).open(rt, path).is_err();
-    assert_eq!(test; disk.write_at(Role::Main, 0, b"x").is_err(), denied);
+    assert_eq!(test; disk.write_at(Main, 0, b"x").is_err(), denied);
+    fs::remove_file(rt, path)?;
     Ok(())
 }
 
@@ -96,15 +216,46 @@ fn serves_the_files_of_a_folder(rt: HostRuntime) -> Result<(), Fail> {
     assert_eq!(rt; status.code(), 2);
     let (status, _) = answer(&rt, alloc, folder.as_str())?;
     assert_eq!(rt; status, Status::DiskFault);
-    let mut page = vec![in alloc; 1u8; 4032]?;
-    page.extend_from_slice(hex::decode(alloc, TAG)?.as_slice())?;
-    fs::write(&rt, path.as_str(), page.as_slice())?;
+    fs::write(&rt, path.as_str(), page(alloc)?.as_slice())?;
     let (status, text) = answer(&rt, alloc, path.as_str())?;
     assert_eq!(rt; text.as_slice(), b"tags hold: 1 pages\n".as_slice());
     assert_eq!(rt; status, Status::Done);
-    change(&rt, &rt, alloc, path.as_str())?;
-    refuse(&rt, &rt, alloc, path.as_str())?;
-    fs::remove_file(&rt, path.as_str())?;
+    answers_as_in_memory(&rt, &rt, alloc, path.as_str())?;
+    follows_links(&rt, &rt, alloc, folder.as_str())?;
+    refuses(&rt, &rt, path.as_str())?;
     fs::remove_dir(&rt, folder.as_str())?;
+    Ok(())
+}
+
+// Whether the line is a bare key, ends in a return, ends in a space, is quoted.
+fn shows(pieces: &[&[u8]]) -> [bool; 4] {
+    let mut line = LineForm::new();
+    for piece in pieces {
+        line.see(piece);
+    }
+    [
+        line.is_bare_key(),
+        line.ends_in_return(),
+        line.ends_in_space(),
+        line.is_quoted(),
+    ]
+}
+
+#[test]
+fn a_key_line_shows_its_form(rt: HostRuntime) -> Result<(), Fail> {
+    let digits = &KEY[2..66];
+    let table: [(&[&[u8]], [bool; 4]); 8] = [
+        (&[digits, b"\n"], [true, false, false, false]),
+        (&[&digits[..63], b"\n"], [false, false, false, false]),
+        (&[&digits[1..], b"g\n"], [false, false, false, false]),
+        (&[KEY], [false, false, false, false]),
+        (&[b"pass", b"word\r\n \n"], [false, true, false, false]),
+        (&[b"password \n"], [false, false, true, false]),
+        (&[b"'pass'"], [false, false, false, true]),
+        (&[b"\"\n"], [false, false, false, false]),
+    ];
+    for (pieces, form) in table {
+        assert_eq!(rt; shows(pieces), form);
+    }
     Ok(())
 }
