@@ -71,7 +71,7 @@ if command -v strace > /dev/null; then
         # shellcheck disable=SC2016
         strace -o "$folder/calls" bash -c 'eval "exec $3"; exec "$1" "$2" tags 4' - "$tool" "$PWD/file.db" "$closed" < key > /dev/null 2>&1
         rows=$((rows + 1))
-        if grep -q 'file\.db.* = [012]$' "$folder/calls"; then
+        if grep -q '^openat.*file\.db.* = [012]$' "$folder/calls"; then
             wrong=$((wrong + 1))
             echo "edges: with $closed a file has the number of a standard stream"
         fi

