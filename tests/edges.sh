@@ -1,7 +1,8 @@
 #!/usr/bin/env bash
-# What the program does at its edge: standard streams that are closed or full, files of every kind and place, files that change under it,
-# words that are no text. Each row has the status, the lines of standard output and a piece of standard error, worked out by hand
-# from the README. Needs Python's `cryptography` for the files; rows on permissions are run as nobody where this runs as root.
+# What the program does at its edge: standard streams that are closed or full, files of every kind and place, files that
+# change under it, words that are no text. Each row has the status, the lines of standard output and a piece of standard
+# error, worked out by hand from the README. Needs Python's `cryptography` for the files; rows on permissions are run as
+# nobody where this runs as root.
 set -u
 top=$(cd "$(dirname "$0")/.." && pwd) || exit 1
 oracle=$top/tests/reference/oracle/sqlcipher_oracle.py
@@ -30,7 +31,8 @@ row() { # row STATUS OUTPUT ERRORS COMMAND: ERRORS is a piece of the line on sta
     [ -s "$folder/errors" ] || : > "$folder/errors"
     if [ "$found" -ne "$status" ] || [ "$(cat "$folder/output")" != "$output" ] || ! says "$errors"; then
         wrong=$((wrong + 1))
-        echo "edges: $command: wanted $status, '$output' and '$errors', found $found, '$(head -c 300 "$folder/output")' and"
+        echo "edges: $command: wanted $status, '$output' and '$errors'"
+        echo "found $found, '$(head -c 300 "$folder/output")' and"
         cat "$folder/errors"
     fi
 }
@@ -69,7 +71,8 @@ row 5 '' 'standard output: write: Bad file descriptor' '"$tool" --help >&-'
 if command -v strace > /dev/null; then
     for closed in '0<&-' '1>&-' '2>&-' '0<&- 1>&-' '0<&- 2>&-' '1>&- 2>&-' '0<&- 1>&- 2>&-'; do
         # shellcheck disable=SC2016
-        strace -o "$folder/calls" bash -c 'eval "exec $3"; exec "$1" "$2" tags 4' - "$tool" "$PWD/file.db" "$closed" < key > /dev/null 2>&1
+        strace -o "$folder/calls" bash -c 'eval "exec $3"; exec "$1" "$2" tags 4' - "$tool" "$PWD/file.db" "$closed" \
+            < key > /dev/null 2>&1
         rows=$((rows + 1))
         if grep -q '^openat.*file\.db.* = [012]$' "$folder/calls"; then
             wrong=$((wrong + 1))

@@ -1,6 +1,6 @@
 #!/usr/bin/env bash
-# Installs the product `sqlcipher`, `strace`, and what builds the product's version 4, from Debian's packages, where they are missing, this
-# is run as root and there is apt-get. It says what could not be installed.
+# Installs the product `sqlcipher`, `strace`, and what builds the product's version 4, from Debian's packages, where they
+# are missing, this is run as root and there is apt-get. It says what could not be installed.
 set -u
 missing=()
 want() { command -v "$1" > /dev/null || missing+=("$2"); }

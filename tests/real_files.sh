@@ -188,7 +188,7 @@ product_files() {
 if command -v sqlcipher > /dev/null && command -v strace > /dev/null; then
     product_files
 else
-    echo "real files: those of the product are left out, since sqlcipher or strace is missing and can't be installed"
+    echo "real files: the product's are left out, since sqlcipher or strace is missing and can't be installed"
 fi
 
 echo "real files: $((compared - differ)) of $compared comparisons are the same"

@@ -3,8 +3,8 @@ use std::alloc::{AllocError, Global};
 use std::path::PathBuf;
 use std::{fs, io};
 
-/// The paths of FILE, FILE-journal and FILE-migrated, and of their folder. The links of FILE are followed, so that its journal is sought
-/// where SQLite keeps it, and a rename replaces the file and no link.
+/// The paths of FILE, FILE-journal and FILE-migrated, and of their folder. The links of FILE are followed, so that its
+/// journal is sought where SQLite keeps it, and a rename replaces the file and no link.
 #[derive(Drop)]
 pub struct Paths {
     pub folder: String,

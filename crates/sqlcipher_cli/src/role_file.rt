@@ -126,8 +126,8 @@ impl<'a> RoleFile<'a> {
         called(path, "sync", outcome)
     }
 
-    /// Makes an empty file where nothing has the path. It has the mode of the other file where one is given, and its owner where the
-    /// process may give it away.
+    /// Makes an empty file where nothing has the path. It has the mode of the other file where one is given, and its owner
+    /// where the process may give it away.
     pub fn create(&mut self, rt: &HostRuntime, like: Option<&Metadata>) -> Result<(), Failure<'a>> {
         self.unbarred()?;
         let path = self.path;
@@ -170,8 +170,8 @@ impl<'a> RoleFile<'a> {
         Ok(())
     }
 
-    /// What has the path, none where nothing has it. What is no regular file is an error. It is looked at before it is opened, since to
-    /// open a pipe may wait for ever.
+    /// What has the path, none where nothing has it. What is no regular file is an error. It is looked at before it is
+    /// opened, since to open a pipe may wait for ever.
     pub fn found(&self, rt: &HostRuntime) -> Result<Option<Metadata>, Failure<'a>>
         ensures regular { IfOk result (λ found. IfSome found (λ what. IsFile (file_type what))) }
     {
