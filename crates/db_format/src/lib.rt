@@ -1,6 +1,5 @@
-//! The plain data of SQLite's database file format: the header of a database, the count of its pages, varints and records.
-//! The plain data of SQLite's database file format: the header of a database, the count of its pages, and varints; where
-//! pages come from, marks of those that were met, and what can be wrong with their structure.
+//! The plain data of SQLite's database file format: the header of a database, the count of its pages, varints and records;
+//! where pages come from, marks of those that were met, and what can be wrong with their structure.
 //!
 //! What is read are decrypted pages. Section numbers are those of SQLite's "Database File Format".
 #![tactic(auto)]
@@ -10,15 +9,16 @@ mod column;
 mod count;
 mod defect;
 mod header;
+mod mem_pages;
 mod memory;
 mod record;
 #[cfg(test)]
 mod record_tests;
 mod row;
-mod serial;
-mod mem_pages;
 mod seen;
+mod serial;
 mod source;
+#[cfg(test)]
 mod source_tests;
 #[cfg(test)]
 mod tests;
@@ -28,16 +28,16 @@ mod varint;
 #[cfg(test)]
 mod varint_tests;
 
+pub use bytes::{u16_at, u32_at};
 pub use count::{CountRefusal, LARGEST_DATABASE, counted_pages};
+pub use defect::Defect;
 pub use header::{Header, HeaderRefusal, read_header, write_header};
+pub use mem_pages::{MemPages, NoPage};
 pub use memory::OutOfMemory;
 pub use record::{LONGEST_PAYLOAD, RecordFault, RecordView};
 pub use row::{RowPieces, write_row};
-pub use value::Value;
-pub use values::Values;
-pub use bytes::{u16_at, u32_at};
-pub use defect::Defect;
-pub use mem_pages::{MemPages, NoPage};
 pub use seen::Seen;
 pub use source::PageSource;
+pub use value::Value;
+pub use values::Values;
 pub use varint::{LONGEST_VARINT, read_varint, write_varint};

@@ -22,10 +22,10 @@ pub stop_text : (stop : Stop) (due : Option Answer) (otherwise : Answer) (status
 stop_text StopDisk due otherwise status before after is text failed = nothing_put (unwrap_or due otherwise).text before after status (failed refl)
 stop_text StopKey due otherwise status before after is text failed =
     ⊎_elim (λ (disk : StopKey ≡ StopDisk). cc)
-        (λ (same : due ≡ Some key_refused). subst (λ (d : Option Answer). Puts status (unwrap_or d otherwise).text before after) (sym same) (text key_refused refl)) is
+    (λ (same : due ≡ Some key_refused). subst (λ (d : Option Answer). Puts status (unwrap_or d otherwise).text before after) (sym same) (text key_refused refl)) is
 stop_text (StopRefused refusal) due otherwise status before after is text failed =
     ⊎_elim (λ (disk : StopRefused refusal ≡ StopDisk). cc)
-        (λ (same : due ≡ Some (refused refusal)). subst (λ (d : Option Answer). Puts status (unwrap_or d otherwise).text before after) (sym same) (text (refused refusal) refl)) is
+    (λ (same : due ≡ Some (refused refusal)). subst (λ (d : Option Answer). Puts status (unwrap_or d otherwise).text before after) (sym same) (text (refused refusal) refl)) is
 
 -- the answer of an outcome is the one that is due
 pub outcome_text : (outcome : Result (List ℕ) Stop) (due : Answer) (status : Status) (before after : List ℕ)
@@ -35,7 +35,7 @@ pub outcome_text : (outcome : Result (List ℕ) Stop) (due : Answer) (status : S
     → Puts status due.text before after
 outcome_text outcome due status before after is text failed =
     ⊎_elim (λ (disk : outcome ≡ Err StopDisk). nothing_put due.text before after status (failed disk))
-        (λ (same : outcome_answer outcome ≡ Some due). text due same) is
+    (λ (same : outcome_answer outcome ≡ Some due). text due same) is
 
 -- where nothing was put, that is a part of any text
 pub no_part : (text before after : List ℕ) → after ≡ before → PutsPart text before after

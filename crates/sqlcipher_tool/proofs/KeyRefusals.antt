@@ -14,7 +14,7 @@ use Rattle.sqlcipher_tool.specs.Words.{lacks_tags}
 
 pub asked_text : (command : Command) (left : List ℕ) (files : Files) (error : KeyError) (status : Status) (before after : List ℕ)
     → lacks_tags command ≡ false → Err error ≡ key_line left → Puts status (key_answer error).text before after
-        → Puts status (asked_answer command left files).text before after
+    → Puts status (asked_answer command left files).text before after
 asked_text command left files error status before after tagged is put =
     subst (λ (lacks : Bool). Puts status (if lacks then refused NoTags else keyed_answer command files (key_line left)).text before after) (sym tagged)
     (subst (λ (key : Result Secret KeyError). Puts status (keyed_answer command files key).text before after) is put)

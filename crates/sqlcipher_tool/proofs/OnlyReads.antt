@@ -16,8 +16,8 @@ module _ {D : Type 0} {reads : D → Files} {images : D → Files → Type 0} {m
       later = omega (arith, first.time.later, next.time.later);
       nothing_else =
           λ t c le left. ⊎_elim
-              (λ was. ⊎_elim (λ before. inl before) (λ now. inr (next.same_images.no_fewer c now)) (first.time.nothing_else t c le was))
-              (λ now. inr now) (next.time.nothing_else t c (omega (arith, le, first.time.later)) left);
+          (λ was. ⊎_elim (λ before. inl before) (λ now. inr (next.same_images.no_fewer c now)) (first.time.nothing_else t c le was))
+          (λ now. inr now) (next.time.nothing_else t c (omega (arith, le, first.time.later)) left);
       keeps = λ t c le left. next.time.keeps t c (omega (arith, le, first.time.later)) (first.time.keeps t c le left);
     };
   }

@@ -35,14 +35,22 @@ empty_part (byte ∷ put) rest whole = cc
 -- a part of the lines for pages is a part of the answer
 pub part_of_answer : (count : ℕ) (pages before after : List ℕ) → PutsPart (tag_lines pages) before after → PutsPart (pages_answer count pages).text before after
 part_of_answer count [] before after part =
-    record { put = []; rest = tags_report count; whole = refl;
-        appended = part.appended ∙ ap (λ (l : List ℕ). before ++ l) (empty_part part.put part.rest part.whole) }
+    record {
+      put = [];
+      rest = tags_report count;
+      whole = refl;
+      appended = part.appended ∙ ap (λ (l : List ℕ). before ++ l) (empty_part part.put part.rest part.whole);
+    }
 part_of_answer count (page ∷ rest) before after part = part
 
 -- and so it is of what may be printed before a file fails
 pub part_of_begun : (count : ℕ) (pages before after : List ℕ) → PutsPart (tag_lines pages) before after
     → PutsPart (begun (pages_answer count pages)) before after
 part_of_begun count [] before after part =
-    record { put = []; rest = tags_report count; whole = refl;
-        appended = part.appended ∙ ap (λ (l : List ℕ). before ++ l) (empty_part part.put part.rest part.whole) }
+    record {
+      put = [];
+      rest = tags_report count;
+      whole = refl;
+      appended = part.appended ∙ ap (λ (l : List ℕ). before ++ l) (empty_part part.put part.rest part.whole);
+    }
 part_of_begun count (page ∷ rest) before after part = part

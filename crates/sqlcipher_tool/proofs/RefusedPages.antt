@@ -18,7 +18,7 @@ pub more_pages : (keys : FileKeys) (main : List ℕ) (n : ℕ)
     → refused_pages keys main (n + 1) ≡ refused_pages keys main n ++ option_to_list (refused_page keys main (n + 1))
 more_pages keys main n =
     rw add-one
-        (filter-append (is_refused keys main) (page_numbers n) (suc n ∷ []) ∙ ap (λ (l : List ℕ). refused_pages keys main n ++ l) (one_page keys main (suc n) _ refl))
+    (filter-append (is_refused keys main) (page_numbers n) (suc n ∷ []) ∙ ap (λ (l : List ℕ). refused_pages keys main n ++ l) (one_page keys main (suc n) _ refl))
 
 -- the first of two lists
 pub first_of_both : (xs : List ℕ) (last : Option ℕ) → slice_get (xs ++ option_to_list last) 0 ≡ option_or (slice_get xs 0) last
@@ -44,7 +44,7 @@ later_pages keys main n (suc k) =
       others = earlier.others ++ more;
       joined =
           rw add-suc (filter-append (is_refused keys main) (page_numbers (n + k)) (suc (n + k) ∷ []))
-              ∙ ap (λ (l : List ℕ). l ++ more) earlier.joined ∙ append_assoc (refused_pages keys main n) earlier.others more;
+          ∙ ap (λ (l : List ℕ). l ++ more) earlier.joined ∙ append_assoc (refused_pages keys main n) earlier.others more;
     }
 
 -- the lines of one page more
@@ -54,7 +54,7 @@ lines_more keys main n before =
     let pages = refused_pages keys main n in
     let page = option_to_list (refused_page keys main (n + 1)) in
     append_assoc before (tag_lines pages) (tag_lines page)
-        ∙ ap (λ (l : List ℕ). before ++ l) (sym (tag_lines-append pages page) ∙ ap tag_lines (sym (more_pages keys main n)))
+    ∙ ap (λ (l : List ℕ). before ++ l) (sym (tag_lines-append pages page) ∙ ap tag_lines (sym (more_pages keys main n)))
 
 -- what was put, and then a part of what follows
 pub part_joined : {text before mid after : List ℕ} (first next later : List ℕ) → text ≡ first ++ (next ++ later) → mid ≡ before ++ first
@@ -64,8 +64,8 @@ part_joined {text} {before} first next later whole put part = record {
   rest = part.rest ++ later;
   whole =
       whole ∙ ap (λ (l : List ℕ). first ++ (l ++ later)) part.whole
-          ∙ ap (λ (l : List ℕ). first ++ l) (append_assoc part.put part.rest later)
-          ∙ sym (append_assoc first part.put (part.rest ++ later));
+      ∙ ap (λ (l : List ℕ). first ++ l) (append_assoc part.put part.rest later)
+      ∙ sym (append_assoc first part.put (part.rest ++ later));
   appended = part.appended ∙ ap (λ (l : List ℕ). l ++ part.put) put ∙ append_assoc before first part.put;
 }
 
@@ -74,9 +74,10 @@ later_lines : (keys : FileKeys) (main : List ℕ) (n count : ℕ) → n ≤ coun
     → (later : List ℕ) × (tag_lines (refused_pages keys main count) ≡ tag_lines (refused_pages keys main n) ++ later)
 later_lines keys main n count within =
     let there : n + (count - n) ≡ count = omega arith in
-    let more = later_pages keys main n (count - n) in
-    (tag_lines more.others,
-        ap (λ (m : ℕ). tag_lines (refused_pages keys main m)) (sym there) ∙ ap tag_lines more.joined ∙ tag_lines-append (refused_pages keys main n) more.others)
+    let more = later_pages keys main n (count - n) in (
+      tag_lines more.others,
+      ap (λ (m : ℕ). tag_lines (refused_pages keys main m)) (sym there) ∙ ap tag_lines more.joined ∙ tag_lines-append (refused_pages keys main n) more.others,
+    )
 
 -- the lines so far are a part of all
 pub part_of_lines : (keys : FileKeys) (main : List ℕ) (n count : ℕ) → n ≤ count → (before after : List ℕ)
@@ -93,6 +94,6 @@ part_of_next keys main n count within refused before mid after put part =
     let later = later_lines keys main (n + 1) count (omega arith) in
     let pages = refused_pages keys main n in
     let next : tag_lines (refused_pages keys main (n + 1)) ≡ tag_lines pages ++ tag_lines ((n + 1) ∷ []) =
-        ap tag_lines (more_pages keys main n ∙ ap (λ (o : Option ℕ). pages ++ option_to_list o) refused) ∙ tag_lines-append pages ((n + 1) ∷ []) in
+    ap tag_lines (more_pages keys main n ∙ ap (λ (o : Option ℕ). pages ++ option_to_list o) refused) ∙ tag_lines-append pages ((n + 1) ∷ []) in
     part_joined (tag_lines pages) (tag_lines ((n + 1) ∷ [])) later.0
-        (later.1 ∙ ap (λ (l : List ℕ). l ++ later.0) next ∙ append_assoc (tag_lines pages) (tag_lines ((n + 1) ∷ [])) later.0) put part
+    (later.1 ∙ ap (λ (l : List ℕ). l ++ later.0) next ∙ append_assoc (tag_lines pages) (tag_lines ((n + 1) ∷ [])) later.0) put part

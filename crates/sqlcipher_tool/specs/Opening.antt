@@ -1,15 +1,12 @@
 -- What stands in the way of opening a file, in the order in which it is looked at.
-use Rattle.std.specs.Prelude.{ℕ, ◌*◌, ◌/◌, ◌^◌, ◌==◌, not, List, [], ◌∷◌, ◌++◌, length, is_some, nat_lt, unwrap_or}
+use Rattle.std.specs.Prelude.{ℕ, ◌*◌, ◌/◌, ◌==◌, not, List, [], ◌∷◌, ◌++◌, length, is_some, nat_lt, unwrap_or}
 use Rattle.edge_model.specs.Files.{Files, bytes_of}
 use Rattle.cipher_profile.specs.declared.keys.Secret.{Secret}
 use Rattle.cipher_profile.specs.declared.profile.Profile.{Profile}
+use Rattle.db_format.specs.Count.{largest_database}
 use Rattle.page_codec.specs.Page.{FileKeys, keys_of, stored_page, fits}
 use Rattle.sqlcipher_tool.specs.Answer.{Cause, refused, key_refused}
 use Rattle.sqlcipher_tool.specs.declared.status.Refusal.TheVariants.{Empty, Short, TooLarge, NotBuilt}
-
--- the largest database, in bytes
-abbrev pub max_database : ℕ
-max_database = 2 ^ 30
 
 -- the bytes of Main, none where it is absent
 abbrev pub main_of : Files → List ℕ
@@ -38,8 +35,10 @@ length_causes profile files =
 -- more whole pages than are served
 abbrev pub size_causes : Profile → Files → List Cause
 size_causes profile files =
-    record { holds = nat_lt max_database (whole_pages profile (main_of files) * profile.page_size);
-        answer = refused (TooLarge (whole_pages profile (main_of files))) }
+    record {
+      holds = nat_lt largest_database (whole_pages profile (main_of files) * profile.page_size);
+      answer = refused (TooLarge (whole_pages profile (main_of files)));
+    }
     ∷ []
 
 -- a key that does not fit

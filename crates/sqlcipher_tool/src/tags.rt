@@ -3,8 +3,9 @@ ghost use Rattle.std.specs.Prelude.{◌≡◌, ◌⊎◌, ◌+◌, ◌*◌, ◌/
 ghost use Rattle.edge_model.specs.Causes.{Rose};
 ghost use Rattle.edge_model.specs.OnlyRead.{OnlyRead};
 ghost use Rattle.cipher_profile.specs.Profile.{IsListed};
+ghost use Rattle.db_format.specs.Count.{largest_database};
 ghost use Rattle.sqlcipher_tool.specs.Answer.{first_of, Puts, PutsLine, PutsPart, IsAnswered, HasCauses, begun};
-ghost use Rattle.sqlcipher_tool.specs.Opening.{main_of, main_keys, max_database, whole_pages};
+ghost use Rattle.sqlcipher_tool.specs.Opening.{main_of, main_keys, whole_pages};
 ghost use Rattle.sqlcipher_tool.specs.Tags.{refused_page, refused_pages, pages_answer, tags_causes, tags_answer};
 ghost use Rattle.sqlcipher_tool.specs.Stop.{stop_answer, IsLate};
 ghost use Rattle.sqlcipher_tool.specs.Text.{tag_lines};
@@ -16,11 +17,9 @@ use crate::opening::{Stop, fitting_codec, served_length};
 use crate::status::{Refusal, Status};
 use crate::text::{refusal_line, tags_report};
 use cipher_profile::{Profile, Secret};
+use db_format::LARGEST_DATABASE;
 use edge_model::{Disk, Sink};
 use page_codec::Codec;
-
-/// The largest database, in bytes.
-const MAX_DATABASE: u64 = 1 << 30;
 
 // What failed while pages were checked.
 #[derive(Clone, Copy, Debug, PartialEq, Eq)]
@@ -77,12 +76,12 @@ fn open_for_tags<D: Disk>(
 // How many whole pages a file of this length has, where they are served.
 fn count_whole_pages(length: u64, profile: Profile) -> Result<u32, Stop>
     requires { IsListed profile }
-    ensures pages { IfOk result (λ pages. (pages ≡ length / profile.page_size) × (pages * profile.page_size ≤ max_database)) }
-    ensures stop { IfErr result (λ stop. (stop ≡ Stop.Refused (TooLarge (length / profile.page_size))) × (max_database < length / profile.page_size * profile.page_size)) }
+    ensures pages { IfOk result (λ pages. (pages ≡ length / profile.page_size) × (pages * profile.page_size ≤ largest_database)) }
+    ensures stop { IfErr result (λ stop. (stop ≡ Stop.Refused (TooLarge (length / profile.page_size))) × (largest_database < length / profile.page_size * profile.page_size)) }
 {
     let size = u64::from(profile.page_size);
     let pages = length / size;
-    if pages * size > MAX_DATABASE {
+    if pages * size > LARGEST_DATABASE {
         return Err(Stop::Refused(Refusal::TooLarge { pages }));
     }
     Ok(pages as u32)

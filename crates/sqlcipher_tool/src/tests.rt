@@ -10,7 +10,8 @@ use crate::main_file::read_page;
 use crate::{Status, run};
 use cipher_profile::{Profile, derive, profile_of, read_key};
 use edge_model::{
-    Disk, Failed, MemDisk, MemEntropy, MemSink, MemSource, Role, SilentDisk, SilentSink, SilentSource,
+    Disk, Failed, MemDisk, MemEntropy, MemSink, MemSource, Role, SilentDisk, SilentSink,
+    SilentSource,
 };
 use page_codec::Codec;
 use std::alloc::Global;

@@ -6,8 +6,8 @@ use Rattle.sqlcipher_tool.proofs.header.header.Goals as goal
 pub returns-clause-text : goal.returns-clause-text
 returns-clause-text g c = λ printed told.
     outcome_text c.describe_main-outcome.result
-        (header_answer c.args.profile c.args.secret.now (g.D.Disk.reads c.args.disk.now)) c.conclude_outcome.result
-        (g.S.Sink.taken c.args.out.now) (g.S.Sink.taken c.conclude_outcome.new.out)
+    (header_answer c.args.profile c.args.secret.now (g.D.Disk.reads c.args.disk.now)) c.conclude_outcome.result
+    (g.S.Sink.taken c.args.out.now) (g.S.Sink.taken c.conclude_outcome.new.out)
     (c.describe_main-outcome.ensures.told told)
     (λ answer is. c.conclude_outcome.ensures.text answer is printed)
     (λ is. let failed = c.conclude_outcome.ensures.disk is in (failed.0, ap g.S.Sink.taken failed.1))

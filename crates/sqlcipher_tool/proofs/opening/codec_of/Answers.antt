@@ -26,5 +26,5 @@ returns-clause-fits g c = λ told.
     let paged = page_is profile.page_size page main long (c.requires.some told) (c.in_ok-read_page.ensures.told told) in
     c.key_fits-fits.ensures
     ∙ ap (λ (keys : FileKeys). fits keys page)
-        (c.of_file-codec.ensures ∙ ap (λ (p : List ℕ). keys_of profile c.args.secret.now p) paged ∙ keys_from_page profile c.args.secret.now main listed (c.requires.some told))
+    (c.of_file-codec.ensures ∙ ap (λ (p : List ℕ). keys_of profile c.args.secret.now p) paged ∙ keys_from_page profile c.args.secret.now main listed (c.requires.some told))
     ∙ ap (λ (p : List ℕ). fits (main_keys profile c.args.secret.now (g.D.Disk.reads c.args.disk.now)) p) paged

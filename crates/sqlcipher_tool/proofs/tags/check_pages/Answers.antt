@@ -35,10 +35,10 @@ returns-in_err-refused-clause-part g c =
     let put = c.loop-done.invariant.text printed told in
     let stays = (c.loop-done.invariant.only_read told).stays in
     let Next : Type 0 =
-        PutsPart (tag_lines ((n + 1) ∷ [])) mid after × (refused_page keys (main_of (g.D.Disk.reads c.loop-done.disk)) (n + 1) ≡ Some (n + 1)) in
+    PutsPart (tag_lines ((n + 1) ∷ [])) mid after × (refused_page keys (main_of (g.D.Disk.reads c.loop-done.disk)) (n + 1) ≡ Some (n + 1)) in
     let which : (after ≡ mid) ⊎ Next =
-        by_fault {T = Option ℕ} c.in_err-refused.field-0.0 c.in_err-refused.ensures.nothing
-            (λ is. (c.in_err-refused.ensures.part is printed, c.in_err-refused.ensures.is_refused is told)) in
+    by_fault {T = Option ℕ} c.in_err-refused.field-0.0 c.in_err-refused.ensures.nothing
+    (λ is. (c.in_err-refused.ensures.part is printed, c.in_err-refused.ensures.is_refused is told)) in
     ⊎_elim
     (λ (same : after ≡ mid). part_of_lines keys main n c.args.pages (omega arith) before after (same ∙ put))
     (λ (next : Next). part_of_next keys main n c.args.pages (omega arith) (ap (λ (files : Files). refused_page keys (main_of files) (n + 1)) (sym stays) ∙ next.1) before mid after put next.0)
@@ -52,7 +52,7 @@ loop-done-preserved g c =
     let refused = c.in_ok-refused.refused in
     let found : IsTrue g.D.Disk.tells → refused ≡ refused_page keys (main_of (g.D.Disk.reads c.args.disk.now)) (n + 1)
     = λ told. c.in_ok-refused.ensures.refused told
-        ∙ ap (λ (files : Files). refused_page keys (main_of files) (n + 1)) (c.loop-done.invariant.only_read told).stays in
+    ∙ ap (λ (files : Files). refused_page keys (main_of files) (n + 1)) (c.loop-done.invariant.only_read told).stays in
     let main = main_of (g.D.Disk.reads c.args.disk.now) in
     record {
       first = λ told. c.or-first.ensures

@@ -11,8 +11,8 @@ returns-in-Err-clause-text g c = λ printed told.
     let profile = c.args.profile in
     let secret = c.args.secret.now in
     stop_text c.in-Err.stop (first_of (tags_causes profile secret files))
-        (file_answer (main_keys profile secret files) (main_of files)) c.conclude_stop.result (g.S.Sink.taken c.args.out.now)
-        (g.S.Sink.taken c.conclude_stop.new.out)
+    (file_answer (main_keys profile secret files) (main_of files)) c.conclude_stop.result (g.S.Sink.taken c.args.out.now)
+    (g.S.Sink.taken c.conclude_stop.new.out)
     (c.in-Err.ensures.stop told)
     (λ answer is. c.conclude_stop.ensures.text answer is printed)
     (λ is. let failed = c.conclude_stop.ensures.disk is in (failed.0, ap g.S.Sink.taken failed.1))

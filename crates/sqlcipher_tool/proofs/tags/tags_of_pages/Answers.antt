@@ -24,7 +24,7 @@ returns-in-Ok-None-clause-text g c = λ printed told.
     let before = none_printed pages (g.S.Sink.taken c.args.out.now) (g.S.Sink.taken c.check_pages.new.out) none (c.in-Ok-None.ensures.text printed told) in
     let after = g.S.Sink.taken c.conclude.new.out in
     let text : c.tags_report.result ≡ (pages_answer c.args.pages pages).text =
-        c.tags_report.ensures ∙ sym (ap (λ (a : Answer). a.text) (all_accepted c.args.pages pages none)) in
+    c.tags_report.ensures ∙ sym (ap (λ (a : Answer). a.text) (all_accepted c.args.pages pages none)) in
     subst (λ (text : List ℕ). Puts c.conclude.result text (g.S.Sink.taken c.args.out.now) after) text
     (subst (λ (start : List ℕ). Puts c.conclude.result c.tags_report.result start after) before (c.conclude.ensures.text printed))
 
@@ -41,7 +41,7 @@ returns-in-Ok-Some-clause-text g c = λ printed told.
     let pages = refused_pages codec (main_of (g.D.Disk.reads c.args.disk.now)) c.args.pages in
     let some : Some c.in-Ok-Some.page ≡ slice_get pages 0 = sym c.in-Ok-Some.field-0-is ∙ c.in-Ok-Some.ensures.first told in
     c.in-Ok-Some.ensures.text printed told
-        ∙ ap (λ (l : List ℕ). g.S.Sink.taken c.args.out.now ++ l) (sym (ap (λ (a : Answer). a.text) (some_refused c.args.pages pages c.in-Ok-Some.page some)))
+    ∙ ap (λ (l : List ℕ). g.S.Sink.taken c.args.out.now ++ l) (sym (ap (λ (a : Answer). a.text) (some_refused c.args.pages pages c.in-Ok-Some.page some)))
 
 pub returns-in-Err-Disk-clause-text : goal.returns-in-Err-Disk-clause-text
 returns-in-Err-Disk-clause-text g c = λ printed told. part_of_answer _ _ _ _ (c.in-Err-Disk.ensures.part printed told)

@@ -22,4 +22,4 @@ returns-in-Err-KeyForm-clause-text g c = λ printed keyed told.
     let left = g.K.Source.left c.args.input.now in
     asked_text c.args.command left (g.D.Disk.reads c.args.disk.now) KeyForm _ _ _ tagged
     (said c.in-Err-KeyForm.field-0 (IsTrue g.K.Source.tells) left c.in-Err-KeyForm.field-0-is c.in-Err-KeyForm.ensures.told keyed)
-        (c.conclude_refusal-in-Err-KeyForm.ensures.text printed)
+    (c.conclude_refusal-in-Err-KeyForm.ensures.text printed)
