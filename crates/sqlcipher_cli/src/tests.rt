@@ -237,12 +237,11 @@ fn serves_the_files_of_a_folder(rt: HostRuntime) -> Result<(), Fail> {
     Ok(())
 }
 
-// Whether the line is a bare key, ends in a return, ends in a space, is quoted.
-fn shows(pieces: &[&[u8]]) -> [bool; 4] {
+// Whether the line is a bare key, ends in a return, ends in a space, is quoted. It comes in two pieces.
+fn shows(first: &[u8], second: &[u8]) -> [bool; 4] {
     let mut line = LineForm::new();
-    for piece in pieces {
-        line.see(piece);
-    }
+    line.see(first);
+    line.see(second);
     [
         line.is_bare_key(),
         line.ends_in_return(),
@@ -254,18 +253,18 @@ fn shows(pieces: &[&[u8]]) -> [bool; 4] {
 #[test]
 fn a_key_line_shows_its_form(rt: HostRuntime) -> Result<(), Fail> {
     let digits = &KEY[2..66];
-    let table: [(&[&[u8]], [bool; 4]); 8] = [
-        (&[digits, b"\n"], [true, false, false, false]),
-        (&[&digits[..63], b"\n"], [false, false, false, false]),
-        (&[&digits[1..], b"g\n"], [false, false, false, false]),
-        (&[KEY], [false, false, false, false]),
-        (&[b"pass", b"word\r\n \n"], [false, true, false, false]),
-        (&[b"password \n"], [false, false, true, false]),
-        (&[b"'pass'"], [false, false, false, true]),
-        (&[b"\"\n"], [false, false, false, false]),
+    let table: [(&[u8], &[u8], [bool; 4]); 8] = [
+        (digits, b"\n", [true, false, false, false]),
+        (&digits[..63], b"\n", [false, false, false, false]),
+        (&digits[1..], b"g\n", [false, false, false, false]),
+        (KEY, b"", [false, false, false, false]),
+        (b"pass", b"word\r\n \n", [false, true, false, false]),
+        (b"password ", b"\n", [false, false, true, false]),
+        (b"'pass", b"'", [false, false, false, true]),
+        (b"\"", b"\n", [false, false, false, false]),
     ];
-    for (pieces, form) in table {
-        assert_eq!(rt; shows(pieces), form);
+    for (first, second, form) in table {
+        assert_eq!(rt; shows(first, second), form);
     }
     Ok(())
 }
