@@ -116,11 +116,13 @@ for path in "$PWD/real/app.db" ./real/app.db real/../real/app.db linked/app.db t
 done
 row 0 "$hold" '' 'cd linked && "$tool" app.db tags 4 < ../key'
 touch real/app.db-journal
+row 2 'journal is there' 'on a copy of both' '"$tool" linked/app.db probe < key'
 for path in real/app.db linked/app.db twice.db folder/app.db; do
-    row 2 'not built' 'a journal stands beside the file' "\"\$tool\" $path tags 4 < key"
+    touch real/app.db-journal
+    row 0 'cold' '' "\"\$tool\" $path recover 4"
+    row 1 '' '' '[ -e real/app.db-journal ]'
 done
-row 2 'journal is there' 'try `probe` on the copy' '"$tool" linked/app.db probe < key'
-rm real/app.db-journal
+row 0 'nothing' '' '"$tool" linked/app.db recover 4'
 touch linked/app.db-journal
 row 0 "$hold" '' '"$tool" linked/app.db tags 4 < key'
 row 4 '' 'dangling.db: resolve: No such file' '"$tool" dangling.db tags 4 < key'

@@ -135,8 +135,31 @@ for len in 0 1 1023 1024 4095 4096 4097; do
     compare "$folder/cut.db" "$k0" probe
 done
 
-# What the product itself makes. A journal stops `tags` and `header` here, so files beside which one stands are compared by
-# `probe` alone.
+# A file with a journal: besides the lines, the files that the program leaves have to be those that the reference recovers.
+# Each works on copies.
+compare_recovered() { # compare_recovered FILE KEYFILE COMMAND PROFILE
+    local file=$1 key=$2 copy
+    shift 2
+    rm -rf "$folder/asked" "$folder/wanted" "$folder/left"
+    for copy in asked wanted left; do
+        mkdir "$folder/$copy" && cp "$file" "$folder/$copy/file" && cp "$file-journal" "$folder/$copy/file-journal" || exit 1
+    done
+    python3 "$oracle" "$folder/asked/file" "$@" < "$key" > "$folder/expected" 2> /dev/null
+    local expected=$?
+    python3 "$oracle" "$folder/wanted/file" recover "$2" > /dev/null 2>&1
+    "$tool" "$folder/left/file" "$@" < "$key" > "$folder/found" 2> /dev/null
+    local found=$?
+    compared=$((compared + 1))
+    if [ "$expected" -ne "$found" ] || ! cmp -s "$folder/expected" "$folder/found" || ! diff -rq "$folder/wanted" "$folder/left"; then
+        differ=$((differ + 1))
+        echo "real files: $(basename "$file") $*: the reference ends with $expected and prints"
+        head -n 5 "$folder/expected"
+        echo "the program ends with $found and prints"
+        head -n 5 "$folder/found"
+    fi
+}
+
+# What the product itself makes.
 fail() { echo "real files: $*"; exit 1; }
 
 four() { # four: the product built for version 4, nothing where it can't be built here
@@ -177,11 +200,19 @@ product_files() {
         compare_with "$file" "$key" probe
         if [ "$journal" != none ]; then
             [ -f "$file-journal" ] || fail "$name has no journal"
+            compare_recovered "$file" "$key" recover "$profile"
+            compare_recovered "$file" "$key" tags "$profile"
+            compare_recovered "$file" "$key" header "$profile"
             continue
         fi
         compare_with "$file" "$key" tags "$profile"
         compare_with "$file" "$key" header "$profile"
     done < "$table"
+    # The program stopped at each of its writing calls, and run again.
+    for name in v3-raw-hot-grow v4-raw-hot-grow v3-raw-cold-persist; do
+        [ -f "$product/$name.db" ] || continue
+        "$top/tests/stops.sh" "$product/$name.db" recover "${name:1:1}" < /dev/null || differ=$((differ + 1))
+    done
 }
 
 "$top/tests/install_product.sh"

@@ -15,12 +15,16 @@ const WAL_MODE: &str =
     "the file keeps a write-ahead log; on a copy of FILE and FILE-wal, `PRAGMA journal_mode = DELETE` in the \
     program that wrote it puts the log's pages into the file";
 
-const JOURNAL: &str =
-    "a journal stands beside the file; the program that wrote it plays it back when it opens the file, and its \
-    `PRAGMA journal_mode = DELETE` removes one that stays";
+const JOURNAL_PAGE_SIZE: &str =
+    "the journal beside the file has pages of another size: give the version that wrote it (4 has pages of 4096 bytes, \
+    3, 2 and 1 of 1024); nothing was written";
+
+const SUPER_JOURNAL: &str =
+    "the journal belongs to a transaction over several files, which only the program that wrote them can settle; \
+    nothing was written";
 
 const PROBED_JOURNAL: &str =
-    "a journal stands beside the file; copy FILE alone to another folder, and try `probe` on the copy";
+    "a journal stands beside the file; on a copy of both, `recover 4`, or else `recover 3`, plays it back or removes it";
 
 const NOT_ENCRYPTED: &str = "the file begins with `SQLite format 3`: it is not encrypted";
 
@@ -82,7 +86,8 @@ fn advice_on(status: Status) -> Option<&'static str> {
         Status::Usage => Some(USAGE),
         Status::OutOfMemory => Some(OUT_OF_MEMORY),
         Status::Refused(Refusal::WalMode) => Some(WAL_MODE),
-        Status::Refused(Refusal::NotBuilt) => Some(JOURNAL),
+        Status::Refused(Refusal::JournalPageSize { .. }) => Some(JOURNAL_PAGE_SIZE),
+        Status::Refused(Refusal::SuperJournal) => Some(SUPER_JOURNAL),
         Status::Refused(Refusal::JournalThere) => Some(PROBED_JOURNAL),
         _ => None,
     }

@@ -2,7 +2,8 @@
 
 /// The text of `--help`.
 pub const HELP: &str = "\
-sqlcipher-tool checks SQLCipher database files. It writes nothing to them.
+sqlcipher-tool checks SQLCipher database files, and plays back the journal that a
+stop has left. It writes nothing else to them.
 
 usage: sqlcipher-tool FILE COMMAND [PROFILE] < KEYS
        sqlcipher-tool --help | --version
@@ -12,11 +13,14 @@ commands
                   tag does not hold, or `tags hold: N pages`
   header PROFILE  decrypt page 1 and print the fields of the database header
   probe           find the profile whose key fits; prints `profile N`
+  recover PROFILE play the journal beside the file back into it and remove it;
+                  prints `played: N`, `cold` or `nothing`, and takes no key
+                  (`tags` and `header` recover first, too)
 
 profiles
   1, 2, 3, 4      the version of SQLCipher that wrote the file (1 has no tags)
 
-standard input: one line, the key
+standard input: one line, the key, but for `recover`
   x'HEX'          a raw key, 64 hex digits
   anything else   a passphrase, 1 to 1,024 bytes up to the line feed
 

@@ -3,5 +3,6 @@ pub mod PagesAnswer
 pub mod RefusedPages
 pub mod WholeReads
 pub mod Conclusions
-pub mod KeyRefusals
 pub mod OnlyReads
+pub mod Recoveries
+pub mod Answered

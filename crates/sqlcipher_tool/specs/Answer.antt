@@ -2,7 +2,7 @@
 use Rattle.std.specs.Prelude.{◌≡◌, ◌⊎◌, ◌≤◌, ℕ, Bool, true, false, IsTrue, List, [], ◌∷◌, ◌++◌, Option, Some, None, if◌then◌else◌}
 use Rattle.edge_model.specs.Causes.{Rose}
 use Rattle.sqlcipher_tool.specs.declared.status.Refusal.{Refusal}
-use Rattle.sqlcipher_tool.specs.declared.status.Refusal.TheVariants.{NoTags, KeyMissing, KeyEmpty, KeyTooLong, KeyForm, JournalThere, Empty, Short, HeaderFault, WalMode, AutoVacuum, Ragged, TooLarge, PageTag, NotBuilt}
+use Rattle.sqlcipher_tool.specs.declared.status.Refusal.TheVariants.{NoTags, KeyMissing, KeyEmpty, KeyTooLong, KeyForm, JournalThere, Empty, Short, HeaderFault, WalMode, AutoVacuum, Ragged, TooLarge, PageTag, JournalPageSize, SuperJournal}
 use Rattle.sqlcipher_tool.specs.declared.status.Status.{Status}
 use Rattle.sqlcipher_tool.specs.declared.status.Status.TheVariants.{Done, Usage, Refused, KeyRefused, DiskFault, OutputFault, InputFault, EntropyFault, OutOfMemory}
 use Rattle.sqlcipher_tool.specs.Text.{refusal_line, usage_line, key_refused_line}
@@ -104,7 +104,8 @@ is_early AutoVacuum = false
 is_early (Ragged len) = false
 is_early (TooLarge pages) = false
 is_early (PageTag page) = false
-is_early NotBuilt = false
+is_early (JournalPageSize found) = false
+is_early SuperJournal = false
 
 -- it is a page whose tag does not hold
 abbrev pub is_page : Refusal → Bool
@@ -122,7 +123,8 @@ is_page AutoVacuum = false
 is_page (Ragged len) = false
 is_page (TooLarge pages) = false
 is_page (PageTag page) = true
-is_page NotBuilt = false
+is_page (JournalPageSize found) = false
+is_page SuperJournal = false
 
 -- what of a text may be printed before a file fails: a report, or the lines of pages
 abbrev pub begun_by : Status → List ℕ → List ℕ
@@ -173,7 +175,6 @@ pub record HasCauses (status : Status) (disk_before disk_after output_before out
   pub output : status ≡ OutputFault → Rose output_before output_after
   pub input : status ≡ InputFault → ⊥
   pub entropy : status ≡ EntropyFault → ⊥
-  pub memory : status ≡ OutOfMemory → ⊥
   pub usage : status ≡ Usage → ⊥
   pub late : IsEarly status → ⊥
   pub disk_later : disk_before ≤ disk_after
@@ -193,4 +194,4 @@ IsStopStatus DiskFault = Unit {0}
 IsStopStatus OutputFault = Unit {0}
 IsStopStatus InputFault = ⊥
 IsStopStatus EntropyFault = ⊥
-IsStopStatus OutOfMemory = ⊥
+IsStopStatus OutOfMemory = Unit {0}

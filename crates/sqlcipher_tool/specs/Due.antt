@@ -1,21 +1,37 @@
--- The answer that is due to the words, the input and the files, where nothing outside fails and memory does not run out.
-use Rattle.std.specs.Prelude.{ℕ, List, [], Option, Some, None, Result, Ok, Err, if◌then◌else◌}
+-- The answers that may come of the words, the input and the files, where nothing outside fails and memory does not run out.
+use Rattle.std.specs.Prelude.{ℕ, zero, suc, List, [], ◌∷◌, Option, Some, None, Result, Ok, Err, if◌then◌else◌}
 use Rattle.edge_model.specs.Files.{Files}
 use Rattle.cipher_profile.specs.declared.key_line.KeyError.{KeyError}
 use Rattle.cipher_profile.specs.declared.key_line.KeyError.TheVariants.{KeyMissing, KeyEmpty, KeyTooLong, KeyForm, SourceFault}
 use Rattle.cipher_profile.specs.declared.keys.Secret.{Secret}
-use Rattle.cipher_profile.specs.KeyLine.{key_line}
+use Rattle.cipher_profile.specs.KeyLine.{after_line, key_line}
 use Rattle.sqlcipher_tool.specs.Answer.{Answer, refused, usage}
 use Rattle.sqlcipher_tool.specs.declared.command.Command.{Command}
-use Rattle.sqlcipher_tool.specs.declared.command.Command.TheVariants.{Tags, Header, Probe}
+use Rattle.sqlcipher_tool.specs.declared.command.Command.TheVariants.{Tags, Header, Probe, Recover}
+use Rattle.sqlcipher_tool.specs.declared.status.Refusal.{Refusal}
 use Rattle.sqlcipher_tool.specs.declared.status.Refusal.TheVariants.{NoTags, KeyMissing as RefusedMissing, KeyEmpty as RefusedEmpty, KeyTooLong as RefusedLong, KeyForm as RefusedForm}
 use Rattle.sqlcipher_tool.specs.declared.status.Status.TheVariants.{InputFault}
 use Rattle.sqlcipher_tool.specs.Header.{header_answer}
 use Rattle.sqlcipher_tool.specs.Probe.{probe_answer}
+use Rattle.sqlcipher_tool.specs.Recovered.{recovered_answer, recovery_answer, recovery_of}
 use Rattle.sqlcipher_tool.specs.Tags.{tags_answer}
-use Rattle.sqlcipher_tool.specs.Words.{form, lacks_tags}
+use Rattle.sqlcipher_tool.specs.Words.{form, keys_taken, lacks_tags}
 
--- the answer to a key line that gives no secret
+-- the refusal that the words alone decide
+abbrev pub word_refusal : Command → Option Refusal
+word_refusal command = if lacks_tags command then Some NoTags else None
+
+-- so many key lines give these secrets, or the first line that gives none has this error
+abbrev pub and_secrets : Result Secret KeyError → Result (List Secret) KeyError → Result (List Secret) KeyError
+and_secrets (Err error) rest = Err error
+and_secrets (Ok secret) (Err error) = Err error
+and_secrets (Ok secret) (Ok rest) = Ok (secret ∷ rest)
+
+abbrev pub key_lines : ℕ → List ℕ → Result (List Secret) KeyError
+key_lines zero left = Ok []
+key_lines (suc more) left = and_secrets (key_line left) (key_lines more (after_line left))
+
+-- the answer to a key line that gives no secret; the last is never due to a line
 abbrev pub key_answer : KeyError → Answer
 key_answer KeyMissing = refused RefusedMissing
 key_answer KeyEmpty = refused RefusedEmpty
@@ -23,25 +39,33 @@ key_answer KeyTooLong = refused RefusedLong
 key_answer KeyForm = refused RefusedForm
 key_answer SourceFault = record { status = InputFault; text = [] }
 
--- the answer to a command with its secret
-abbrev pub secret_answer : Command → Files → Secret → Answer
-secret_answer (Tags profile) files secret = tags_answer profile secret files
-secret_answer (Header profile) files secret = header_answer profile secret files
-secret_answer Probe files secret = probe_answer secret files
+-- a command with one secret
+abbrev pub with_one : List Secret → (Secret → List Answer) → List Answer
+with_one [] answers = []
+with_one (secret ∷ rest) answers = answers secret
 
--- the answer to a command with what its key line gives
-abbrev pub keyed_answer : Command → Files → Result Secret KeyError → Answer
-keyed_answer command files (Ok secret) = secret_answer command files secret
-keyed_answer command files (Err error) = key_answer error
+-- the answers to a command with its secrets
+abbrev pub secret_answers : Command → List Secret → Files → List Answer
+secret_answers (Tags profile) secrets files =
+    with_one secrets (λ secret. recovered_answer profile files (tags_answer profile secret) ∷ [])
+secret_answers (Header profile) secrets files =
+    with_one secrets (λ secret. recovered_answer profile files (header_answer profile secret) ∷ [])
+secret_answers Probe secrets files = with_one secrets (λ secret. probe_answer secret files ∷ [])
+secret_answers (Recover profile) secrets files = recovery_answer (recovery_of profile files) ∷ []
 
--- the answer to a command, with the input that is left
-abbrev pub asked_answer : Command → List ℕ → Files → Answer
-asked_answer command left files = if lacks_tags command then refused NoTags else keyed_answer command files (key_line left)
+-- the answers to a command with what its key lines give
+abbrev pub keyed_answers : Command → Result (List Secret) KeyError → Files → List Answer
+keyed_answers command (Ok secrets) files = secret_answers command secrets files
+keyed_answers command (Err error) files = key_answer error ∷ []
 
--- the answer to the command that the words make, or to words that make none
-abbrev pub command_answer : Option Command → List ℕ → Files → Answer
-command_answer None left files = usage
-command_answer (Some command) left files = asked_answer command left files
+abbrev pub asked_answers : Option Refusal → Command → List ℕ → Files → List Answer
+asked_answers (Some refusal) command left files = refused refusal ∷ []
+asked_answers None command left files = keyed_answers command (key_lines (keys_taken command) left) files
 
-abbrev pub due : List (List ℕ) → List ℕ → Files → Answer
-due words left files = command_answer (form words) left files
+abbrev pub command_answers : Option Command → List ℕ → Files → List Answer
+command_answers None left files = usage ∷ []
+command_answers (Some command) left files = asked_answers (word_refusal command) command left files
+
+-- the answers to the command that the words make, or to words that make none
+abbrev pub due : List (List ℕ) → List ℕ → Files → List Answer
+due words left files = command_answers (form words) left files

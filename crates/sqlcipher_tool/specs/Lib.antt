@@ -1,8 +1,13 @@
 pub mod Answer
+pub mod Crash
+pub mod Database
 pub mod Due
 pub mod Header
+pub mod Holding
 pub mod Opening
 pub mod Probe
+pub mod Promises
+pub mod Recovered
 pub mod Stop
 pub mod Tags
 pub mod Text

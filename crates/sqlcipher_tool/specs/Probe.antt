@@ -4,20 +4,19 @@ use Rattle.edge_model.specs.Files.{Files}
 use Rattle.cipher_profile.specs.declared.keys.Secret.{Secret}
 use Rattle.cipher_profile.specs.declared.profile.Profile.{Profile}
 use Rattle.cipher_profile.specs.Profile.{sqlcipher_1, sqlcipher_2, sqlcipher_3, sqlcipher_4}
-use Rattle.page_codec.specs.Page.{fits}
+use Rattle.page_codec.specs.Page.{fits, keys_of}
 use Rattle.sqlcipher_tool.specs.Answer.{Answer, Cause, first_of, done, refused, key_refused}
 use Rattle.sqlcipher_tool.specs.declared.status.Refusal.TheVariants.{JournalThere, Empty}
-use Rattle.sqlcipher_tool.specs.Opening.{main_of, main_keys, first_page}
+use Rattle.sqlcipher_tool.specs.Opening.{main_of, first_page}
 use Rattle.sqlcipher_tool.specs.Text.{probe_report}
 
 -- the profiles in the order in which they are tried
 abbrev pub probed_profiles : List Profile
 probed_profiles = sqlcipher_4 ∷ sqlcipher_3 ∷ sqlcipher_2 ∷ sqlcipher_1 ∷ []
 
--- Main has a page of the profile, and the key fits it
-abbrev pub is_fitting : Secret → Files → Profile → Bool
-is_fitting secret files profile =
-    nat_le profile.page_size (length (main_of files)) && fits (main_keys profile secret files) (first_page profile files)
+-- the file has a page of the profile, and the key fits it
+abbrev pub is_fitting : Secret → List ℕ → Profile → Bool
+is_fitting secret file profile = nat_le profile.page_size (length file) && fits (keys_of profile secret file) (first_page profile file)
 
 -- what stands in the way of `probe`, in order
 abbrev pub probe_causes : Files → List Cause
@@ -33,4 +32,4 @@ found_answer (Some profile) = done (probe_report profile.version)
 
 -- the answer to `probe` with this secret
 abbrev pub probe_answer : Secret → Files → Answer
-probe_answer secret files = unwrap_or (first_of (probe_causes files)) (found_answer (find (is_fitting secret files) probed_profiles))
+probe_answer secret files = unwrap_or (first_of (probe_causes files)) (found_answer (find (is_fitting secret (main_of files)) probed_profiles))

@@ -1,22 +1,28 @@
 -- What a command comes to, as an answer.
-use Rattle.std.specs.Prelude.{◌≡◌, false, ℕ, List, Option, Some, None, Result, Ok, Err}
+use Rattle.std.specs.Prelude.{◌≡◌, ◌⊎◌, false, ℕ, List, Option, Some, None, Result, Ok, Err}
 use Rattle.sqlcipher_tool.specs.Answer.{Answer, done, refused, key_refused, is_early}
 use Rattle.sqlcipher_tool.specs.declared.opening.Stop.{Stop}
-use Rattle.sqlcipher_tool.specs.declared.opening.Stop.TheVariants.{Refused as StopRefused, KeyRefused as StopKey, DiskFault as StopDisk}
+use Rattle.sqlcipher_tool.specs.declared.opening.Stop.TheVariants.{Refused as StopRefused, KeyRefused as StopKey, DiskFault as StopDisk, OutOfMemory as StopMemory}
 
--- the answer of a stop, none where the disk failed
+-- the answer of a stop, none where the disk failed or memory ran out
 abbrev pub stop_answer : Stop → Option Answer
 stop_answer (StopRefused refusal) = Some (refused refusal)
 stop_answer StopKey = Some key_refused
 stop_answer StopDisk = None
+stop_answer StopMemory = None
 
 -- it is none that the words or the key line alone decide
 abbrev pub IsLate : Stop → Type 0
 IsLate (StopRefused refusal) = is_early refusal ≡ false
 IsLate StopKey = Unit {0}
 IsLate StopDisk = Unit {0}
+IsLate StopMemory = Unit {0}
 
 -- the answer of a report, or of the stop in its place
 abbrev pub outcome_answer : Result (List ℕ) Stop → Option Answer
 outcome_answer (Ok report) = Some (done report)
 outcome_answer (Err stop) = stop_answer stop
+
+-- something outside failed, or memory ran out
+abbrev pub IsOutside : Stop → Type 0
+IsOutside stop = (stop ≡ StopDisk) ⊎ (stop ≡ StopMemory)

@@ -2,8 +2,10 @@
 use Rattle.std.specs.Prelude.{ℕ, List, [], ◌∷◌, ◌++◌, codes, decimal}
 use Rattle.std.specs.List.{flat_map}
 use Rattle.db_format.specs.declared.header.Header.{Header}
+use Rattle.rollback_journal.specs.declared.recovery.Recovery.{Recovery}
+use Rattle.rollback_journal.specs.declared.recovery.Recovery.TheVariants.{Nothing, Cold, Played}
 use Rattle.sqlcipher_tool.specs.declared.status.Refusal.{Refusal}
-use Rattle.sqlcipher_tool.specs.declared.status.Refusal.TheVariants.{NoTags, KeyMissing, KeyEmpty, KeyTooLong, KeyForm, JournalThere, Empty, Short, HeaderFault, WalMode, AutoVacuum, Ragged, TooLarge, PageTag, NotBuilt}
+use Rattle.sqlcipher_tool.specs.declared.status.Refusal.TheVariants.{NoTags, KeyMissing, KeyEmpty, KeyTooLong, KeyForm, JournalThere, Empty, Short, HeaderFault, WalMode, AutoVacuum, Ragged, TooLarge, PageTag, JournalPageSize, SuperJournal}
 
 -- the text of a refusal, without its line feed
 abbrev pub refusal_text : Refusal → List ℕ
@@ -21,7 +23,8 @@ refusal_text AutoVacuum = codes "auto-vacuum"
 refusal_text (Ragged len) = codes "file is ragged: " ++ decimal len ++ codes " bytes"
 refusal_text (TooLarge pages) = codes "file is too large: " ++ decimal pages ++ codes " pages"
 refusal_text (PageTag page) = codes "page " ++ decimal page ++ codes ": tag refused"
-refusal_text NotBuilt = codes "not built"
+refusal_text (JournalPageSize found) = codes "journal page size " ++ decimal found
+refusal_text SuperJournal = codes "journal names a super-journal"
 
 abbrev pub line : List ℕ → List ℕ
 line text = text ++ 10 ∷ []
@@ -71,3 +74,9 @@ header_report header pages =
     ++ field_line (codes "user version") header.user_version
     ++ field_line (codes "application id") header.application_id
     ++ field_line (codes "sqlite version") header.sqlite_number
+
+-- what `recover` prints
+abbrev pub recovery_line : Recovery → List ℕ
+recovery_line Nothing = line (codes "nothing")
+recovery_line Cold = line (codes "cold")
+recovery_line (Played records) = line (codes "played: " ++ decimal records)

@@ -1,5 +1,5 @@
 // The words of the command line.
-ghost use Rattle.std.specs.Prelude.{◌≡◌, IfSome};
+ghost use Rattle.std.specs.Prelude.{◌≡◌, ◌∷◌, [], IfSome};
 ghost use Rattle.sqlcipher_tool.specs.Words.{form, texts, lacks_tags, IsServed};
 
 use cipher_profile::{Profile, profile_of};
@@ -13,6 +13,8 @@ pub enum Command {
     Header(Profile),
     /// Find the profile.
     Probe,
+    /// Play back a journal that a stop has left.
+    Recover(Profile),
 }
 
 impl Command {
@@ -22,7 +24,7 @@ impl Command {
     {
         match self {
             Command::Tags(profile) => profile.tag_len == 0,
-            Command::Header(_) | Command::Probe => false,
+            Command::Header(_) | Command::Probe | Command::Recover(_) => false,
         }
     }
 }
@@ -34,8 +36,25 @@ pub fn parse_words(words: &[&str]) -> Option<Command>
 {
     match words {
         [name] if *name == "probe" => Some(Command::Probe),
-        [name, word] if *name == "tags" => Some(Command::Tags(profile_of(word)?)),
-        [name, word] if *name == "header" => Some(Command::Header(profile_of(word)?)),
+        [name, word] => command_on(name, word),
         _ => None,
     }
+}
+
+// The command of this name on a file of the profile that the word names.
+fn command_on(name: &str, word: &str) -> Option<Command>
+    ensures form { result ≡ form (name.now ∷ word.now ∷ []) }
+    ensures served { IfSome result IsServed }
+{
+    let profile = profile_of(word);
+    if name == "tags" {
+        return Some(Command::Tags(profile?));
+    }
+    if name == "header" {
+        return Some(Command::Header(profile?));
+    }
+    if name == "recover" {
+        return Some(Command::Recover(profile?));
+    }
+    None
 }

@@ -41,6 +41,8 @@ pub fn conclude_stop<S: Sink>(out: &mut S, stop: Stop) -> Status
     ensures text { (answer : Answer) → stop_answer stop ≡ Some answer → IsTrue S.tells → Puts result answer.text (S.taken out.old) (S.taken out.new) }
     ensures disk { stop ≡ Stop.DiskFault → (result ≡ Status.DiskFault) × (out.new ≡ out.old) }
     ensures no_disk { result ≡ Status.DiskFault → stop ≡ Stop.DiskFault }
+    ensures memory { stop ≡ Stop.OutOfMemory → (result ≡ Status.OutOfMemory) × (out.new ≡ out.old) }
+    ensures no_memory { result ≡ Status.OutOfMemory → stop ≡ Stop.OutOfMemory }
     ensures late { IsLate stop → IsEarly result → ⊥ }
     ensures line { IsTrue S.tells → PutsLine result (S.taken out.old) (S.taken out.new) }
     ensures fault { result ≡ Status.OutputFault → Rose (S.faults out.old) (S.faults out.new) }
@@ -51,6 +53,7 @@ pub fn conclude_stop<S: Sink>(out: &mut S, stop: Stop) -> Status
         Stop::Refused(refusal) => conclude_refusal(out, refusal),
         Stop::KeyRefused => conclude(out, &key_refused_line(), Status::KeyRefused),
         Stop::DiskFault => Status::DiskFault,
+        Stop::OutOfMemory => Status::OutOfMemory,
     }
 }
 
@@ -60,6 +63,8 @@ pub fn conclude_outcome<S: Sink>(out: &mut S, outcome: Result<Text, Stop>) -> St
     ensures text { (answer : Answer) → outcome_answer outcome ≡ Some answer → IsTrue S.tells → Puts result answer.text (S.taken out.old) (S.taken out.new) }
     ensures disk { outcome ≡ Err Stop.DiskFault → (result ≡ Status.DiskFault) × (out.new ≡ out.old) }
     ensures no_disk { result ≡ Status.DiskFault → outcome ≡ Err Stop.DiskFault }
+    ensures memory { outcome ≡ Err Stop.OutOfMemory → (result ≡ Status.OutOfMemory) × (out.new ≡ out.old) }
+    ensures no_memory { result ≡ Status.OutOfMemory → outcome ≡ Err Stop.OutOfMemory }
     ensures late { IfErr outcome IsLate → IsEarly result → ⊥ }
     ensures line { IsTrue S.tells → PutsLine result (S.taken out.old) (S.taken out.new) }
     ensures fault { result ≡ Status.OutputFault → Rose (S.faults out.old) (S.faults out.new) }

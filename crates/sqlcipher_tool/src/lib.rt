@@ -7,6 +7,7 @@ mod header;
 mod main_file;
 mod opening;
 mod probe;
+mod recovery;
 mod status;
 mod tags;
 #[cfg(test)]

@@ -3,9 +3,9 @@ ghost use Rattle.std.specs.Prelude.{◌≡◌, ◌⊎◌, ◌+◌, ◌*◌, ◌/
 ghost use Rattle.edge_model.specs.Causes.{HasCause, Rose};
 ghost use Rattle.edge_model.specs.OnlyRead.{OnlyRead};
 ghost use Rattle.cipher_profile.specs.Profile.{IsListed};
-ghost use Rattle.page_codec.specs.Page.{fits};
+ghost use Rattle.page_codec.specs.Page.{fits, keys_of};
 ghost use Rattle.sqlcipher_tool.specs.Answer.{first_of};
-ghost use Rattle.sqlcipher_tool.specs.Opening.{main_of, main_keys, first_page, length_causes, key_causes};
+ghost use Rattle.sqlcipher_tool.specs.Opening.{main_of, first_page, length_causes, key_causes};
 ghost use Rattle.sqlcipher_tool.specs.Stop.{stop_answer, IsLate};
 ghost use Rattle.sqlcipher_tool.specs.declared.opening.Stop.TheVariants.{DiskFault};
 
@@ -24,6 +24,8 @@ pub enum Stop {
     KeyRefused,
     /// The disk failed.
     DiskFault,
+    /// Memory ran out.
+    OutOfMemory,
 }
 
 impl From<Failed> for Stop {
@@ -34,21 +36,19 @@ impl From<Failed> for Stop {
     }
 }
 
-/// The length of Main, where there is no journal and Main has a page.
+/// The length of Main, where it has a page.
 pub fn served_length<D: Disk>(disk: &mut D, profile: Profile) -> Result<u64, Stop>
     requires { IsListed profile }
-    ensures none { OnOk result (IsTrue D.tells → first_of (length_causes profile (D.reads disk.old)) ≡ None) }
+    ensures none { OnOk result (IsTrue D.tells → first_of (length_causes profile (main_of (D.reads disk.old))) ≡ None) }
     ensures told { IfOk result (λ len. IsTrue D.tells → len ≡ length (main_of (D.reads disk.old))) }
-    ensures stop { IfErr result (λ stop. IsTrue D.tells → (stop ≡ Stop.DiskFault) ⊎ (first_of (length_causes profile (D.reads disk.old)) ≡ stop_answer stop)) }
+    ensures stop { IfErr result (λ stop. IsTrue D.tells → (stop ≡ Stop.DiskFault) ⊎ (first_of (length_causes profile (main_of (D.reads disk.old))) ≡ stop_answer stop)) }
     ensures page { IfOk result (λ len. profile.page_size ≤ len) }
+    ensures fed { IfErr result (λ stop. stop ≡ Stop.OutOfMemory → ⊥) }
     ensures late { IfErr result IsLate }
     ensures cause { IfErr result (λ stop. stop ≡ Stop.DiskFault → Rose (D.faults disk.old) (D.faults disk.new)) }
     ensures later { D.faults disk.old ≤ D.faults disk.new }
     ensures only_read { IsTrue D.tells → OnlyRead D.reads D.images D.moment D.since disk.old disk.new }
 {
-    if file_length(disk, Role::Journal)?.is_some() {
-        return Err(Stop::Refused(Refusal::NotBuilt));
-    }
     let length = file_length(disk, Role::Main)?.unwrap_or(0);
     if length == 0 {
         return Err(Stop::Refused(Refusal::Empty));
@@ -67,11 +67,12 @@ pub fn fitting_codec<D: Disk>(
 ) -> Result<Codec, Stop>
     requires listed { IsListed profile }
     requires some { IsTrue D.tells → profile.page_size ≤ length (main_of (D.reads disk.old)) }
-    ensures none { OnOk result (IsTrue D.tells → first_of (key_causes profile secret.now (D.reads disk.old)) ≡ None) }
-    ensures codec { IfOk result (λ codec. IsTrue D.tells → codec ≡ main_keys profile secret.now (D.reads disk.old)) }
+    ensures none { OnOk result (IsTrue D.tells → first_of (key_causes profile secret.now (main_of (D.reads disk.old))) ≡ None) }
+    ensures codec { IfOk result (λ codec. IsTrue D.tells → codec ≡ keys_of profile secret.now (main_of (D.reads disk.old))) }
+    ensures fed { IfErr result (λ stop. stop ≡ Stop.OutOfMemory → ⊥) }
     ensures late { IfErr result IsLate }
     ensures profile { IfOk result (λ codec. codec.profile ≡ profile) }
-    ensures stop { IfErr result (λ stop. IsTrue D.tells → (stop ≡ Stop.DiskFault) ⊎ (first_of (key_causes profile secret.now (D.reads disk.old)) ≡ stop_answer stop)) }
+    ensures stop { IfErr result (λ stop. IsTrue D.tells → (stop ≡ Stop.DiskFault) ⊎ (first_of (key_causes profile secret.now (main_of (D.reads disk.old))) ≡ stop_answer stop)) }
     ensures cause { IfErr result (λ stop. stop ≡ Stop.DiskFault → Rose (D.faults disk.old) (D.faults disk.new)) }
     ensures later { D.faults disk.old ≤ D.faults disk.new }
     ensures only_read { IsTrue D.tells → OnlyRead D.reads D.images D.moment D.since disk.old disk.new }
@@ -91,9 +92,9 @@ pub fn codec_of<D: Disk>(
 ) -> Result<(Codec, bool), Failed>
     requires listed { IsListed profile }
     requires some { IsTrue D.tells → profile.page_size ≤ length (main_of (D.reads disk.old)) }
-    ensures codec { IfOk result (λ codec. IsTrue D.tells → codec.0 ≡ main_keys profile secret.now (D.reads disk.old)) }
+    ensures codec { IfOk result (λ codec. IsTrue D.tells → codec.0 ≡ keys_of profile secret.now (main_of (D.reads disk.old))) }
     ensures profile { IfOk result (λ codec. codec.0.profile ≡ profile) }
-    ensures fits { IfOk result (λ codec. IsTrue D.tells → codec.1 ≡ fits (main_keys profile secret.now (D.reads disk.old)) (first_page profile (D.reads disk.old))) }
+    ensures fits { IfOk result (λ codec. IsTrue D.tells → codec.1 ≡ fits (keys_of profile secret.now (main_of (D.reads disk.old))) (first_page profile (main_of (D.reads disk.old)))) }
     ensures cause { HasCause (D.faults disk.old) (D.faults disk.new) result }
     ensures only_read { IsTrue D.tells → OnlyRead D.reads D.images D.moment D.since disk.old disk.new }
 {

@@ -22,6 +22,7 @@ pub fn probe<S: Sink, D: Disk>(secret: &Secret, out: &mut S, disk: &mut D) -> St
     ensures text { IsTrue S.tells → IsTrue D.tells → Puts result (probe_answer secret.now (D.reads disk.old)).text (S.taken out.old) (S.taken out.new) }
     ensures line { IsTrue S.tells → PutsLine result (S.taken out.old) (S.taken out.new) }
     ensures disk_text { result ≡ Status.DiskFault → out.new ≡ out.old }
+    ensures memory { result ≡ Status.OutOfMemory → ⊥ }
     ensures causes { HasCauses result (D.faults disk.old) (D.faults disk.new) (S.faults out.old) (S.faults out.new) }
     ensures only_read { IsTrue D.tells → OnlyRead D.reads D.images D.moment D.since disk.old disk.new }
 {
@@ -32,6 +33,7 @@ pub fn probe<S: Sink, D: Disk>(secret: &Secret, out: &mut S, disk: &mut D) -> St
 // The report on the profile of Main.
 fn probe_main<D: Disk>(disk: &mut D, secret: &Secret) -> Result<Text, Stop>
     ensures told { IsTrue D.tells → (result ≡ Err Stop.DiskFault) ⊎ (outcome_answer result ≡ Some (probe_answer secret.now (D.reads disk.old))) }
+    ensures fed { IfErr result (λ stop. stop ≡ Stop.OutOfMemory → ⊥) }
     ensures late { IfErr result IsLate }
     ensures cause { IfErr result (λ stop. stop ≡ Stop.DiskFault → Rose (D.faults disk.old) (D.faults disk.new)) }
     ensures later { D.faults disk.old ≤ D.faults disk.new }
@@ -47,6 +49,7 @@ fn probe_main<D: Disk>(disk: &mut D, secret: &Secret) -> Result<Text, Stop>
 // The length of Main, where there is no journal and Main has a byte.
 fn probed_length<D: Disk>(disk: &mut D) -> Result<u64, Stop>
     ensures none { OnOk result (IsTrue D.tells → first_of (probe_causes (D.reads disk.old)) ≡ None) }
+    ensures fed { IfErr result (λ stop. stop ≡ Stop.OutOfMemory → ⊥) }
     ensures late { IfErr result IsLate }
     ensures told { IfOk result (λ len. IsTrue D.tells → len ≡ length (main_of (D.reads disk.old))) }
     ensures stop { IfErr result (λ stop. IsTrue D.tells → (stop ≡ Stop.DiskFault) ⊎ (first_of (probe_causes (D.reads disk.old)) ≡ stop_answer stop)) }
@@ -67,7 +70,7 @@ fn probed_length<D: Disk>(disk: &mut D) -> Result<u64, Stop>
 // The first profile that fits Main, which has this length.
 fn find_profile<D: Disk>(disk: &mut D, secret: &Secret, len: u64) -> Result<Option<Profile>, Failed>
     requires { IsTrue D.tells → len ≡ length (main_of (D.reads disk.old)) }
-    ensures told { IfOk result (λ found. IsTrue D.tells → found ≡ find (is_fitting secret.now (D.reads disk.old)) probed_profiles) }
+    ensures told { IfOk result (λ found. IsTrue D.tells → found ≡ find (is_fitting secret.now (main_of (D.reads disk.old))) probed_profiles) }
     ensures cause { HasCause (D.faults disk.old) (D.faults disk.new) result }
     ensures only_read { IsTrue D.tells → OnlyRead D.reads D.images D.moment D.since disk.old disk.new }
 {
@@ -96,7 +99,7 @@ fn fits_main<D: Disk>(
 ) -> Result<bool, Failed>
     requires listed { IsListed profile }
     requires long { IsTrue D.tells → len ≡ length (main_of (D.reads disk.old)) }
-    ensures told { IfOk result (λ fits. IsTrue D.tells → fits ≡ is_fitting secret.now (D.reads disk.old) profile) }
+    ensures told { IfOk result (λ fits. IsTrue D.tells → fits ≡ is_fitting secret.now (main_of (D.reads disk.old)) profile) }
     ensures cause { HasCause (D.faults disk.old) (D.faults disk.new) result }
     ensures only_read { IsTrue D.tells → OnlyRead D.reads D.images D.moment D.since disk.old disk.new }
 {

@@ -50,8 +50,13 @@ pub enum Refusal {
         /// The page.
         page: u32,
     },
-    /// A journal stands beside the file, and playing it back is not built.
-    NotBuilt,
+    /// The hot journal beside the file has pages of another size.
+    JournalPageSize {
+        /// The size that its header names, in bytes.
+        found: u32,
+    },
+    /// The hot journal beside the file names a super-journal.
+    SuperJournal,
 }
 
 /// How a run ended.

@@ -1,11 +1,16 @@
 // `tags`: whether each whole page of Main is accepted.
 ghost use Rattle.std.specs.Prelude.{◌≡◌, ◌⊎◌, ◌+◌, ◌*◌, ◌/◌, ◌<◌, ◌≤◌, None, ◌++◌, ◌∷◌, [], length, slice_get, option_to_list, Some, IfOk, IfErr, OnOk, OnErr, IsTrue, Err};
 ghost use Rattle.edge_model.specs.Causes.{Rose};
+ghost use Rattle.edge_model.specs.Images.{From, LeavesOnly};
 ghost use Rattle.edge_model.specs.OnlyRead.{OnlyRead};
 ghost use Rattle.cipher_profile.specs.Profile.{IsListed};
 ghost use Rattle.db_format.specs.Count.{largest_database};
+ghost use Rattle.page_codec.specs.Page.{keys_of};
+ghost use Rattle.rollback_journal.specs.Recovery.{Keeps};
 ghost use Rattle.sqlcipher_tool.specs.Answer.{first_of, Puts, PutsLine, PutsPart, IsAnswered, HasCauses, begun};
-ghost use Rattle.sqlcipher_tool.specs.Opening.{main_of, main_keys, whole_pages};
+ghost use Rattle.sqlcipher_tool.specs.Opening.{main_of, whole_pages};
+ghost use Rattle.sqlcipher_tool.specs.Promises.{IsUnrecovered};
+ghost use Rattle.sqlcipher_tool.specs.Recovered.{recovered_answer};
 ghost use Rattle.sqlcipher_tool.specs.Tags.{refused_page, refused_pages, pages_answer, tags_causes, tags_answer};
 ghost use Rattle.sqlcipher_tool.specs.Stop.{stop_answer, IsLate};
 ghost use Rattle.sqlcipher_tool.specs.Text.{tag_lines};
@@ -14,12 +19,14 @@ ghost use Rattle.sqlcipher_tool.specs.declared.status.Refusal.TheVariants.{TooLa
 use crate::conclusion::{conclude, conclude_stop};
 use crate::main_file::{MAX_PAGE, read_page};
 use crate::opening::{Stop, fitting_codec, served_length};
+use crate::recovery::recover_main;
 use crate::status::{Refusal, Status};
 use crate::text::{refusal_line, tags_report};
 use cipher_profile::{Profile, Secret};
 use db_format::LARGEST_DATABASE;
 use edge_model::{Disk, Sink};
 use page_codec::Codec;
+use std::alloc::Global;
 
 // What failed while pages were checked.
 #[derive(Clone, Copy, Debug, PartialEq, Eq)]
@@ -28,8 +35,9 @@ enum CheckFault {
     Output,
 }
 
-/// `tags` with this secret.
+/// `tags` with this secret, after a recovery.
 pub fn tags<S: Sink, D: Disk>(
+    alloc: Global,
     profile: Profile,
     secret: &Secret,
     out: &mut S,
@@ -37,10 +45,35 @@ pub fn tags<S: Sink, D: Disk>(
 ) -> Status
     requires listed { IsListed profile }
     requires tagged { 0 < profile.tag_len }
-    ensures status { IsTrue D.tells → IsAnswered result (tags_answer profile secret.now (D.reads disk.old)) }
-    ensures text { IsTrue S.tells → IsTrue D.tells → Puts result (tags_answer profile secret.now (D.reads disk.old)).text (S.taken out.old) (S.taken out.new) }
+    ensures status { IsTrue D.tells → IsAnswered result (recovered_answer profile (D.reads disk.old) (tags_answer profile secret.now)) }
+    ensures text { IsTrue S.tells → IsTrue D.tells → Puts result (recovered_answer profile (D.reads disk.old) (tags_answer profile secret.now)).text (S.taken out.old) (S.taken out.new) }
     ensures line { IsTrue S.tells → PutsLine result (S.taken out.old) (S.taken out.new) }
-    ensures disk_text { IsTrue S.tells → IsTrue D.tells → result ≡ Status.DiskFault → PutsPart (begun (tags_answer profile secret.now (D.reads disk.old))) (S.taken out.old) (S.taken out.new) }
+    ensures disk_text { IsTrue S.tells → IsTrue D.tells → result ≡ Status.DiskFault → PutsPart (begun (recovered_answer profile (D.reads disk.old) (tags_answer profile secret.now))) (S.taken out.old) (S.taken out.new) }
+    ensures memory_text { result ≡ Status.OutOfMemory → out.new ≡ out.old }
+    ensures causes { HasCauses result (D.faults disk.old) (D.faults disk.new) (S.faults out.old) (S.faults out.new) }
+    ensures keeps { IsTrue D.tells → LeavesOnly D.moment D.since disk.old disk.new (From (Keeps profile.page_size) (D.images disk.old)) }
+    ensures unrecovered { IsTrue D.tells → IsUnrecovered result → D.reads disk.new ≡ D.reads disk.old }
+{
+    match recover_main(alloc, disk, profile) {
+        Ok(_) => tags_of_main(profile, secret, out, disk),
+        Err(stop) => conclude_stop(out, stop),
+    }
+}
+
+// `tags` of Main as it reads.
+fn tags_of_main<S: Sink, D: Disk>(
+    profile: Profile,
+    secret: &Secret,
+    out: &mut S,
+    disk: &mut D,
+) -> Status
+    requires listed { IsListed profile }
+    requires tagged { 0 < profile.tag_len }
+    ensures status { IsTrue D.tells → IsAnswered result (tags_answer profile secret.now (main_of (D.reads disk.old))) }
+    ensures text { IsTrue S.tells → IsTrue D.tells → Puts result (tags_answer profile secret.now (main_of (D.reads disk.old))).text (S.taken out.old) (S.taken out.new) }
+    ensures line { IsTrue S.tells → PutsLine result (S.taken out.old) (S.taken out.new) }
+    ensures disk_text { IsTrue S.tells → IsTrue D.tells → result ≡ Status.DiskFault → PutsPart (begun (tags_answer profile secret.now (main_of (D.reads disk.old)))) (S.taken out.old) (S.taken out.new) }
+    ensures memory { result ≡ Status.OutOfMemory → out.new ≡ out.old }
     ensures causes { HasCauses result (D.faults disk.old) (D.faults disk.new) (S.faults out.old) (S.faults out.new) }
     ensures only_read { IsTrue D.tells → OnlyRead D.reads D.images D.moment D.since disk.old disk.new }
 {
@@ -57,12 +90,12 @@ fn open_for_tags<D: Disk>(
     secret: &Secret,
 ) -> Result<(Codec, u32), Stop>
     requires { IsListed profile }
-    ensures none { OnOk result (IsTrue D.tells → first_of (tags_causes profile secret.now (D.reads disk.old)) ≡ None) }
-    ensures codec { IfOk result (λ opened. IsTrue D.tells → opened.0 ≡ main_keys profile secret.now (D.reads disk.old)) }
+    ensures none { OnOk result (IsTrue D.tells → first_of (tags_causes profile secret.now (main_of (D.reads disk.old))) ≡ None) }
+    ensures codec { IfOk result (λ opened. IsTrue D.tells → opened.0 ≡ keys_of profile secret.now (main_of (D.reads disk.old))) }
     ensures pages { IfOk result (λ opened. IsTrue D.tells → opened.1 ≡ whole_pages profile (main_of (D.reads disk.old))) }
     ensures profile { IfOk result (λ opened. opened.0.profile ≡ profile) }
     ensures late { IfErr result IsLate }
-    ensures stop { IfErr result (λ stop. IsTrue D.tells → (stop ≡ Stop.DiskFault) ⊎ (first_of (tags_causes profile secret.now (D.reads disk.old)) ≡ stop_answer stop)) }
+    ensures stop { IfErr result (λ stop. IsTrue D.tells → (stop ≡ Stop.DiskFault) ⊎ (first_of (tags_causes profile secret.now (main_of (D.reads disk.old))) ≡ stop_answer stop)) }
     ensures cause { IfErr result (λ stop. stop ≡ Stop.DiskFault → Rose (D.faults disk.old) (D.faults disk.new)) }
     ensures later { D.faults disk.old ≤ D.faults disk.new }
     ensures only_read { IsTrue D.tells → OnlyRead D.reads D.images D.moment D.since disk.old disk.new }
@@ -96,6 +129,7 @@ fn tags_of_pages<S: Sink, D: Disk>(codec: &Codec, pages: u32, out: &mut S, disk:
     ensures text { IsTrue S.tells → IsTrue D.tells → Puts result (pages_answer pages (refused_pages codec.now (main_of (D.reads disk.old)) pages)).text (S.taken out.old) (S.taken out.new) }
     ensures line { IsTrue S.tells → PutsLine result (S.taken out.old) (S.taken out.new) }
     ensures disk_text { IsTrue S.tells → IsTrue D.tells → result ≡ Status.DiskFault → PutsPart (begun (pages_answer pages (refused_pages codec.now (main_of (D.reads disk.old)) pages))) (S.taken out.old) (S.taken out.new) }
+    ensures memory { result ≡ Status.OutOfMemory → ⊥ }
     ensures causes { HasCauses result (D.faults disk.old) (D.faults disk.new) (S.faults out.old) (S.faults out.new) }
     ensures only_read { IsTrue D.tells → OnlyRead D.reads D.images D.moment D.since disk.old disk.new }
 {

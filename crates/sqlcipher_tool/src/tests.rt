@@ -118,7 +118,72 @@ fn answers_each_row_of_tags(rt: HostRuntime) -> Result<(), Fail> {
     for (main, text, code) in rows {
         check(&rt, alloc, &words, (main, false), KEY, (text, code))?;
     }
-    check(&rt, alloc, &words, (None, true), KEY, ("not built\n", 2))
+    check(
+        &rt,
+        alloc,
+        &words,
+        (None, true),
+        KEY,
+        ("file is empty\n", 2),
+    )
+}
+
+// A journal of the four pages with the first bytes of page 3. Its checksum is the nonce and the bytes at 3,896, 3,696, .. and
+// 96 of the image, twenty times 3.
+fn journal_of_page_3(alloc: Global) -> Result<Vec<u8>, Fail> {
+    let mut journal = vec![in alloc; 0u8; 512]?;
+    let header = [
+        0xd9, 0xd5, 0x05, 0xf9, 0x20, 0xa1, 0x63, 0xd7, 0, 0, 0, 1, 0, 0, 0, 7, 0, 0, 0, 4, 0, 0,
+        2, 0, 0, 0, 0x10, 0,
+    ];
+    for (to, from) in journal.iter_mut().zip(header.iter()) {
+        *to = *from;
+    }
+    journal.extend_from_slice(&[0, 0, 0, 3])?;
+    for byte in tagged(alloc)?
+        .iter()
+        .skip(2 * TAGGED_SIZE)
+        .take(TAGGED_SIZE)
+    {
+        journal.push(*byte)?;
+    }
+    journal.extend_from_slice(&[0, 0, 0, 67])?;
+    Ok(journal)
+}
+
+#[test]
+fn recovers_before_it_answers(rt: HostRuntime) -> Result<(), Fail> {
+    let alloc = rt.alloc();
+    let damaged = turned(alloc, 12_224)?;
+    let hot = journal_of_page_3(alloc)?;
+    let rows: [(&[&str], Option<&[u8]>, &str, u8); 5] = [
+        (
+            &["tags", "4"],
+            Some(hot.as_slice()),
+            "tags hold: 4 pages\n",
+            0,
+        ),
+        (&["recover", "4"], Some(hot.as_slice()), "played: 1\n", 0),
+        (
+            &["recover", "3"],
+            Some(hot.as_slice()),
+            "journal page size 4096\n",
+            2,
+        ),
+        (&["recover", "4"], Some(&[0]), "cold\n", 0),
+        (&["recover", "4"], None, "nothing\n", 0),
+    ];
+    for (words, journal, text, code) in rows {
+        let mut disk = MemDisk::with_files(alloc, Some(damaged.as_slice()), journal, None)?;
+        let mut input = MemSource::new(alloc, KEY, &[])?;
+        let mut out = MemSink::new(alloc, &[])?;
+        let mut entropy = MemEntropy::new(alloc, &[], &[])?;
+        let status = run(alloc, words, &mut input, &mut out, &mut entropy, &mut disk);
+        assert_eq!(rt; out.bytes(), text.as_bytes());
+        assert_eq!(rt; status.code(), code);
+        assert_eq!(rt; disk.bytes(Role::Journal).is_some(), code == 2);
+    }
+    Ok(())
 }
 
 #[test]
@@ -152,12 +217,14 @@ fn answers_the_failure_of_each_call(rt: HostRuntime) -> Result<(), Fail> {
         (1u64, 0u64, 0u64, Status::InputFault),
         (68, 0, 0, Status::InputFault),
         (0, 1, 0, Status::OutputFault),
+        // Twelve calls: four before the recovery looks, two that look, the length, page 1, and each of the four pages.
         (0, 0, 1, Status::DiskFault),
-        (0, 0, 2, Status::DiskFault),
-        (0, 0, 3, Status::DiskFault),
         (0, 0, 4, Status::DiskFault),
+        (0, 0, 6, Status::DiskFault),
         (0, 0, 7, Status::DiskFault),
-        (0, 0, 8, Status::Done),
+        (0, 0, 8, Status::DiskFault),
+        (0, 0, 12, Status::DiskFault),
+        (0, 0, 13, Status::Done),
     ];
     for (take, put, call, status) in cases {
         let mut disk = MemDisk::with_files(alloc, Some(main.as_slice()), None, None)?;

@@ -2,12 +2,13 @@
 ghost use Rattle.std.specs.Prelude.{◌≡◌, ◌+◌, ◌≤◌, ◌++◌, ◌∷◌, ℕ, List, [], length, take, codes, decimal, OnOk, OnErr, IsTrue};
 ghost use Rattle.edge_model.specs.Causes.{HasCause};
 ghost use Rattle.sqlcipher_tool.specs.Answer.{PutsPart};
-ghost use Rattle.sqlcipher_tool.specs.Text.{refusal_text, refusal_line, tags_report, probe_report, field_line, header_report, usage_line, key_refused_line};
+ghost use Rattle.sqlcipher_tool.specs.Text.{refusal_text, refusal_line, tags_report, probe_report, recovery_line, field_line, header_report, usage_line, key_refused_line};
 
 use crate::status::Refusal;
 use db_format::Header;
 use edge_model::{Failed, Sink, put_all};
 use itoa::Buffer;
+use rollback_journal::Recovery;
 use std::marker::Model;
 
 /// Room for the longest report, in bytes.
@@ -116,7 +117,11 @@ fn refusal_text(refusal: &Refusal) -> Text
         Refusal::Ragged { length } => text.push_around(b"file is ragged: ", *length, b" bytes"),
         Refusal::TooLarge { pages } => text.push_around(b"file is too large: ", *pages, b" pages"),
         Refusal::PageTag { page } => text.push_around(b"page ", u64::from(*page), b": tag refused"),
-        Refusal::NotBuilt => text.push(b"not built"),
+        Refusal::JournalPageSize { found } => {
+            text.push(b"journal page size ");
+            text.push_number(u64::from(*found));
+        }
+        Refusal::SuperJournal => text.push(b"journal names a super-journal"),
     }
     text
 }
@@ -145,6 +150,19 @@ pub fn probe_report(version: u8) -> Text
 {
     let mut text = Text::new();
     text.push_around(b"profile ", u64::from(version), b"\n");
+    text
+}
+
+/// The line of a recovery.
+pub fn recovery_line(recovery: &Recovery) -> Text
+    ensures { result ≡ recovery_line recovery.now }
+{
+    let mut text = Text::new();
+    match recovery {
+        Recovery::Nothing => text.push(b"nothing\n"),
+        Recovery::Cold => text.push(b"cold\n"),
+        Recovery::Played { records } => text.push_around(b"played: ", *records, b"\n"),
+    }
     text
 }
 

@@ -1,21 +1,23 @@
 // The top call.
-ghost use Rattle.std.specs.Prelude.{◌≡◌, ◌⊎◌, ◌≤◌, ◌<◌, ℕ, List, drop, true, false, None, Some, Err, IsTrue, IsErr};
+ghost use Rattle.std.specs.Prelude.{◌≡◌, ◌⊎◌, ◌≤◌, ◌∷◌, ℕ, List, [], true, false, None, Some, Ok, Err, IsTrue, IsErr};
 ghost use Rattle.edge_model.specs.Causes.{Rose};
-ghost use Rattle.edge_model.specs.Images.{LeavesOnly};
-ghost use Rattle.edge_model.specs.OnlyRead.{OnlyRead};
-ghost use Rattle.cipher_profile.specs.KeyLine.{after_line, key_line};
-ghost use Rattle.sqlcipher_tool.specs.Answer.{IsFault, IsAnswered, IsEarly, Puts, PutsLine, PutsPart, HasCauses, begun};
 ghost use Rattle.cipher_profile.specs.declared.key_line.KeyError.{KeyError as KeyRefusal};
-ghost use Rattle.sqlcipher_tool.specs.declared.status.Refusal.TheVariants.{NoTags};
-ghost use Rattle.sqlcipher_tool.specs.Due.{due, secret_answer, asked_answer, key_answer};
+ghost use Rattle.cipher_profile.specs.declared.keys.Secret.{Secret as Key};
+ghost use Rattle.sqlcipher_tool.specs.Answer.{IsEarly, Puts, PutsLine, HasCauses};
+ghost use Rattle.sqlcipher_tool.specs.Crash.{Keeps, Changes};
+ghost use Rattle.sqlcipher_tool.specs.Due.{due, key_answer, key_lines, word_refusal, asked_answers, keyed_answers, secret_answers};
+ghost use Rattle.sqlcipher_tool.specs.Holding.{disk_run};
+ghost use Rattle.sqlcipher_tool.specs.Promises.{AnswersOne, AreWordsThat, ComesLate, IsAnsweredEarly, IsUnrecovered, TakesLines, WhereTaken, takes_keys};
 ghost use Rattle.sqlcipher_tool.specs.Text.{usage_line};
-ghost use Rattle.sqlcipher_tool.specs.declared.command.Command.{Command};
-ghost use Rattle.sqlcipher_tool.specs.Words.{form, texts, lacks_tags, IsServed};
+ghost use Rattle.sqlcipher_tool.specs.declared.command.Command.{Command as Asked};
+ghost use Rattle.sqlcipher_tool.specs.declared.status.Refusal.{Refusal as Refused};
+ghost use Rattle.sqlcipher_tool.specs.Words.{form, texts, keys_taken, lacks_tags, recovers, IsServed};
 
 use crate::command::{Command, parse_words};
 use crate::conclusion::{conclude, conclude_refusal};
 use crate::header::header;
 use crate::probe::probe;
+use crate::recovery::report_recovery;
 use crate::status::{Refusal, Status};
 use crate::tags::tags;
 use crate::text::usage_line;
@@ -33,76 +35,86 @@ pub fn run<K: Source, S: Sink, E: Entropy, D: Disk>(
     entropy: &mut E,
     disk: &mut D,
 ) -> Status
-    // Which answer comes, and when something outside failed in its place.
+    // Which answer comes: what the words decide, then what the input decides, then what the files decide.
     ensures usage { result ≡ Status.Usage → form (texts words.now) ≡ None }
     ensures usage_comes { form (texts words.now) ≡ None → (result ≡ Status.Usage) ⊎ (result ≡ Status.OutputFault) }
-    ensures no_tags { (command : Command) → form (texts words.now) ≡ Some command → lacks_tags command ≡ true → (result ≡ Status.Refused NoTags) ⊎ (result ≡ Status.OutputFault) }
-    ensures keys { IsTrue K.tells → (command : Command) (error : KeyRefusal) → form (texts words.now) ≡ Some command → lacks_tags command ≡ false → key_line (K.left input.old) ≡ Err error → IsAnswered result (key_answer error) }
-    ensures status { IsTrue K.tells → IsTrue D.tells → IsAnswered result (due (texts words.now) (K.left input.old) (D.reads disk.old)) }
-    ensures input_fault { result ≡ Status.InputFault → Rose (K.faults input.old) (K.faults input.new) }
+    ensures word_refusals { (command : Asked) (refusal : Refused) → form (texts words.now) ≡ Some command → word_refusal command ≡ Some refusal
+        → (result ≡ Status.Refused refusal) ⊎ (result ≡ Status.OutputFault) }
+    ensures key_refusals { IsTrue K.tells → WhereTaken (texts words.now) (λ command. (error : KeyRefusal)
+        → key_lines (keys_taken command) (K.left input.old) ≡ Err error → IsAnsweredEarly result (key_answer error)) }
+    ensures answer { IsTrue K.tells → IsTrue D.tells
+        → AnswersOne (due (texts words.now) (K.left input.old) (D.reads disk.old)) result S.tells (S.taken out.old) (S.taken out.new) }
+
+    // When something outside failed in its place, or memory ran out.
+    ensures input_fault { result ≡ Status.InputFault → Rose (K.faults input.old) (K.faults input.new) × AreWordsThat takes_keys (texts words.now) }
     ensures output_fault { result ≡ Status.OutputFault → Rose (S.faults out.old) (S.faults out.new) }
     ensures disk_fault { result ≡ Status.DiskFault → Rose (D.faults disk.old) (D.faults disk.new) }
     ensures entropy_fault { result ≡ Status.EntropyFault → ⊥ }
-    ensures memory { result ≡ Status.OutOfMemory → ⊥ }
+    ensures memory { result ≡ Status.OutOfMemory → ComesLate (texts words.now) K.tells (K.left input.old) }
+    ensures input_later { K.faults input.old ≤ K.faults input.new }
+    ensures output_later { S.faults out.old ≤ S.faults out.new }
+    ensures disk_later { D.faults disk.old ≤ D.faults disk.new }
 
-    // What is printed.
+    // What is printed, where the input or the disk does not tell.
     ensures usage_text { IsTrue S.tells → form (texts words.now) ≡ None → Puts result usage_line (S.taken out.old) (S.taken out.new) }
-    ensures text { IsTrue S.tells → IsTrue K.tells → IsTrue D.tells → Puts result (due (texts words.now) (K.left input.old) (D.reads disk.old)).text (S.taken out.old) (S.taken out.new) }
     ensures line { IsTrue S.tells → PutsLine result (S.taken out.old) (S.taken out.new) }
-    ensures disk_text { IsTrue S.tells → IsTrue K.tells → IsTrue D.tells → result ≡ Status.DiskFault → PutsPart (begun (due (texts words.now) (K.left input.old) (D.reads disk.old))) (S.taken out.old) (S.taken out.new) }
     ensures input_text { result ≡ Status.InputFault → out.new ≡ out.old }
 
     // What is taken and drawn, and that an answer which needs no disk makes no call of it.
     ensures words_first { form (texts words.now) ≡ None → (input.new ≡ input.old) × (disk.new ≡ disk.old) }
-    ensures tags_first { (command : Command) → form (texts words.now) ≡ Some command → lacks_tags command ≡ true → (input.new ≡ input.old) × (disk.new ≡ disk.old) }
-    ensures key_first { IsTrue K.tells → IsErr (key_line (K.left input.old)) → disk.new ≡ disk.old }
-    ensures fault_first { result ≡ Status.InputFault → disk.new ≡ disk.old }
+    ensures refused_first { (command : Asked) (refusal : Refused) → form (texts words.now) ≡ Some command → word_refusal command ≡ Some refusal
+        → (input.new ≡ input.old) × (disk.new ≡ disk.old) }
+    ensures key_first { IsTrue K.tells → WhereTaken (texts words.now) (λ command. IsErr (key_lines (keys_taken command) (K.left input.old))
+        → disk.new ≡ disk.old) }
     ensures early_first { IsEarly result → disk.new ≡ disk.old }
-    ensures rest { IsTrue K.tells → (command : Command) → form (texts words.now) ≡ Some command → lacks_tags command ≡ false → (result ≡ Status.InputFault) ⊎ (K.left input.new ≡ after_line (K.left input.old)) }
-    ensures takes { IsTrue K.tells → (n : ℕ) × (n ≤ 1025) × (K.left input.new ≡ drop n (K.left input.old)) }
+    ensures fault_first { result ≡ Status.InputFault → disk.new ≡ disk.old }
+    ensures takes { IsTrue K.tells → WhereTaken (texts words.now) (λ command. TakesLines result (keys_taken command) (K.left input.old) (K.left input.new)) }
     ensures draws { entropy.new ≡ entropy.old }
 
-    // What stays on the disk.
-    ensures only_read { IsTrue D.tells → OnlyRead D.reads D.images D.moment D.since disk.old disk.new }
-    ensures any_moment { IsTrue D.tells → LeavesOnly D.moment D.since disk.old disk.new (D.images disk.old) }
-    ensures input_later { K.faults input.old ≤ K.faults input.new }
-    ensures output_later { S.faults out.old ≤ S.faults out.new }
-    ensures disk_later { D.faults disk.old ≤ D.faults disk.new }
+    // The disk, at every moment of the run and after every status.
+    ensures unrecovered { IsTrue D.tells → IsUnrecovered result → D.reads disk.new ≡ D.reads disk.old }
+    ensures keeps { IsTrue D.tells → (command : Asked) → form (texts words.now) ≡ Some command
+        → Keeps command (disk_run D.reads D.images D.moment D.since disk.old disk.new) }
+    ensures changes { IsTrue D.tells → (command : Asked) → form (texts words.now) ≡ Some command
+        → Changes result command (disk_run D.reads D.images D.moment D.since disk.old disk.new) }
 {
     match parse_words(words) {
         None => conclude(out, &usage_line(), Status::Usage),
-        Some(command) => serve(command, input, out, disk),
+        Some(command) => serve(alloc, command, input, out, disk),
     }
 }
 
 // A command, with the input and the files.
 fn serve<K: Source, S: Sink, D: Disk>(
+    alloc: Global,
     command: Command,
     input: &mut K,
     out: &mut S,
     disk: &mut D,
 ) -> Status
     requires { IsServed command }
-    ensures status { IsTrue K.tells → IsTrue D.tells → IsAnswered result (asked_answer command (K.left input.old) (D.reads disk.old)) }
-    ensures text { IsTrue S.tells → IsTrue K.tells → IsTrue D.tells → Puts result (asked_answer command (K.left input.old) (D.reads disk.old)).text (S.taken out.old) (S.taken out.new) }
-    ensures line { IsTrue S.tells → PutsLine result (S.taken out.old) (S.taken out.new) }
-    ensures disk_text { IsTrue S.tells → IsTrue K.tells → IsTrue D.tells → result ≡ Status.DiskFault → PutsPart (begun (asked_answer command (K.left input.old) (D.reads disk.old))) (S.taken out.old) (S.taken out.new) }
-    ensures input_text { result ≡ Status.InputFault → out.new ≡ out.old }
-    ensures no_tags { lacks_tags command ≡ true → (result ≡ Status.Refused NoTags) ⊎ (result ≡ Status.OutputFault) }
-    ensures keys { IsTrue K.tells → (error : KeyRefusal) → lacks_tags command ≡ false → key_line (K.left input.old) ≡ Err error → IsAnswered result (key_answer error) }
+    ensures word_refusals { (refusal : Refused) → word_refusal command ≡ Some refusal → (result ≡ Status.Refused refusal) ⊎ (result ≡ Status.OutputFault) }
+    ensures key_refusals { IsTrue K.tells → word_refusal command ≡ None → (error : KeyRefusal)
+        → key_lines (keys_taken command) (K.left input.old) ≡ Err error → IsAnsweredEarly result (key_answer error) }
+    ensures answer { IsTrue K.tells → IsTrue D.tells
+        → AnswersOne (asked_answers (word_refusal command) command (K.left input.old) (D.reads disk.old)) result S.tells (S.taken out.old) (S.taken out.new) }
     ensures no_usage { result ≡ Status.Usage → ⊥ }
-    ensures input_fault { result ≡ Status.InputFault → Rose (K.faults input.old) (K.faults input.new) }
+    ensures input_fault { result ≡ Status.InputFault → Rose (K.faults input.old) (K.faults input.new) × (takes_keys command ≡ true) }
     ensures output_fault { result ≡ Status.OutputFault → Rose (S.faults out.old) (S.faults out.new) }
     ensures disk_fault { result ≡ Status.DiskFault → Rose (D.faults disk.old) (D.faults disk.new) }
     ensures entropy_fault { result ≡ Status.EntropyFault → ⊥ }
-    ensures memory { result ≡ Status.OutOfMemory → ⊥ }
-    ensures tags_first { lacks_tags command ≡ true → (input.new ≡ input.old) × (disk.new ≡ disk.old) }
-    ensures key_first { IsTrue K.tells → IsErr (key_line (K.left input.old)) → disk.new ≡ disk.old }
-    ensures fault_first { result ≡ Status.InputFault → disk.new ≡ disk.old }
+    ensures memory { result ≡ Status.OutOfMemory → (recovers command ≡ true) × (word_refusal command ≡ None)
+        × (IsTrue K.tells → (secrets : List Key) × (key_lines (keys_taken command) (K.left input.old) ≡ Ok secrets)) }
+    ensures line { IsTrue S.tells → PutsLine result (S.taken out.old) (S.taken out.new) }
+    ensures input_text { result ≡ Status.InputFault → out.new ≡ out.old }
+    ensures refused_first { (refusal : Refused) → word_refusal command ≡ Some refusal → (input.new ≡ input.old) × (disk.new ≡ disk.old) }
+    ensures key_first { IsTrue K.tells → word_refusal command ≡ None → IsErr (key_lines (keys_taken command) (K.left input.old)) → disk.new ≡ disk.old }
     ensures early_first { IsEarly result → disk.new ≡ disk.old }
-    ensures rest { IsTrue K.tells → lacks_tags command ≡ false → (result ≡ Status.InputFault) ⊎ (K.left input.new ≡ after_line (K.left input.old)) }
-    ensures takes { IsTrue K.tells → (n : ℕ) × (n ≤ 1025) × (K.left input.new ≡ drop n (K.left input.old)) }
-    ensures only_read { IsTrue D.tells → OnlyRead D.reads D.images D.moment D.since disk.old disk.new }
+    ensures fault_first { result ≡ Status.InputFault → disk.new ≡ disk.old }
+    ensures takes { IsTrue K.tells → word_refusal command ≡ None → TakesLines result (keys_taken command) (K.left input.old) (K.left input.new) }
+    ensures unrecovered { IsTrue D.tells → IsUnrecovered result → D.reads disk.new ≡ D.reads disk.old }
+    ensures keeps { IsTrue D.tells → Keeps command (disk_run D.reads D.images D.moment D.since disk.old disk.new) }
+    ensures changes { IsTrue D.tells → Changes result command (disk_run D.reads D.images D.moment D.since disk.old disk.new) }
     ensures input_later { K.faults input.old ≤ K.faults input.new }
     ensures output_later { S.faults out.old ≤ S.faults out.new }
     ensures disk_later { D.faults disk.old ≤ D.faults disk.new }
@@ -110,8 +122,49 @@ fn serve<K: Source, S: Sink, D: Disk>(
     if command.lacks_tags() {
         return conclude_refusal(out, Refusal::NoTags);
     }
+    match command {
+        Command::Recover(profile) => report_recovery(alloc, profile, out, disk),
+        Command::Tags(_) | Command::Header(_) | Command::Probe => {
+            serve_keyed(alloc, command, input, out, disk)
+        }
+    }
+}
+
+// A command that takes a key line.
+fn serve_keyed<K: Source, S: Sink, D: Disk>(
+    alloc: Global,
+    command: Command,
+    input: &mut K,
+    out: &mut S,
+    disk: &mut D,
+) -> Status
+    requires served { IsServed command }
+    requires tagged { lacks_tags command ≡ false }
+    requires keyed { keys_taken command ≡ 1 }
+    ensures key_refusals { IsTrue K.tells → (error : KeyRefusal) → key_lines 1 (K.left input.old) ≡ Err error → IsAnsweredEarly result (key_answer error) }
+    ensures answer { IsTrue K.tells → IsTrue D.tells
+        → AnswersOne (keyed_answers command (key_lines 1 (K.left input.old)) (D.reads disk.old)) result S.tells (S.taken out.old) (S.taken out.new) }
+    ensures no_usage { result ≡ Status.Usage → ⊥ }
+    ensures input_fault { result ≡ Status.InputFault → Rose (K.faults input.old) (K.faults input.new) }
+    ensures output_fault { result ≡ Status.OutputFault → Rose (S.faults out.old) (S.faults out.new) }
+    ensures disk_fault { result ≡ Status.DiskFault → Rose (D.faults disk.old) (D.faults disk.new) }
+    ensures entropy_fault { result ≡ Status.EntropyFault → ⊥ }
+    ensures memory { result ≡ Status.OutOfMemory → recovers command ≡ true }
+    ensures memory_keys { result ≡ Status.OutOfMemory → IsTrue K.tells → (secrets : List Key) × (key_lines 1 (K.left input.old) ≡ Ok secrets) }
+    ensures line { IsTrue S.tells → PutsLine result (S.taken out.old) (S.taken out.new) }
+    ensures input_text { result ≡ Status.InputFault → out.new ≡ out.old }
+    ensures key_first { IsTrue K.tells → IsErr (key_lines 1 (K.left input.old)) → disk.new ≡ disk.old }
+    ensures early_first { IsEarly result → disk.new ≡ disk.old }
+    ensures fault_first { result ≡ Status.InputFault → disk.new ≡ disk.old }
+    ensures takes { IsTrue K.tells → TakesLines result 1 (K.left input.old) (K.left input.new) }
+    ensures unrecovered { IsTrue D.tells → IsUnrecovered result → D.reads disk.new ≡ D.reads disk.old }
+    ensures keeps { IsTrue D.tells → Keeps command (disk_run D.reads D.images D.moment D.since disk.old disk.new) }
+    ensures input_later { K.faults input.old ≤ K.faults input.new }
+    ensures output_later { S.faults out.old ≤ S.faults out.new }
+    ensures disk_later { D.faults disk.old ≤ D.faults disk.new }
+{
     match read_key(input) {
-        Ok(secret) => carry_out(command, &secret, out, disk),
+        Ok(secret) => carry_out(alloc, command, &secret, out, disk),
         Err(KeyError::KeyMissing) => conclude_refusal(out, Refusal::KeyMissing),
         Err(KeyError::KeyEmpty) => conclude_refusal(out, Refusal::KeyEmpty),
         Err(KeyError::KeyTooLong) => conclude_refusal(out, Refusal::KeyTooLong),
@@ -121,8 +174,8 @@ fn serve<K: Source, S: Sink, D: Disk>(
 }
 
 // A command with its secret.
-#[tactic(auto, using(crate::proofs::Conclusions::no_part))]
 fn carry_out<S: Sink, D: Disk>(
+    alloc: Global,
     command: Command,
     secret: &Secret,
     out: &mut S,
@@ -130,16 +183,18 @@ fn carry_out<S: Sink, D: Disk>(
 ) -> Status
     requires served { IsServed command }
     requires tagged { lacks_tags command ≡ false }
-    ensures status { IsTrue D.tells → IsAnswered result (secret_answer command (D.reads disk.old) secret.now) }
-    ensures text { IsTrue S.tells → IsTrue D.tells → Puts result (secret_answer command (D.reads disk.old) secret.now).text (S.taken out.old) (S.taken out.new) }
+    ensures answer { IsTrue D.tells
+        → AnswersOne (secret_answers command (secret.now ∷ []) (D.reads disk.old)) result S.tells (S.taken out.old) (S.taken out.new) }
     ensures line { IsTrue S.tells → PutsLine result (S.taken out.old) (S.taken out.new) }
-    ensures disk_text { IsTrue S.tells → IsTrue D.tells → result ≡ Status.DiskFault → PutsPart (begun (secret_answer command (D.reads disk.old) secret.now)) (S.taken out.old) (S.taken out.new) }
+    ensures memory { result ≡ Status.OutOfMemory → recovers command ≡ true }
     ensures causes { HasCauses result (D.faults disk.old) (D.faults disk.new) (S.faults out.old) (S.faults out.new) }
-    ensures only_read { IsTrue D.tells → OnlyRead D.reads D.images D.moment D.since disk.old disk.new }
+    ensures unrecovered { IsTrue D.tells → IsUnrecovered result → D.reads disk.new ≡ D.reads disk.old }
+    ensures keeps { IsTrue D.tells → Keeps command (disk_run D.reads D.images D.moment D.since disk.old disk.new) }
 {
     match command {
-        Command::Tags(profile) => tags(profile, secret, out, disk),
-        Command::Header(profile) => header(profile, secret, out, disk),
+        Command::Tags(profile) => tags(alloc, profile, secret, out, disk),
+        Command::Header(profile) => header(alloc, profile, secret, out, disk),
         Command::Probe => probe(secret, out, disk),
+        Command::Recover(profile) => report_recovery(alloc, profile, out, disk),
     }
 }

@@ -1,6 +1,6 @@
 use Rattle.std.proofs.Common.{◌≡◌, ◌*◌, ◌≤◌, List, ℕ, length, arith, rules, ap, ◌∙◌}
 use Rattle.page_codec.specs.Page.{FileKeys, stored_page, keys_of, fits}
-use Rattle.sqlcipher_tool.specs.Opening.{main_of, main_keys}
+use Rattle.sqlcipher_tool.specs.Opening.{main_of}
 use Rattle.sqlcipher_tool.proofs.FirstPage.{keys_from_page, page_is}
 use Rattle.sqlcipher_tool.proofs.opening.codec_of.Goals as goal
 
@@ -27,4 +27,4 @@ returns-clause-fits g c = λ told.
     c.key_fits-fits.ensures
     ∙ ap (λ (keys : FileKeys). fits keys page)
     (c.of_file-codec.ensures ∙ ap (λ (p : List ℕ). keys_of profile c.args.secret.now p) paged ∙ keys_from_page profile c.args.secret.now main listed (c.requires.some told))
-    ∙ ap (λ (p : List ℕ). fits (main_keys profile c.args.secret.now (g.D.Disk.reads c.args.disk.now)) p) paged
+    ∙ ap (λ (p : List ℕ). fits (keys_of profile c.args.secret.now main) p) paged

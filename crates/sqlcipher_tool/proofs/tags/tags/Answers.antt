@@ -1,21 +1,28 @@
-use Rattle.std.proofs.Common.{◌≡◌, ap}
-use Rattle.sqlcipher_tool.specs.Answer.{first_of}
-use Rattle.sqlcipher_tool.specs.Opening.{main_of, main_keys}
-use Rattle.sqlcipher_tool.specs.Tags.{tags_causes, file_answer}
-use Rattle.sqlcipher_tool.proofs.Conclusions.{no_part, stop_text}
+use Rattle.std.proofs.Common.{◌≡◌, ⊎_elim, inl, inr, sym, ap, subst}
+use Rattle.sqlcipher_tool.specs.Answer.{IsFault}
+use Rattle.sqlcipher_tool.specs.Tags.{tags_answer}
+use Rattle.sqlcipher_tool.specs.declared.status.Status.TheVariants.{OutputFault}
+use Rattle.sqlcipher_tool.specs.Recovered.{recovered_main, recovery_of}
+use Rattle.sqlcipher_tool.proofs.Conclusions.{recovery_status, recovery_text}
 use Rattle.sqlcipher_tool.proofs.tags.tags.Goals as goal
+
+pub returns-in-Err-clause-status : goal.returns-in-Err-clause-status
+returns-in-Err-clause-status g c = λ told.
+    let files = g.D.Disk.reads c.args.disk.now in
+    recovery_status c.in-Err.stop (recovery_of c.args.profile files)
+    (tags_answer c.args.profile c.args.secret.now (recovered_main c.args.profile files)) c.conclude_stop.result
+    (c.in-Err.ensures.stop told)
+    (λ answer is. ⊎_elim (λ same. inl same) (λ (out : c.conclude_stop.result ≡ OutputFault). inr (subst IsFault (sym out) tt))
+    (c.conclude_stop.ensures.status answer is))
+    (λ is. (c.conclude_stop.ensures.disk is).0) (λ is. (c.conclude_stop.ensures.memory is).0)
 
 pub returns-in-Err-clause-text : goal.returns-in-Err-clause-text
 returns-in-Err-clause-text g c = λ printed told.
     let files = g.D.Disk.reads c.args.disk.now in
-    let profile = c.args.profile in
-    let secret = c.args.secret.now in
-    stop_text c.in-Err.stop (first_of (tags_causes profile secret files))
-    (file_answer (main_keys profile secret files) (main_of files)) c.conclude_stop.result (g.S.Sink.taken c.args.out.now)
-    (g.S.Sink.taken c.conclude_stop.new.out)
+    recovery_text c.in-Err.stop (recovery_of c.args.profile files)
+    (tags_answer c.args.profile c.args.secret.now (recovered_main c.args.profile files)) c.conclude_stop.result
+    (g.S.Sink.taken c.args.out.now) (g.S.Sink.taken c.conclude_stop.new.out)
     (c.in-Err.ensures.stop told)
     (λ answer is. c.conclude_stop.ensures.text answer is printed)
     (λ is. let failed = c.conclude_stop.ensures.disk is in (failed.0, ap g.S.Sink.taken failed.1))
-
-pub returns-in-Err-clause-disk_text : goal.returns-in-Err-clause-disk_text
-returns-in-Err-clause-disk_text g c = λ printed told is. no_part _ _ _ (ap g.S.Sink.taken (c.conclude_stop.ensures.disk (c.conclude_stop.ensures.no_disk is)).1)
+    (λ is. let starved = c.conclude_stop.ensures.memory is in (starved.0, ap g.S.Sink.taken starved.1))

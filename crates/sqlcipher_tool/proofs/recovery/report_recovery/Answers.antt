@@ -1,0 +1,14 @@
+use Rattle.std.proofs.Common.{◌≡◌, ap}
+use Rattle.sqlcipher_tool.specs.Recovered.{recovery_answer, recovery_of}
+use Rattle.sqlcipher_tool.proofs.Conclusions.{outcome_text}
+use Rattle.sqlcipher_tool.proofs.recovery.report_recovery.Goals as goal
+
+pub returns-clause-text : goal.returns-clause-text
+returns-clause-text g c = λ printed told.
+    outcome_text c.describe_recovery-outcome.result
+    (recovery_answer (recovery_of c.args.profile (g.D.Disk.reads c.args.disk.now))) c.conclude_outcome.result
+    (g.S.Sink.taken c.args.out.now) (g.S.Sink.taken c.conclude_outcome.new.out)
+    (c.describe_recovery-outcome.ensures.told told)
+    (λ answer is. c.conclude_outcome.ensures.text answer is printed)
+    (λ is. let failed = c.conclude_outcome.ensures.disk is in (failed.0, ap g.S.Sink.taken failed.1))
+    (λ is. let starved = c.conclude_outcome.ensures.memory is in (starved.0, ap g.S.Sink.taken starved.1))

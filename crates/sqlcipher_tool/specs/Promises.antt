@@ -1,0 +1,101 @@
+-- The words of the top call's clauses.
+use Rattle.std.specs.Prelude.{◌≡◌, ◌⊎◌, ◌≤◌, ◌*◌, ◌==◌, ℕ, zero, suc, not, Bool, true, IsTrue, List, [], ◌∷◌, ◌++◌, drop, Option, Some, None, Result, Ok, Err}
+use Rattle.std.specs.List.{Contains}
+use Rattle.cipher_profile.specs.declared.keys.Secret.{Secret}
+use Rattle.cipher_profile.specs.declared.key_line.KeyError.{KeyError}
+use Rattle.cipher_profile.specs.KeyLine.{after_line, key_line}
+use Rattle.sqlcipher_tool.specs.Answer.{Answer, IsAnswered, PutsPart, begun}
+use Rattle.sqlcipher_tool.specs.declared.command.Command.{Command}
+use Rattle.sqlcipher_tool.specs.declared.status.Refusal.TheVariants.{JournalPageSize, SuperJournal}
+use Rattle.sqlcipher_tool.specs.declared.status.Status.{Status}
+use Rattle.sqlcipher_tool.specs.declared.status.Status.TheVariants.{Done, Usage, Refused, KeyRefused, DiskFault, OutputFault, InputFault, EntropyFault, OutOfMemory}
+use Rattle.sqlcipher_tool.specs.Due.{key_lines, word_refusal}
+use Rattle.sqlcipher_tool.specs.Words.{form, keys_taken, recovers}
+
+-- ---- what was asked
+
+abbrev pub takes_keys : Command → Bool
+takes_keys command = not (keys_taken command == 0)
+
+-- the words are a command of which this holds
+abbrev pub AreWordsThat : (Command → Bool) → List (List ℕ) → Type 0
+AreWordsThat test words = (command : Command) × (form words ≡ Some command) × (test command ≡ true)
+
+-- a fact on the command, where the words refuse nothing
+abbrev pub WhereTaken : List (List ℕ) → (Command → Type 0) → Type 0
+WhereTaken words P = (command : Command) → form words ≡ Some command → word_refusal command ≡ None → P command
+
+-- the input without the key lines, up to the first that gives no secret
+abbrev pub left_after : Result Secret KeyError → List ℕ → List ℕ → List ℕ
+left_after (Ok secret) rest left = rest
+left_after (Err error) rest left = left
+
+abbrev pub after_lines : ℕ → List ℕ → List ℕ
+after_lines zero left = left
+after_lines (suc more) left = left_after (key_line left) (after_lines more (after_line left)) (after_line left)
+
+-- of the input at most so many bytes were taken
+pub record TakesAtMost (most : ℕ) (before after : List ℕ) : Type 0 where
+  pub taken : ℕ
+  pub few : taken ≤ most
+  pub is : after ≡ drop taken before
+
+-- The key lines are taken, up to the first that gives no secret, and no byte more. After a fault of the input it may be
+-- fewer, a line of at most 1,025 bytes each.
+abbrev pub TakesLines : Status → ℕ → List ℕ → List ℕ → Type 0
+TakesLines Done lines before after = after ≡ after_lines lines before
+TakesLines Usage lines before after = after ≡ after_lines lines before
+TakesLines (Refused refusal) lines before after = after ≡ after_lines lines before
+TakesLines KeyRefused lines before after = after ≡ after_lines lines before
+TakesLines DiskFault lines before after = after ≡ after_lines lines before
+TakesLines OutputFault lines before after = after ≡ after_lines lines before
+TakesLines InputFault lines before after = TakesAtMost (1025 * lines) before after
+TakesLines EntropyFault lines before after = after ≡ after_lines lines before
+TakesLines OutOfMemory lines before after = after ≡ after_lines lines before
+
+-- ---- the answer
+
+-- the whole text; after a fault of the output a prefix of it, and after any other fault a prefix of what may have been begun
+abbrev pub PutsSo : Status → Answer → List ℕ → List ℕ → Type 0
+PutsSo Done answer before after = after ≡ before ++ answer.text
+PutsSo Usage answer before after = after ≡ before ++ answer.text
+PutsSo (Refused refusal) answer before after = after ≡ before ++ answer.text
+PutsSo KeyRefused answer before after = after ≡ before ++ answer.text
+PutsSo DiskFault answer before after = PutsPart (begun answer) before after
+PutsSo OutputFault answer before after = PutsPart answer.text before after
+PutsSo InputFault answer before after = PutsPart (begun answer) before after
+PutsSo EntropyFault answer before after = PutsPart (begun answer) before after
+PutsSo OutOfMemory answer before after = PutsPart (begun answer) before after
+
+-- one of the answers that are due came, or a fault in its place, and this was printed of it
+pub record AnswersOne (answers : List Answer) (status : Status) (tells : Bool) (before after : List ℕ) : Type 0 where
+  pub answer : Answer
+  pub is_due : Contains answers answer
+  pub answered : IsAnswered status answer
+  pub puts : IsTrue tells → PutsSo status answer before after
+
+-- the answer came, or the input or the output failed in its place
+abbrev pub IsAnsweredEarly : Status → Answer → Type 0
+IsAnsweredEarly status answer = (status ≡ answer.status) ⊎ (status ≡ OutputFault) ⊎ (status ≡ InputFault)
+
+-- a refusal of the recovery
+abbrev pub IsUnrecovered : Status → Type 0
+IsUnrecovered Done = ⊥
+IsUnrecovered Usage = ⊥
+IsUnrecovered (Refused (JournalPageSize found)) = Unit {0}
+IsUnrecovered (Refused SuperJournal) = Unit {0}
+IsUnrecovered (Refused refusal) = ⊥
+IsUnrecovered KeyRefused = ⊥
+IsUnrecovered DiskFault = ⊥
+IsUnrecovered OutputFault = ⊥
+IsUnrecovered InputFault = ⊥
+IsUnrecovered EntropyFault = ⊥
+IsUnrecovered OutOfMemory = ⊥
+
+-- memory runs out only in a recovery, which comes after the words and the key lines
+pub record ComesLate (words : List (List ℕ)) (tells : Bool) (left : List ℕ) : Type 0 where
+  pub command : Command
+  pub is_form : form words ≡ Some command
+  pub recovers_first : recovers command ≡ true
+  pub no_refusal : word_refusal command ≡ None
+  pub has_keys : IsTrue tells → (secrets : List Secret) × (key_lines (keys_taken command) left ≡ Ok secrets)

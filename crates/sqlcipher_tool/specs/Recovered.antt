@@ -1,0 +1,43 @@
+-- The file to which the files as they read recover, and the answer where there is none.
+use Rattle.std.specs.Prelude.{ℕ, List, [], Option, Some, None, Result, Ok, Err}
+use Rattle.edge_model.specs.Files.{Files, bytes_of}
+use Rattle.cipher_profile.specs.declared.profile.Profile.{Profile}
+use Rattle.rollback_journal.specs.declared.recovery.Recovery.{Recovery}
+use Rattle.rollback_journal.specs.declared.recovery.RecoverError.{RecoverError}
+use Rattle.rollback_journal.specs.declared.recovery.RecoverError.TheVariants.{JournalPageSize as PageSizeDiffers, SuperJournal as NamesSuper, DiskFault as DiskFails, OutOfMemory as MemoryEnds}
+use Rattle.rollback_journal.specs.Recovery.{recovered, answer_to}
+use Rattle.sqlcipher_tool.specs.Answer.{Answer, done, refused}
+use Rattle.sqlcipher_tool.specs.declared.status.Refusal.TheVariants.{JournalPageSize, SuperJournal}
+use Rattle.sqlcipher_tool.specs.declared.status.Status.TheVariants.{DiskFault, OutOfMemory}
+use Rattle.sqlcipher_tool.specs.Opening.{main_of}
+use Rattle.sqlcipher_tool.specs.Text.{recovery_line}
+
+-- Main with the images of a hot journal laid, where bytes that no image gives are zeros
+abbrev pub recovered_main : Profile → Files → List ℕ
+recovered_main profile files = recovered profile.page_size (main_of files) (bytes_of files.journal)
+
+-- what a recovery of these files answers
+abbrev pub recovery_of : Profile → Files → Result Recovery RecoverError
+recovery_of profile files = answer_to profile.page_size files
+
+-- the answer to `recover`; the last two are never due to files
+abbrev pub recovery_answer : Result Recovery RecoverError → Answer
+recovery_answer (Ok recovery) = done (recovery_line recovery)
+recovery_answer (Err (PageSizeDiffers found)) = refused (JournalPageSize found)
+recovery_answer (Err NamesSuper) = refused SuperJournal
+recovery_answer (Err DiskFails) = record { status = DiskFault; text = [] }
+recovery_answer (Err MemoryEnds) = record { status = OutOfMemory; text = [] }
+
+-- the answer on the recovered file, or to a recovery that is refused
+abbrev pub after_recovery : Result Recovery RecoverError → Answer → Answer
+after_recovery (Ok recovery) answer = answer
+after_recovery (Err error) answer = recovery_answer (Err error)
+
+-- what a command that reads the recovered file answers
+abbrev pub recovered_answer : Profile → Files → (List ℕ → Answer) → Answer
+recovered_answer profile files answer = after_recovery (recovery_of profile files) (answer (recovered_main profile files))
+
+-- the answer to a recovery that is refused, none where it is not
+abbrev pub refused_answer : Result Recovery RecoverError → Option Answer
+refused_answer (Ok recovery) = None
+refused_answer (Err error) = Some (recovery_answer (Err error))
