@@ -6,3 +6,4 @@ pub mod Conclusions
 pub mod OnlyReads
 pub mod Recoveries
 pub mod Answered
+pub mod Batches

@@ -1,5 +1,5 @@
 // Main, as its pages are read.
-ghost use Rattle.std.specs.Prelude.{◌≡◌, ◌+◌, ◌-◌, ◌*◌, ◌≤◌, ◌<◌, ◌^◌, length, IfOk, OnOk, IsTrue};
+ghost use Rattle.std.specs.Prelude.{◌≡◌, ◌+◌, ◌-◌, ◌*◌, ◌≤◌, ◌<◌, ◌^◌, length, take, drop, IfOk, OnOk, IsTrue};
 ghost use Rattle.edge_model.specs.Causes.{HasCause};
 ghost use Rattle.edge_model.specs.Files.{file_at, length_of};
 ghost use Rattle.edge_model.specs.OnlyRead.{OnlyRead};
@@ -29,9 +29,19 @@ pub fn read_page<D: Disk>(disk: &mut D, n: u32, page: &mut [u8]) -> Result<(), F
     ensures only_read { IsTrue D.tells → OnlyRead D.reads D.images D.moment D.since disk.old disk.new }
 {
     let at = (n as u64 - 1) * page.len() as u64;
-    let count = disk.read_at(Role::Main, at, page)?;
-    for i in count..page.len() {
-        page[i] = 0;
+    read_main(disk, at, page)
+}
+
+/// Reads the bytes of Main from an offset on. What lies past the end of Main is taken as zeros.
+pub fn read_main<D: Disk>(disk: &mut D, at: u64, bytes: &mut [u8]) -> Result<(), Failed>
+    ensures told { OnOk result (IsTrue D.tells → at + length bytes.new ≤ length (main_of (D.reads disk.old))
+        → bytes.new ≡ take (length bytes.new) (drop at (main_of (D.reads disk.old)))) }
+    ensures cause { HasCause (D.faults disk.old) (D.faults disk.new) result }
+    ensures only_read { IsTrue D.tells → OnlyRead D.reads D.images D.moment D.since disk.old disk.new }
+{
+    let count = disk.read_at(Role::Main, at, bytes)?;
+    for i in count..bytes.len() {
+        bytes[i] = 0;
     }
     Ok(())
 }

@@ -1,6 +1,6 @@
 // `tags`: whether each whole page of Main is accepted.
-ghost use Rattle.std.specs.Prelude.{◌≡◌, ◌⊎◌, ◌+◌, ◌*◌, ◌/◌, ◌<◌, ◌≤◌, None, ◌++◌, ◌∷◌, [], length, slice_get, option_to_list, Some, IfOk, IfErr, OnOk, OnErr, IsTrue, Err};
-ghost use Rattle.edge_model.specs.Causes.{Rose};
+ghost use Rattle.std.specs.Prelude.{◌≡◌, ◌⊎◌, ◌+◌, ◌*◌, ◌/◌, ◌%◌, ◌<◌, ◌≤◌, None, ◌++◌, ◌∷◌, [], length, slice_get, option_to_list, Some, IfOk, IfErr, OnOk, OnErr, IsTrue, Err};
+ghost use Rattle.edge_model.specs.Causes.{HasCause, Rose};
 ghost use Rattle.edge_model.specs.Images.{From, LeavesOnly};
 ghost use Rattle.edge_model.specs.OnlyRead.{OnlyRead};
 ghost use Rattle.cipher_profile.specs.Profile.{IsListed};
@@ -11,22 +11,25 @@ ghost use Rattle.sqlcipher_tool.specs.Answer.{first_of, Puts, PutsLine, PutsPart
 ghost use Rattle.sqlcipher_tool.specs.Opening.{main_of, whole_pages};
 ghost use Rattle.sqlcipher_tool.specs.Promises.{IsUnrecovered};
 ghost use Rattle.sqlcipher_tool.specs.Recovered.{recovered_answer};
-ghost use Rattle.sqlcipher_tool.specs.Tags.{refused_page, refused_pages, pages_answer, tags_causes, tags_answer};
+ghost use Rattle.sqlcipher_tool.specs.Tags.{IsLoaded, page_refused, refused_pages, pages_answer, tags_causes, tags_answer};
 ghost use Rattle.sqlcipher_tool.specs.Stop.{stop_answer, IsLate};
 ghost use Rattle.sqlcipher_tool.specs.Text.{tag_lines};
 ghost use Rattle.sqlcipher_tool.specs.declared.status.Refusal.TheVariants.{TooLarge};
 
 use crate::conclusion::{conclude, conclude_stop};
-use crate::main_file::{MAX_PAGE, read_page};
+use crate::main_file::{MAX_PAGE, read_main};
 use crate::opening::{Stop, fitting_codec, served_length};
 use crate::recovery::recover_main;
 use crate::status::{Refusal, Status};
 use crate::text::{refusal_line, tags_report};
 use cipher_profile::{Profile, Secret};
 use db_format::LARGEST_DATABASE;
-use edge_model::{Disk, Sink};
+use edge_model::{Disk, Failed, Sink};
 use page_codec::Codec;
 use std::alloc::Global;
+
+// How many pages are read at once.
+const BATCH: usize = 16;
 
 // What failed while pages were checked.
 #[derive(Clone, Copy, Debug, PartialEq, Eq)]
@@ -161,48 +164,67 @@ fn check_pages<S: Sink, D: Disk>(
     ensures output_later { S.faults out.old ≤ S.faults out.new }
     ensures only_read { IsTrue D.tells → OnlyRead D.reads D.images D.moment D.since disk.old disk.new }
 {
-    let mut buffer = [0u8; MAX_PAGE];
-    let page = &mut buffer[..codec.profile().page_size as usize];
+    let mut buffer = [0u8; BATCH * MAX_PAGE];
+    let size = codec.profile().page_size as usize;
     let mut first = None;
     for done in 0..pages {
-        let refused = check_page(out, disk, codec, done + 1, page)?;
-        first = first.or(refused);
+        match load_batch(disk, size, done, pages, &mut buffer) {
+            Ok(()) => {}
+            Err(_) => return Err(CheckFault::Disk),
+        }
+        let at = done as usize % BATCH * size;
+        match check_page(out, codec, done + 1, &buffer[at..at + size]) {
+            Ok(refused) => first = first.or(refused),
+            Err(_) => return Err(CheckFault::Output),
+        }
     }
     Ok(first)
 }
 
-// Page n of Main, where it is not accepted, for which it prints a line.
-fn check_page<S: Sink, D: Disk>(
-    out: &mut S,
+// Reads the batch that begins after so many pages. Within a batch it is in the buffer already.
+fn load_batch<D: Disk>(
     disk: &mut D,
+    size: usize,
+    done: u32,
+    pages: u32,
+    buffer: &mut [u8],
+) -> Result<(), Failed>
+    requires size { (512 ≤ size) × (size ≤ 4096) }
+    requires room { length buffer.old ≡ 65536 }
+    requires more { done < pages }
+    requires whole { IsTrue D.tells → pages * size ≤ length (main_of (D.reads disk.old)) }
+    requires loaded { IsTrue D.tells → 0 < done % 16 → IsLoaded size pages done buffer.old (main_of (D.reads disk.old)) }
+    ensures loaded { OnOk result (IsTrue D.tells → IsLoaded size pages done buffer.new (main_of (D.reads disk.old))) }
+    ensures cause { HasCause (D.faults disk.old) (D.faults disk.new) result }
+    ensures only_read { IsTrue D.tells → OnlyRead D.reads D.images D.moment D.since disk.old disk.new }
+{
+    if done as usize % BATCH != 0 {
+        return Ok(());
+    }
+    let count = BATCH.min((pages - done) as usize);
+    read_main(disk, done as u64 * size as u64, &mut buffer[..count * size])
+}
+
+// Page n of a file, which is stored so, where it is not accepted, for which it prints a line.
+fn check_page<S: Sink>(
+    out: &mut S,
     codec: &Codec,
     n: u32,
-    page: &mut [u8],
-) -> Result<Option<u32>, CheckFault>
+    page: &[u8],
+) -> Result<Option<u32>, Failed>
     requires number { 1 ≤ n }
     requires listed { IsListed codec.now.profile }
     requires tagged { 0 < codec.now.profile.tag_len }
-    requires size { length page.old ≡ codec.now.profile.page_size }
-    requires whole { IsTrue D.tells → n * codec.now.profile.page_size ≤ length (main_of (D.reads disk.old)) }
-    ensures refused { IfOk result (λ refused. IsTrue D.tells → refused ≡ refused_page codec.now (main_of (D.reads disk.old)) n) }
+    requires size { length page.now ≡ codec.now.profile.page_size }
+    ensures refused { IfOk result (λ refused. refused ≡ page_refused codec.now n page.now) }
     ensures text { IfOk result (λ refused. IsTrue S.tells → S.taken out.new ≡ S.taken out.old ++ tag_lines (option_to_list refused)) }
-    ensures nothing { result ≡ Err CheckFault.Disk → S.taken out.new ≡ S.taken out.old }
-    ensures part { result ≡ Err CheckFault.Output → IsTrue S.tells → PutsPart (tag_lines (n ∷ [])) (S.taken out.old) (S.taken out.new) }
-    ensures is_refused { result ≡ Err CheckFault.Output → IsTrue D.tells → refused_page codec.now (main_of (D.reads disk.old)) n ≡ Some n }
-    ensures disk_fault { result ≡ Err CheckFault.Disk → Rose (D.faults disk.old) (D.faults disk.new) }
-    ensures output_fault { result ≡ Err CheckFault.Output → Rose (S.faults out.old) (S.faults out.new) }
-    ensures disk_later { D.faults disk.old ≤ D.faults disk.new }
-    ensures output_later { S.faults out.old ≤ S.faults out.new }
-    ensures only_read { IsTrue D.tells → OnlyRead D.reads D.images D.moment D.since disk.old disk.new }
+    ensures part { OnErr result (IsTrue S.tells → PutsPart (tag_lines (n ∷ [])) (S.taken out.old) (S.taken out.new)) }
+    ensures is_refused { OnErr result (page_refused codec.now n page.now ≡ Some n) }
+    ensures cause { HasCause (S.faults out.old) (S.faults out.new) result }
 {
-    if read_page(disk, n, page).is_err() {
-        return Err(CheckFault::Disk);
-    }
     if codec.tag_holds(n, page) {
         return Ok(None);
     }
-    match refusal_line(&Refusal::PageTag { page: n }).put(out) {
-        Ok(()) => Ok(Some(n)),
-        Err(_) => Err(CheckFault::Output),
-    }
+    refusal_line(&Refusal::PageTag { page: n }).put(out)?;
+    Ok(Some(n))
 }
