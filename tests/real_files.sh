@@ -146,7 +146,8 @@ compare_recovered() { # compare_recovered FILE KEYFILE COMMAND PROFILE
     done
     python3 "$oracle" "$folder/asked/file" "$@" < "$key" > "$folder/expected" 2> /dev/null
     local expected=$?
-    python3 "$oracle" "$folder/wanted/file" recover "$2" > /dev/null 2>&1
+    # The words `tags 1` are refused before any file is looked at.
+    [ "$*" = "tags 1" ] || python3 "$oracle" "$folder/wanted/file" recover "$2" > /dev/null 2>&1
     "$tool" "$folder/left/file" "$@" < "$key" > "$folder/found" 2> /dev/null
     local found=$?
     compared=$((compared + 1))
