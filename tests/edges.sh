@@ -130,7 +130,8 @@ row 4 '' 'loop.db: resolve: Too many levels of symbolic links' '"$tool" loop.db 
 row 2 'key missing' '' '"$tool" loop.db tags 4 < /dev/null'
 row 1 usage "$usage" '"$tool" loop.db'
 row 2 'file is empty' 'absent.db: there is no such file' '"$tool" absent.db tags 4 < key'
-row 2 'file is empty' 'none/absent.db: there is no such file' '"$tool" none/absent.db tags 4 < key'
+row 4 '' 'none: open: No such file or directory' '"$tool" none/absent.db tags 4 < key'
+row 2 'file is empty' 'none/absent.db: there is no such file' '"$tool" none/absent.db probe < key'
 row 4 '' 'file.db/app.db: resolve: Not a directory' '"$tool" file.db/app.db tags 4 < key'
 : > empty.db
 row 2 'file is empty' '' '"$tool" empty.db tags 4 < key'
@@ -167,7 +168,8 @@ if [ -z "$as_nobody" ] || $as_nobody "$tool" --version > /dev/null; then
     chmod 555 open && chmod 644 closed && chmod 711 hidden
     row 0 "$hold" '' "$as_nobody \"\$tool\" open/app.db tags 4 < key"
     row 0 "$hold" '' "cd open && $as_nobody \"\$tool\" app.db tags 4 < ../key"
-    row 0 "$hold" '' "$as_nobody \"\$tool\" hidden/app.db tags 4 < key"
+    row 4 '' 'hidden: open: Permission denied' "$as_nobody \"\$tool\" hidden/app.db tags 4 < key"
+    row 0 'profile 4' '' "$as_nobody \"\$tool\" hidden/app.db probe < key"
     row 4 '' 'closed/app.db: resolve: Permission denied' "$as_nobody \"\$tool\" closed/app.db tags 4 < key"
     row 4 '' 'unreadable.db: open: Permission denied' "$as_nobody \"\$tool\" unreadable.db tags 4 < key"
     chmod 755 open closed hidden
