@@ -217,14 +217,14 @@ fn answers_the_failure_of_each_call(rt: HostRuntime) -> Result<(), Fail> {
         (1u64, 0u64, 0u64, Status::InputFault),
         (68, 0, 0, Status::InputFault),
         (0, 1, 0, Status::OutputFault),
-        // Twelve calls: four before the recovery looks, two that look, the length, page 1, and each of the four pages.
+        // Nine calls: four before the recovery looks, two that look, the length, page 1, and the four pages at once.
         (0, 0, 1, Status::DiskFault),
         (0, 0, 4, Status::DiskFault),
         (0, 0, 6, Status::DiskFault),
         (0, 0, 7, Status::DiskFault),
         (0, 0, 8, Status::DiskFault),
-        (0, 0, 12, Status::DiskFault),
-        (0, 0, 13, Status::Done),
+        (0, 0, 9, Status::DiskFault),
+        (0, 0, 10, Status::Done),
     ];
     for (take, put, call, status) in cases {
         let mut disk = MemDisk::with_files(alloc, Some(main.as_slice()), None, None)?;
