@@ -1,0 +1,9 @@
+pub mod FindingLemmas
+pub mod RestLemmas
+pub mod UnmarkedLemmas
+pub mod KeptLemmas
+pub mod ProperLemmas
+pub mod ContextLemmas
+pub mod OrderLemmas
+pub mod Examples
+pub mod PartExamples

@@ -1,0 +1,10 @@
+pub mod Range
+pub mod Finding
+pub mod Walk
+pub mod Tree
+pub mod Rest
+pub mod Freelist
+pub mod Records
+pub mod Schema
+pub mod Parts
+pub mod Content
