@@ -1,0 +1,42 @@
+//! Changes of pages of a database, so that a stop at any moment leaves all of them or none: SQLite's "Atomic Commit In
+//! SQLite".
+//!
+//! A database is the list of its stored pages, and all here is of stored bytes: no codec is named. An image of the disk holds
+//! a database where recovery leads from it to a file with exactly these pages, and to no other (`HoldsOnly`). From the making
+//! of the journal to its closing a transaction keeps the facts (`Facts`): from these each image holds the old database alone.
+//!
+//! The rules of a transaction, each with the clause that carries it.
+//!
+//! 1. The journal is made before anything else is written (`start: facts, none`).
+//! 2. Before a page is changed for the first time, the stored bytes that it had at the start stand in a record; no page has
+//!    two (`keep_old: fresh, one_more`).
+//! 3. A page of Main is written only where its record stands behind an open gate. Whatever becomes of that write, the facts
+//!    stand (`write_page: behind_gate, facts`).
+//! 4. A page that leaves its frame before the commit is written to Main under the same rule, in a segment of its own
+//!    (`spill: facts, main`).
+//! 5. Main is synced before the journal is closed (`close: settled`, which is its condition).
+//! 6. At every moment before the journal is closed each image holds the old database alone (`any_moment` of each step); while
+//!    it is closed, the old one or the new one; after Ok the new one alone, and no journal (`finish: any_moment, new`).
+//! 7. A commit leaves the changed pages sealed, and every other page as it was (`commit: changed`). Where the entropy fails,
+//!    each image holds the old database alone (`commit: only_old`).
+//! 8. What was written is taken back from the journal: each image then holds the old database, and no journal
+//!    (`abandon: old, any_moment`).
+//! 9. Fresh is left alone (`fresh` of each step).
+//! 10. No call takes memory: none has an allocator.
+#![tactic(auto)]
+
+mod changes;
+mod committing;
+mod journal;
+mod spilling;
+mod steps;
+#[cfg(test)]
+mod tests;
+mod writer;
+
+pub use changes::{Changes, DrawFailed};
+pub use committing::{CommitFault, commit, keep_all, prepare, write_all, write_one, write_rest};
+pub use rollback_journal::Stage;
+pub use spilling::spill;
+pub use steps::{abandon, close, finish, keep_old, next, open, read_page, start, write_page};
+pub use writer::RecordWriter;

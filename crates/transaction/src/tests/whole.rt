@@ -1,0 +1,59 @@
+// Whole transactions over any disk: the contracts of the steps join.
+ghost use Rattle.std.specs.Prelude.{◌≡◌, ◌⊎◌, ◌+◌, ◌*◌, ◌<◌, ◌≤◌, ℕ, List, length, IsTrue, OnOk, Err, None};
+ghost use Rattle.edge_model.specs.Images.{Each, From, LeavesOnly};
+ghost use Rattle.rollback_journal.specs.Playing.{main_of};
+ghost use Rattle.rollback_journal.specs.Writing.{at_first};
+ghost use Rattle.transaction.specs.Database.{Base, HoldsOld};
+ghost use Rattle.transaction.specs.Facts.{IsBase, IsBegun};
+ghost use Rattle.transaction.specs.Commit.{AreChanges, IsChanged, LeavesChanged, IsCommitted};
+
+use crate::{Changes, CommitFault, abandon, commit, spill, start};
+use edge_model::{Disk, Failed};
+use rollback_journal::JournalWriter;
+
+/// The changed pages into Main.
+pub fn change<D: Disk, C: Changes>(
+    disk: &mut D,
+    writer: &mut JournalWriter,
+    changes: &mut C,
+    buffer: &mut [u8],
+) -> Result<(), CommitFault>
+    ghost base: { Base }
+    requires new { writer.old ≡ at_first base.size base.pages }
+    requires base_is { IsBase base }
+    requires changes { AreChanges base.pages (C.numbers changes.old) × (0 < length (C.numbers changes.old)) }
+    requires buffer { (length buffer.old ≡ base.size) × (base.size ≤ 65536) }
+    requires begun { IsTrue D.tells → IsBegun base (D.images disk.old) }
+    ensures changed { OnOk result (IsTrue D.tells →
+        IsChanged base (C.numbers changes.old) (C.seals changes.old) (length (C.numbers changes.old))
+        (main_of (D.reads disk.new))) }
+    ensures new { OnOk result (IsTrue D.tells → Each (D.images disk.new) (IsCommitted base (main_of (D.reads disk.new)))) }
+    ensures any_moment { IsTrue D.tells → LeavesChanged D.moment D.since base
+        (IsChanged base (C.numbers changes.old) (C.seals changes.old) (length (C.numbers changes.old))) disk.old disk.new }
+{
+    commit(disk, writer, changes, buffer)?;
+    Ok(())
+}
+
+/// One page into Main before the commit, and back.
+pub fn spill_and_undo<D: Disk>(
+    disk: &mut D,
+    writer: &mut JournalWriter,
+    n: u32,
+    bytes: &[u8],
+    buffer: &mut [u8],
+) -> Result<(), Failed>
+    ghost base: { Base }
+    requires new { writer.old ≡ at_first base.size base.pages }
+    requires base_is { IsBase base }
+    requires page { (1 ≤ n) × (n ≤ base.pages) × (length bytes.now ≡ base.size) × (length buffer.old ≡ base.size)
+        × (base.size ≤ 65536) }
+    requires begun { IsTrue D.tells → IsBegun base (D.images disk.old) }
+    ensures old { OnOk result (IsTrue D.tells → Each (D.images disk.new) (λ c. HoldsOld base c × (c.journal ≡ None))) }
+    ensures any_moment { IsTrue D.tells → LeavesOnly D.moment D.since disk.old disk.new (HoldsOld base) }
+{
+    start(disk, writer)?;
+    spill(disk, writer, n, bytes, buffer)?;
+    abandon(disk, writer)?;
+    Ok(())
+}
