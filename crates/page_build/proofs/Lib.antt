@@ -1,0 +1,4 @@
+pub mod Append
+pub mod Building
+pub mod CellBack
+pub mod ReadBack

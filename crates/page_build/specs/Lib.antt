@@ -1,0 +1,3 @@
+pub mod CellBytes
+pub mod Draft
+pub mod Written

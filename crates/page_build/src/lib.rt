@@ -1,0 +1,14 @@
+//! Writes pages of a b-tree: a page is built cell by cell, packed to its end.
+//!
+//! Section numbers are those of SQLite's "Database File Format".
+#![tactic(auto)]
+
+mod builder;
+mod bytes;
+mod cell;
+#[cfg(test)]
+mod tests;
+
+pub use builder::PageBuilder;
+pub use bytes::{four_bytes, lay};
+pub use cell::write_cell;
