@@ -36,17 +36,17 @@ module _ (old new : Pages) (usable : new.usable ≡ old.usable)
   same_right (x ∷ xs) ys h = same_right xs ys h.1
 
   -- the findings stay the same
-  abbrev Kept : List Finding → List Finding → Type 0
+  abbrev pub Kept : List Finding → List Finding → Type 0
   Kept found again = is_sound found ≡ true → AreSame old new (places found) → again ≡ found
 
-  kept_same : (found : List Finding) → Kept found found
+  pub kept_same : (found : List Finding) → Kept found found
   kept_same found sound same = refl
 
   if_kept : (c : Bool) (one one' other other' : List Finding) → Kept one one' → Kept other other' → Kept (if c then one else other) (if c then one' else other')
   if_kept true one one' other other' p q = p
   if_kept false one one' other other' p q = q
 
-  append_kept : (one one' other other' : List Finding) → Kept one one' → (one' ≡ one → Kept other other') → Kept (one ++ other) (one' ++ other')
+  pub append_kept : (one one' other other' : List Finding) → Kept one one' → (one' ≡ one → Kept other other') → Kept (one ++ other) (one' ++ other')
   append_kept one one' other other' p q sound same =
       let both : AreSame old new (places one ++ places other) = rw (sym (places-append one other)) same in
       let first : one' ≡ one = p (sound_left one other sound) (same_left (places one) (places other) both) in
@@ -64,7 +64,7 @@ module _ (old new : Pages) (usable : new.usable ≡ old.usable)
   link_kept n false false found again p sound same = cc
   link_kept n false true found again p sound same = rw same.0.accepted (ap (λ l. place n ∷ l) (p same.0 sound same.1))
 
-  chain_kept : (taken : Test) (met : List Finding) (more holder n : ℕ) → Kept (chain old taken met more holder n) (chain new taken met more holder n)
+  pub chain_kept : (taken : Test) (met : List Finding) (more holder n : ℕ) → Kept (chain old taken met more holder n) (chain new taken met more holder n)
   chain_kept taken met zero holder n = kept_same _
   chain_kept taken met (suc more) holder n =
       if_kept (n == 0) _ _ _ _ (kept_same _)
@@ -73,7 +73,7 @@ module _ (old new : Pages) (usable : new.usable ≡ old.usable)
       rw page.bytes (chain_kept taken (met ++ place n ∷ []) more n (u32_at (old.page n) 0)))))
 
   -- the bytes of a chain without a defect
-  abbrev SameBytes : ℕ → ℕ → List Finding → Type 0
+  abbrev pub SameBytes : ℕ → ℕ → List Finding → Type 0
   SameBytes more n found = is_sound found ≡ true → AreSame old new (places found) → chain_bytes new more n ≡ chain_bytes old more n
 
   link_bytes : (more n : ℕ) (m accepted : Bool) (after : List Finding) → (IsSamePage old new n → SameBytes more (u32_at (old.page n) 0) after)
@@ -86,7 +86,7 @@ module _ (old new : Pages) (usable : new.usable ≡ old.usable)
   if_bytes more n true one other p q = p
   if_bytes more n false one other p q = q
 
-  chain_bytes_kept : (taken : Test) (met : List Finding) (more holder n : ℕ) → SameBytes more n (chain old taken met more holder n)
+  pub chain_bytes_kept : (taken : Test) (met : List Finding) (more holder n : ℕ) → SameBytes more n (chain old taken met more holder n)
   chain_bytes_kept taken met zero holder n = λ sound same. refl
   chain_bytes_kept taken met (suc more) holder n =
       if_bytes (suc more) n (n == 0) _ _ (λ sound same. cc)
@@ -136,7 +136,7 @@ module _ (old new : Pages) (usable : new.usable ≡ old.usable)
       rw (chains, bytes) refl
 
   module _ (taken : Test) (below again : Below) (same_below : (met : List Finding) (c : ℕ) → Kept (below met c) (again met c)) where
-    step_kept : (met : List Finding) (n : ℕ) (s : Step) → Kept (step old taken below met n s) (step new taken again met n s)
+    pub step_kept : (met : List Finding) (n : ℕ) (s : Step) → Kept (step old taken below met n s) (step new taken again met n s)
     step_kept met n (child c) = range_kept c (is_in_range old c) _ _ _ refl (same_below met c)
     step_kept met n (divider k) = kept_same _
     step_kept met n (cell rowid stored) = given_kept taken met n rowid stored
