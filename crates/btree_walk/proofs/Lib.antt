@@ -1,0 +1,6 @@
+pub mod CauseLemmas
+pub mod ChainLemmas
+pub mod CursorLemmas
+pub mod OrderSteps
+pub mod PathLemmas
+pub mod TurnLemmas

@@ -1,0 +1,6 @@
+pub mod Causes
+pub mod Order
+pub mod Pins
+pub mod Chain
+pub mod Turn
+pub mod Cursor
