@@ -1,0 +1,5 @@
+pub mod WholeReads
+pub mod FirstPage
+pub mod Filling
+pub mod Pins
+pub mod OpeningLemmas

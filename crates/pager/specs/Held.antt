@@ -1,0 +1,40 @@
+-- What the frames of a pager hold.
+use Rattle.std.specs.Prelude.{ℕ, ◌≡◌, true, List, [], ◌∷◌, ◌⊎◌, length, unwrap_or, None, Some}
+use Rattle.std.specs.List.{AllByRecursion, AllByRecursion-prop}
+use Rattle.std.proofs.Props.{props}
+use Rattle.page_codec.specs.Page.{FileKeys, accepts, opened}
+use Rattle.page_cache.specs.Pages.{Page, Pages, page_at, bytes_at, pins_at, last_unpinned, without, fresh_page}
+use Rattle.pager.specs.File.{page_stored}
+
+-- a held page is the plain page of an accepted one
+pub record IsOpened (keys : FileKeys) (file : List ℕ) (page : Page) : Type 0 where
+  pub accepted : accepts keys page.number (page_stored keys file page.number) ≡ true
+  pub plain : page.bytes ≡ opened keys page.number (page_stored keys file page.number)
+
+-- each held page is
+abbrev pub AreOpened : FileKeys → List ℕ → List Page → Type 0
+AreOpened keys file held = AllByRecursion (IsOpened keys file) held
+
+-- it has one proof at most
+pub AreOpened-prop : (keys : FileKeys) (file : List ℕ) (held : List Page) → IsProp (AreOpened keys file held)
+AreOpened-prop keys file held = AllByRecursion-prop (IsOpened keys file) (λ page. hlevel props) held
+
+-- the bytes of page n, none where it is not held
+abbrev pub bytes_of_page : ℕ → List Page → List ℕ
+bytes_of_page n held = unwrap_or (bytes_at n held) []
+
+-- how often each page is pinned
+abbrev pub pins_of : List Page → ℕ → ℕ
+pins_of held n = pins_at n held
+
+-- every frame holds a page with a pin
+pub record IsAllPinned (cache : Pages) : Type 0 where
+  pub full : length cache.held ≡ cache.frames
+  pub pinned : last_unpinned cache.held ≡ None
+
+-- page n has a frame of zeros, and at most one other page has left, which had no pin
+pub record HasRoom (n : ℕ) (old new : Pages) : Type 0 where
+  pub rest : List Page
+  pub placed : new ≡ record old { held = fresh_page n old.usable ∷ rest }
+  pub others : (rest ≡ old.held) ⊎ ((victim : ℕ) × (last_unpinned old.held ≡ Some victim) × (rest ≡ without victim old.held))
+  pub absent : page_at n rest ≡ None

@@ -1,0 +1,6 @@
+pub mod File
+pub mod Opening
+pub mod Pages
+pub mod Held
+pub mod Causes
+pub mod Reads

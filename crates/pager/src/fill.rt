@@ -1,0 +1,119 @@
+// A page is brought into a frame.
+ghost use Rattle.std.specs.Prelude.{◌≡◌, ◌⊎◌, ◌*◌, ◌≤◌, ◌<◌, ℕ, length, true, false, None, Err, IfErr, OnOk, OnErr, IsTrue};
+ghost use Rattle.edge_model.specs.Causes.{Rose};
+ghost use Rattle.edge_model.specs.OnlyRead.{OnlyRead};
+ghost use Rattle.cipher_profile.specs.Profile.{usable};
+ghost use Rattle.page_codec.specs.Page.{accepts, opened};
+ghost use Rattle.page_cache.specs.Pages.{is_held};
+ghost use Rattle.pager.specs.File.{main_of, page_stored};
+ghost use Rattle.pager.specs.Held.{bytes_of_page, pins_of, AreOpened, IsAllPinned, HasRoom};
+ghost use Rattle.pager.specs.Causes.{IsCause};
+
+use crate::main_file::read_page;
+use edge_model::Disk;
+use page_cache::Cache;
+use page_codec::Codec;
+
+/// Why a page was not given. It is found in this order: the number, then whether a frame can be had, then the disk, then the tag.
+#[derive(Clone, Copy, Debug, PartialEq, Eq)]
+pub enum PageError {
+    /// There is no page with this number.
+    OutOfRange,
+    /// The tag of this page does not hold.
+    TagRefused { page: u32 },
+    /// The disk failed.
+    DiskFault,
+    /// The source of random bytes failed. No call that reads answers it.
+    EntropyFault,
+    /// The page is not held, and every frame holds a page with a pin.
+    AllPinned,
+}
+
+// A frame for page n, which is not held. The least recently used page without a pin leaves its frame where none is free.
+fn make_room(cache: &mut Cache, n: u32) -> Result<(), PageError>
+    requires { is_held n cache.old.held ≡ false }
+    ensures room { OnOk result (HasRoom n cache.old cache.new) }
+    ensures pinned { IfErr result (λ e. (e ≡ PageError.AllPinned) × IsAllPinned cache.old) }
+    ensures comes { IsAllPinned cache.old → result ≡ Err PageError.AllPinned }
+    ensures kept { OnErr result (cache.new ≡ cache.old) }
+{
+    if cache.hold(n).is_ok() {
+        return Ok(());
+    }
+    let Some(victim) = cache.victim() else {
+        return Err(PageError::AllPinned);
+    };
+    cache.discard(victim);
+    match cache.hold(n) {
+        Ok(()) => Ok(()),
+        Err(_) => Err(PageError::AllPinned),
+    }
+}
+
+// Reads page n into a buffer and opens it into a frame.
+fn read_plain<D: Disk>(
+    disk: &mut D,
+    codec: &Codec,
+    n: u32,
+    stored: &mut [u8],
+    plain: &mut [u8],
+) -> Result<(), PageError>
+    requires number { 1 ≤ n }
+    requires there { IsTrue D.tells → n * codec.now.profile.page_size ≤ length (main_of (D.reads disk.old)) }
+    requires room { length stored.old ≡ codec.now.profile.page_size }
+    requires size { length plain.old ≡ usable codec.now.profile }
+    ensures accepted { OnOk result (IsTrue D.tells → accepts codec.now n (page_stored codec.now (main_of (D.reads disk.old)) n) ≡ true) }
+    ensures plain { OnOk result (IsTrue D.tells → plain.new ≡ opened codec.now n (page_stored codec.now (main_of (D.reads disk.old)) n)) }
+    ensures refused { IfErr result (λ e. ((e ≡ PageError.TagRefused n) × (IsTrue D.tells → accepts codec.now n (page_stored codec.now (main_of (D.reads disk.old)) n) ≡ false))
+        ⊎ ((e ≡ PageError.DiskFault) × Rose (D.faults disk.old) (D.faults disk.new))) }
+    ensures later { D.faults disk.old ≤ D.faults disk.new }
+    ensures only_read { IsTrue D.tells → OnlyRead D.reads D.images D.moment D.since disk.old disk.new }
+{
+    let _listed = codec.profile();
+    if read_page(disk, n, stored).is_err() {
+        return Err(PageError::DiskFault);
+    }
+    match codec.open_page(n, stored, plain) {
+        Ok(()) => Ok(()),
+        Err(_) => Err(PageError::TagRefused { page: n }),
+    }
+}
+
+/// Page n is held, the most recently used. The buffer is for the page as it is stored.
+pub(crate) fn fill_page<D: Disk>(
+    disk: &mut D,
+    codec: &Codec,
+    cache: &mut Cache,
+    stored: &mut [u8],
+    n: u32,
+) -> Result<(), PageError>
+    requires number { 1 ≤ n }
+    requires there { IsTrue D.tells → n * codec.now.profile.page_size ≤ length (main_of (D.reads disk.old)) }
+    requires room { length stored.old ≡ codec.now.profile.page_size }
+    requires size { cache.old.usable ≡ usable codec.now.profile }
+    requires opened { IsTrue D.tells → AreOpened codec.now (main_of (D.reads disk.old)) cache.old.held }
+    ensures held { OnOk result (is_held n cache.new.held ≡ true) }
+    ensures opened { IsTrue D.tells → AreOpened codec.now (main_of (D.reads disk.old)) cache.new.held }
+    ensures sized { OnOk result (length (bytes_of_page n cache.new.held) ≡ cache.old.usable) }
+    ensures frames { (cache.new.usable ≡ cache.old.usable) × (cache.new.frames ≡ cache.old.frames) }
+    ensures pins { pins_of cache.new.held ≡ pins_of cache.old.held }
+    // why it is not, and that nothing of it is left
+    ensures cause { IfErr result (IsCause (IsTrue D.tells → accepts codec.now n (page_stored codec.now (main_of (D.reads disk.old)) n) ≡ false)
+        n cache.old (D.faults disk.old) (D.faults disk.new)) }
+    ensures pinned { is_held n cache.old.held ≡ false → IsAllPinned cache.old → result ≡ Err PageError.AllPinned }
+    ensures gone { OnErr result (is_held n cache.new.held ≡ false) }
+    ensures later { D.faults disk.old ≤ D.faults disk.new }
+    ensures only_read { IsTrue D.tells → OnlyRead D.reads D.images D.moment D.since disk.old disk.new }
+{
+    if cache.touch(n) {
+        return Ok(());
+    }
+    make_room(cache, n)?;
+    match read_plain(disk, codec, n, stored, cache.at_mut(n)) {
+        Ok(()) => Ok(()),
+        Err(refusal) => {
+            cache.discard(n);
+            Err(refusal)
+        }
+    }
+}
