@@ -1,0 +1,3 @@
+pub mod Escapes
+pub mod Moving
+pub mod ValueSteps
