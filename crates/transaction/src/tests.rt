@@ -6,7 +6,7 @@ ghost use Rattle.rollback_journal.specs.Writing.{at_first};
 mod whole;
 
 use self::whole::{change, spill_and_undo};
-use crate::{Changes, DrawFailed};
+use crate::{Changes, DrawFailed, PageMarks};
 use edge_model::{ImagePick, MemDisk, Role, SilentDisk};
 use rollback_journal::{JournalWriter, recover};
 use std::alloc::{AllocError, Global};
@@ -121,5 +121,16 @@ fn what_is_taken_back_is_gone(rt: HostRuntime) -> Result<(), Fail> {
             "{calls}"
         );
     }
+    Ok(())
+}
+
+#[test]
+fn a_page_is_marked_once(rt: HostRuntime) -> Result<(), Fail> {
+    let Ok(mut marks) = PageMarks::new(rt.alloc(), 3) else {
+        return Err(AllocError.into());
+    };
+    marks.put(3);
+    assert_eq!(rt; marks.count(), 1);
+    assert!(rt; marks.has(3) && !marks.has(1) && !marks.has(2));
     Ok(())
 }
