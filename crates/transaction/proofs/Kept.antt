@@ -1,5 +1,5 @@
 -- What a step of a transaction keeps.
-use Rattle.std.proofs.Common.{◌≡◌, ◌≢◌, ◌⊎◌, inl, inr, ⊎_elim, ℕ, suc, zero, ◌+◌, ◌-◌, ◌*◌, ◌<◌, ◌≤◌, List, [], ◌∷◌, ◌++◌, length, drop, get_or, Option, refl, sym, ◌∙◌, ap, subst, arith, length-drop}
+use Rattle.std.proofs.Common.{◌≡◌, ◌≢◌, ◌⊎◌, inl, inr, ⊎_elim, ℕ, suc, zero, ◌+◌, ◌-◌, ◌*◌, ◌<◌, ◌≤◌, List, [], ◌∷◌, ◌++◌, length, drop, get_or, Option, Some, None, refl, sym, ◌∙◌, ap, subst, arith, length-drop}
 use Rattle.std.proofs.lemmas.List.{ext_get_or, get_or-take, get_or-drop, length-take}
 use Rattle.std.proofs.Math.Nat.{mul-pos, suc-mul, mul-le-mul_right}
 use Rattle.edge_model.specs.Files.{File, Files, bytes_of, number_of, Torn}
@@ -8,7 +8,7 @@ use Rattle.edge_model.specs.Moments.{weaker}
 use Rattle.edge_model.specs.declared.role.Role.TheVariants.{Main}
 use Rattle.journal_format.specs.Records.{Record}
 use Rattle.rollback_journal.specs.Laying.{page_start, laid, IsGiven}
-use Rattle.rollback_journal.specs.Recovery.{Keeps}
+use Rattle.rollback_journal.specs.Recovery.{Keeps, RecoversTo}
 use Rattle.rollback_journal.specs.Playing.{contents, main_of}
 use Rattle.rollback_journal.proofs.Laid.{laid_length, reach_end}
 use Rattle.rollback_journal.proofs.Played.{page_end}
@@ -16,7 +16,7 @@ use Rattle.transaction.specs.Database.{Base, stored_page, stored_pages, old_page
 use Rattle.transaction.specs.Journals.{PlaysJust}
 use Rattle.rollback_journal.specs.Plays.{PlaysNone, PlaysAsBefore, PlaysAsBeforeOrAll, PlaysAsBeforeOrNone}
 use Rattle.transaction.specs.Facts.{AreOld, HasNone, AreApart, HasRecord, HasPages, DiffersBehind, IsBase, IsGuarded, Facts, IsBegun, SameFresh}
-use Rattle.transaction.proofs.Pages.{same_pages, same_bytes}
+use Rattle.transaction.proofs.Pages.{same_pages, same_bytes, pages_long}
 use Rattle.transaction.proofs.Recovered.{main_alone, old_front, holds_old, laid_old, old_sized, some_main}
 
 order : (a b : ℕ) → (a < b) ⊎ (b ≤ a)
@@ -142,15 +142,33 @@ facts_moved base safe waiting more next now new old images facts main from given
   same_file = λ c here. let d = from c here in ap number_of d.2 ∙ facts.same_file d.0 d.1 ∙ sym (ap number_of main);
 }
 
+-- beside no journal an image recovers to its Main
+alone : (size : ℕ) (main journal : Option File) (file : List ℕ) → journal ≡ None → RecoversTo size (bytes_of main) (bytes_of journal) file → file ≡ contents main
+alone size None journal file none recovers = absurd recovers
+alone size (Some main) None file none recovers = recovers
+alone size (Some main) (Some journal) file none recovers = absurd (there journal none)
+  where
+    there : (f : File) → ◌≡◌ {A = Option File} (Some f) None → ⊥
+    there f is = cc
+
+-- before the journal is made, Main has the pages of the start
+pub begun_pages : (base : Base) (images : Files → Type 0) (c : Files) → IsBegun base images → images c → HasPages base (main_of c) × (stored_pages base.size base.pages (main_of c) ≡ old_pages base)
+begun_pages base images c begun here =
+    let holds = begun.holds c here in
+    let is = holds.only holds.some.0 holds.some.1 in
+    let main : holds.some.0 ≡ main_of c = alone base.size c.main c.journal holds.some.0 (begun.no_journal c here) holds.some.1 in
+    let same = subst (λ (l : List ℕ). IsDatabase base (old_pages base) l) main is in
+    (record { long = pages_long base.size base.pages (main_of c) base.start begun.base_is.within same.pages_are; counted = same.counted }, same.pages_are)
+
 pub begun_guarded : (base : Base) (images : Files → Type 0) (c : Files) → IsBegun base images → images c → IsGuarded base [] c
 begun_guarded base images c begun here = record {
-  pages = begun.pages c here;
-  differs = λ i lt. inr (same_bytes base.size base.pages (main_of c) base.start (begun.same_pages c here) i lt);
+  pages = (begun_pages base images c begun here).0;
+  differs = λ i lt. inr (same_bytes base.size base.pages (main_of c) base.start (begun_pages base images c begun here).1 i lt);
   plays = inr (refl, subst (λ (j : Option File). PlaysNone (bytes_of j)) (sym (begun.no_journal c here)) tt);
 }
 
 pub begun_old : (base : Base) (images : Files → Type 0) (c : Files) → IsBegun base images → images c → HoldsOld base c
-begun_old base images c begun here = holds_old base [] c begun.base_is tt (begun_guarded base images c begun here)
+begun_old base images c begun here = begun.holds c here
 
 pub plays_sized : (size pages : ℕ) (base : Base) (records : List Record) (journal : Option (List ℕ)) → size ≡ base.size → pages ≡ base.pages → PlaysJust size pages records journal → PlaysJust base.size base.pages records journal
 plays_sized size pages base records journal same_size same_pages plays = subst (λ (s : ℕ). PlaysJust s base.pages records journal) same_size (subst (λ (p : ℕ). PlaysJust size p records journal) same_pages plays)

@@ -5,7 +5,7 @@ use Rattle.edge_model.specs.Files.{Files, bytes_of, number_of}
 use Rattle.journal_format.specs.Records.{Record}
 use Rattle.rollback_journal.specs.Laying.{IsGiven}
 use Rattle.rollback_journal.specs.Playing.{main_of, journal_of}
-use Rattle.transaction.specs.Database.{Base, stored_page, stored_pages, old_pages}
+use Rattle.transaction.specs.Database.{Base, stored_page, HoldsOld}
 use Rattle.transaction.specs.Journals.{PlaysJust}
 
 -- each record is of a page of the database, and holds the stored bytes that the page had at the start
@@ -68,12 +68,11 @@ pub record Facts (base : Base) (safe waiting : List Record) (now : Files) (image
 abbrev pub HasFacts : Base → (List ℕ → List Record) → (List ℕ → List Record) → Files → (Files → Type 0) → Type 0
 HasFacts base safe waiting now images = Facts base (safe (journal_of now)) (waiting (journal_of now)) now images
 
--- Before the journal is made: no image has one, and each has the pages of the start.
+-- Before the journal is made: no image has one, and each holds the database.
 pub record IsBegun (base : Base) (images : Files → Type 0) : Type 0 where
   pub base_is : IsBase base
   pub no_journal : (c : Files) → images c → c.journal ≡ None
-  pub pages : (c : Files) → images c → HasPages base (main_of c)
-  pub same_pages : (c : Files) → images c → stored_pages base.size base.pages (main_of c) ≡ old_pages base
+  pub holds : (c : Files) → images c → HoldsOld base c
 
 -- Fresh is as it was
 abbrev pub SameFresh : Files → Files → Type 0

@@ -14,7 +14,7 @@ ghost use Rattle.transaction.specs.Facts.{HasFacts, HasPages, IsBase, IsBegun, H
 use crate::{RecordWriter, Stage};
 use edge_model::{Disk, Failed, Role};
 
-/// Makes the journal. No image has one, and each has the pages of the start.
+/// Makes the journal. No image has one, and each holds the database of the start.
 pub fn start<D: Disk, W: RecordWriter>(disk: &mut D, writer: &mut W) -> Result<(), Failed>
     ghost base: { Base }
     requires new { W.is_new writer.old }
