@@ -9,11 +9,11 @@ use Rattle.db_format.specs.Pages.{IsUsable}
 use Rattle.btree_page.specs.declared.kind.Kind.{Kind}
 use Rattle.btree_page.specs.declared.kind.Kind.TheVariants.{IndexInterior, TableInterior, IndexLeaf, TableLeaf}
 use Rattle.btree_page.specs.Cell.{Cell}
-use Rattle.btree_page.specs.Kind.{header_at}
-use Rattle.btree_page.specs.Page.{array_start, header_len, read_page}
+use Rattle.btree_page.specs.Kind.{family_of, header_at}
+use Rattle.btree_page.specs.Page.{array_start, header_len, read_node, read_page}
 use Rattle.page_build.specs.Draft.{IsBuilt, blank, cells_in, draft_of, laid, with_cell}
 use Rattle.page_build.specs.Written.{AreWritten, are_long, content, four_bytes, leaf_head, offsets, padded, page_bytes, page_head, right_child, two_bytes, used}
-use Rattle.page_build.proofs.ReadBack.{length-page_head, page_back}
+use Rattle.page_build.proofs.ReadBack.{length-page_head, node_back, page_back}
 use Rattle.page_build.proofs.Append.{content-more, laid_mid, length-content-more, length-offsets, length-padded, offsets-more, take_front, two_back, u16_after, zeros-append, zeros_of}
 
 pub header_len-most : (kind : Kind) → header_len kind ≤ 12
@@ -324,3 +324,10 @@ module _ (page new : List ℕ) (kind : Kind) (header count start right : ℕ) (c
       let fits : used (length (zeros_of header)) kind cells ≤ length page = subst (λ h. used h kind cells ≤ length page) (sym (length-replicate header 0)) built.fits in
       ap (read_page n) headed_page
       ∙ page_back (length page) (zeros_of header) kind right cells n shown (length-replicate header 0 ∙ placed) written built.long fits
+
+  pub headed_opens : (n : ℕ) (shown : List Cell) → header ≡ header_at n → AreWritten kind (length page) cells shown
+      → read_node (family_of kind) n new ≡ Ok (record { kind = kind; cells = shown; right = right_child kind right })
+  headed_opens n shown placed written =
+      let fits : used (length (zeros_of header)) kind cells ≤ length page = subst (λ h. used h kind cells ≤ length page) (sym (length-replicate header 0)) built.fits in
+      ap (read_node (family_of kind) n) headed_page
+      ∙ node_back (length page) (zeros_of header) kind right cells n shown (length-replicate header 0 ∙ placed) written built.long fits

@@ -2,8 +2,8 @@
 ghost use Rattle.std.specs.Prelude.{◌≡◌, ℕ, ◌+◌, ◌≤◌, ◌<◌, ◌↔◌, max, List, length, Ok, IfOk, IsTrue, if◌then◌else◌};
 ghost use Rattle.db_format.specs.Pages.{IsUsable};
 ghost use Rattle.btree_page.specs.Cell.{Cell};
-ghost use Rattle.btree_page.specs.Kind.{header_at};
-ghost use Rattle.btree_page.specs.Page.{Node, header_len, read_page};
+ghost use Rattle.btree_page.specs.Kind.{family_of, header_at};
+ghost use Rattle.btree_page.specs.Page.{header_len, read_node, read_page};
 ghost use Rattle.page_build.specs.Draft.{blank, finished, laid, room_of, with_cell, without_cells};
 ghost use Rattle.page_build.specs.Written.{AreWritten, kind_byte, page_head, right_child};
 
@@ -152,6 +152,11 @@ impl PageBuilder {
         ensures reads { (cells : List Cell) (n : ℕ) → self.old.header ≡ header_at n
             → AreWritten self.old.kind self.old.usable self.old.cells cells
             → read_page n result.now ≡ Ok (record { kind = self.old.kind; cells = cells; right = right_child self.old.kind right }) }
+        // And so as a page of a tree of its family.
+        ensures opens { (cells : List Cell) (n : ℕ) → self.old.header ≡ header_at n
+            → AreWritten self.old.kind self.old.usable self.old.cells cells
+            → read_node (family_of self.old.kind) n result.now
+            ≡ Ok (record { kind = self.old.kind; cells = cells; right = right_child self.old.kind right }) }
     {
         write_head(
             &mut self.page,

@@ -1,10 +1,10 @@
 use Rattle.std.proofs.Common.{◌≡◌, ℕ, List, refl, ap, sym, subst, ◌∙◌, length, Ok}
 use Rattle.btree_page.specs.Cell.{Cell}
-use Rattle.btree_page.specs.Kind.{header_at}
-use Rattle.btree_page.specs.Page.{read_page}
+use Rattle.btree_page.specs.Kind.{family_of, header_at}
+use Rattle.btree_page.specs.Page.{read_node, read_page}
 use Rattle.page_build.specs.Draft.{Draft, draft_of, finished}
 use Rattle.page_build.specs.Written.{AreWritten, right_child}
-use Rattle.page_build.proofs.Building.{headed_draft, headed_page, headed_reads, headed_built, headed_size, drafted}
+use Rattle.page_build.proofs.Building.{headed_draft, headed_page, headed_opens, headed_reads, headed_built, headed_size, drafted}
 use Rattle.page_build.proofs.builder.PageBuilder.finish.Goals as goal
 
 pub invariant_of-self : goal.invariant_of-self
@@ -19,6 +19,11 @@ abbrev Says : Draft → ℕ → List ℕ → Type 0
 Says draft right bytes =
     (cells : List Cell) (n : ℕ) → draft.header ≡ header_at n → AreWritten draft.kind draft.usable draft.cells cells
     → read_page n bytes ≡ Ok (record { kind = draft.kind; cells = cells; right = right_child draft.kind right })
+
+abbrev Opens : Draft → ℕ → List ℕ → Type 0
+Opens draft right bytes =
+    (cells : List Cell) (n : ℕ) → draft.header ≡ header_at n → AreWritten draft.kind draft.usable draft.cells cells
+    → read_node (family_of draft.kind) n bytes ≡ Ok (record { kind = draft.kind; cells = cells; right = right_child draft.kind right })
 
 pub returns : goal.returns
 returns c =
@@ -39,5 +44,9 @@ returns c =
             subst (λ b. Says c.args.self.now c.args.right b) (sym same)
             (subst (λ d. Says d c.args.right new) c.self.view_is
             (λ cells n placed written. headed_reads a.page.items new a.kind a.header a.count a.start c.args.right draft.cells c.self.invariant c.write_head.ensures n cells placed written));
+        opens =
+            subst (λ b. Opens c.args.self.now c.args.right b) (sym same)
+            (subst (λ d. Opens d c.args.right new) c.self.view_is
+            (λ cells n placed written. headed_opens a.page.items new a.kind a.header a.count a.start c.args.right draft.cells c.self.invariant c.write_head.ensures n cells placed written));
       },
     )

@@ -1,0 +1,11 @@
+pub mod CellLemmas
+pub mod ChainLemmas
+pub mod CloseLemmas
+pub mod DrainLemmas
+pub mod EndLemmas
+pub mod LevelLemmas
+pub mod LevelsLemmas
+pub mod PushLemmas
+pub mod PutLemmas
+pub mod RowLemmas
+pub mod SettleLemmas

@@ -1,0 +1,147 @@
+-- What puts keep, one after another.
+use Rattle.std.proofs.Common.{◌≡◌, ◌≤◌, ◌<◌, ℕ, ◌+◌, Bool, true, false, List, ◌==◌, ◌&&◌, refl, ap, sym, ◌∙◌, arith}
+use Rattle.std.specs.Prelude.{nat_le, nat_lt}
+use Rattle.std.proofs.lemmas.Bool.{eqb-true}
+use Rattle.db_format.specs.Pages.{Pages}
+use Rattle.btree_model.specs.Range.{is_in_range}
+use Rattle.load_model.specs.Stands.{IsPut}
+use Rattle.bulk_load.specs.Out.{Faults, Follows, IsPutAs, IsTaken, Keeps, MarksAt, SameBut, SameNumbers, is_new}
+
+new_left : (a b c k : ℕ) → a ≤ b → b ≤ c → (nat_lt a k && nat_le k c) ≡ false → (nat_lt a k && nat_le k b) ≡ false
+new_left a b c k h g old = grind arith
+
+new_right : (a b c k : ℕ) → a ≤ b → b ≤ c → (nat_lt a k && nat_le k c) ≡ false → (nat_lt b k && nat_le k c) ≡ false
+new_right a b c k h g old = grind arith
+
+new_either : (a b c k : ℕ) → (nat_lt a k && nat_le k c) ≡ true → (nat_lt a k && nat_le k b) ≡ false → (nat_lt b k && nat_le k c) ≡ true
+new_either a b c k new left = grind arith
+
+new_none : (a k : ℕ) → (nat_lt a k && nat_le k a) ≡ false
+new_none a k = grind arith
+
+new_one : (a k : ℕ) → (nat_lt a k && nat_le k (a + 1)) ≡ true → k ≡ a + 1
+new_one a k h = grind arith
+
+old_one : (a n k : ℕ) → n ≡ a + 1 → (nat_lt a k && nat_le k (a + 1)) ≡ false → (n == k) ≡ false
+old_one a n k is h = grind arith
+
+le_and : (a b c d : ℕ) → a ≤ b → c ≤ d → (nat_le a b && nat_le c d) ≡ true
+le_and a b c d h g = grind arith
+
+module _ {S : Type 0} (pages : S → Pages) (limit : S → ℕ) (faults : S → Faults) (well : ℕ → S → Type 0) where
+  pub keeps_same : (a : S) → Keeps pages limit faults well a a
+  keeps_same a = record {
+    size = refl;
+    count = omega arith;
+    put = λ k h. h;
+    others = λ k h. refl;
+    page = λ start w k h. refl;
+    limit_is = refl;
+    disk = omega arith;
+    entropy = omega arith;
+  }
+
+  pub keeps_after : (a b c : S) → Follows pages limit faults well a b → Keeps pages limit faults well b c → Keeps pages limit faults well a c
+  keeps_after a b c f k = record {
+    size = k.size ∙ f.keeps.size;
+    count = let one = f.keeps.count in let two = k.count in omega arith;
+    put = λ n h. k.put n (f.keeps.put n h);
+    others = λ n h.
+        k.others n (new_right (pages a).count (pages b).count (pages c).count n f.keeps.count k.count h)
+        ∙ f.keeps.others n (new_left (pages a).count (pages b).count (pages c).count n f.keeps.count k.count h);
+    page = λ start w n h. k.page start (f.told start w) n (f.keeps.put n h) ∙ f.keeps.page start w n h;
+    limit_is = k.limit_is ∙ f.keeps.limit_is;
+    disk = let one = f.keeps.disk in let two = k.disk in omega arith;
+    entropy = let one = f.keeps.entropy in let two = k.entropy in omega arith;
+  }
+
+  pub follows_same : (a : S) → Follows pages limit faults well a a
+  follows_same a = record {
+    keeps = keeps_same a;
+    puts = λ k h. let no : true ≡ false = sym h ∙ new_none (pages a).count k in cc;
+    told = λ start w. w;
+  }
+
+  pub follows_all : (a b c : S) → Follows pages limit faults well a b → Follows pages limit faults well b c → Follows pages limit faults well a c
+  follows_all a b c f g = record {
+    keeps = keeps_after a b c f g.keeps;
+    puts = λ n h. at_n n h (is_new (pages a) (pages b) n) refl;
+    told = λ start w. g.told start (f.told start w);
+  }
+    where
+      at_n : (n : ℕ) → is_new (pages a) (pages c) n ≡ true → (first : Bool) → is_new (pages a) (pages b) n ≡ first → (pages c).accepts n ≡ true
+      at_n n h true is = g.keeps.put n (f.puts n is)
+      at_n n h false is = g.puts n (new_either (pages a).count (pages b).count (pages c).count n h is)
+
+  -- no number was given
+  pub refused_keeps : (a b : S) → SameNumbers (pages a) (pages b)
+      → ((start : ℕ) → well start a → (k : ℕ) → (pages b).page k ≡ (pages a).page k) → limit b ≡ limit a
+      → (faults a).disk ≤ (faults b).disk → (faults a).entropy ≤ (faults b).entropy → Keeps pages limit faults well a b
+  refused_keeps a b same told limits disk entropy = record {
+    size = same.size;
+    count = let is : (pages b).count ≡ (pages a).count = same.count in omega arith;
+    put = λ k h. same.accepts k ∙ h;
+    others = λ k h. same.accepts k;
+    page = λ start w k h. told start w k;
+    limit_is = limits;
+    disk = disk;
+    entropy = entropy;
+  }
+
+  -- a number was given, and a page was put there or was not
+  module _ (a b c : S) (n : ℕ) (taken : IsTaken (pages a) (pages b) n) (marks : MarksAt (pages b) (pages c) n)
+      (told_taken : (start : ℕ) → well start a → (k : ℕ) → (pages b).page k ≡ (pages a).page k)
+      (told : (start : ℕ) → well start b → SameBut (pages b) (pages c) n) (well_taken : (start : ℕ) → well start a → well start b) where
+    differs : (k : ℕ) → (pages a).accepts k ≡ true → (n == k) ≡ false
+    differs k h = by_case (n == k) refl
+      where
+        by_case : (e : Bool) → (n == k) ≡ e → (n == k) ≡ false
+        by_case false is = is
+        by_case true is =
+            let no : true ≡ false = sym h ∙ sym (taken.accepts k) ∙ ap (pages b).accepts (sym (eqb-true n k is)) ∙ taken.free in cc
+
+    pub next_keeps : limit b ≡ limit a → limit c ≡ limit b → (faults a).disk ≤ (faults b).disk → (faults b).disk ≤ (faults c).disk
+        → (faults a).entropy ≤ (faults b).entropy → (faults b).entropy ≤ (faults c).entropy → Keeps pages limit faults well a c
+    next_keeps limits limits' disk disk' entropy entropy' =
+        let one = taken.count in
+        let same = marks.count in
+        let is = taken.next in
+        record {
+          size = marks.size ∙ taken.size;
+          count = omega arith;
+          put = λ k h. marks.others k (differs k h) ∙ taken.accepts k ∙ h;
+          others = λ k h.
+              marks.others k (old_one (pages a).count n k (is ∙ one) (ap (λ m. nat_lt (pages a).count k && nat_le k m) (sym (same ∙ one)) ∙ h)) ∙ taken.accepts k;
+          page = λ start w k h. told start (well_taken start w) k (differs k h) ∙ told_taken start w k;
+          limit_is = limits' ∙ limits;
+          disk = omega arith;
+          entropy = omega arith;
+        }
+
+    pub next_puts : (pages c).accepts n ≡ true → (k : ℕ) → is_new (pages a) (pages c) k ≡ true → (pages c).accepts k ≡ true
+    next_puts put k h =
+        let here : k ≡ (pages a).count + 1 =
+        new_one (pages a).count k (ap (λ m. nat_lt (pages a).count k && nat_le k m) (sym (marks.count ∙ taken.count)) ∙ h) in
+        ap (pages c).accepts (here ∙ sym (taken.next ∙ taken.count)) ∙ put
+
+    pub next_put : (start : ℕ) → well start a → (bytes : List ℕ) → (pages c).accepts n ≡ true → (pages c).page n ≡ bytes → IsPutAs (pages a) (pages c) n bytes
+    next_put start w bytes put here =
+        let one = taken.count in
+        let same = marks.count in
+        let is = taken.next in
+        record {
+          put = record {
+            fresh = sym (taken.accepts n) ∙ taken.free;
+            put = put;
+            size = marks.size ∙ taken.size;
+            range = λ k h. wider k (pages a).count (pages c).count (omega arith) h;
+            stays = λ k other. told start (well_taken start w) k other ∙ told_taken start w k;
+            stays_put = λ k other. marks.others k other ∙ taken.accepts k;
+          };
+          range = le_and 2 n n (pages c).count taken.low (omega arith);
+          low = taken.low;
+          here = here;
+        }
+      where
+        wider : (k m p : ℕ) → m ≤ p → (nat_le 2 k && nat_le k m) ≡ true → (nat_le 2 k && nat_le k p) ≡ true
+        wider k m p g h = grind arith

@@ -1,0 +1,27 @@
+use Rattle.std.proofs.Common.{◌≡◌, ◌-◌, ◌≤◌, ◌+◌, ℕ, ℤ, length, arith, sym, rules}
+use Rattle.std.specs.Int.{w64, cast_signed, cast_unsigned}
+use Rattle.db_format.specs.Pages.{Pages}
+use Rattle.bulk_load.specs.Cells.{row_len}
+use Rattle.bulk_load.proofs.CellLemmas.{row_len-most}
+use Rattle.bulk_load.proofs.PutLemmas.{follows_all, keeps_after}
+use Rattle.bulk_load.proofs.loader.Loader.push_row.Goals as goal
+
+pub leaf_for-requires-clause-fits : goal.leaf_for-requires-clause-fits
+leaf_for-requires-clause-fits g c =
+    let same : c.usable-usable.result ≡ (g.P.PageOut.pages c.args.out.now).usable = c.usable-usable.ensures.value in
+    let most : c.local_len-local.result ≤ c.usable-usable.result - 35 = c.local_len-local.ensures.most in
+    let r : ℤ = cast_signed w64 (cast_unsigned w64 c.args.rowid) in
+    let least : row_len (length c.args.payload.now) r c.local_len-local.result + 17 ≤ c.usable-usable.result =
+    row_len-most c.usable-usable.result (length c.args.payload.now) c.local_len-local.result r c.usable-usable.ensures.range.least c.requires.short most in
+    let is : c.row_len-len.result ≡ row_len (length c.args.payload.now) r c.local_len-local.result = c.row_len-len.ensures in
+    omega arith
+
+pub returns-clause-keeps : goal.returns-clause-keeps
+returns-clause-keeps g c =
+    let p = g.P.PageOut in
+    keeps_after p.pages p.limit p.faults p.well c.args.out.now c.leaf_for.new.out c.add_row.new.out c.in_ok-leaf_for.ensures.follows c.in_ok-add_row.ensures.keeps
+
+pub returns-clause-follows : goal.returns-clause-follows
+returns-clause-follows g c =
+    let p = g.P.PageOut in
+    follows_all p.pages p.limit p.faults p.well c.args.out.now c.leaf_for.new.out c.add_row.new.out c.in_ok-leaf_for.ensures.follows c.in_ok-add_row.ensures.follows

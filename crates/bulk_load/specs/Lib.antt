@@ -1,0 +1,9 @@
+pub mod Cells
+pub mod Chain
+pub mod Close
+pub mod Leaf
+pub mod Level
+pub mod Levels
+pub mod Loader
+pub mod Out
+pub mod Settle

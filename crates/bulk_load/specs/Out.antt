@@ -1,0 +1,83 @@
+-- Where pages are put: what its calls change, and why they fail.
+use Rattle.std.specs.Prelude.{ℕ, ◌≡◌, ◌+◌, ◌≤◌, ◌==◌, ◌&&◌, Bool, true, false, List, nat_le, nat_lt}
+use Rattle.db_format.specs.Pages.{Pages}
+use Rattle.db_format.specs.Source.{Rose}
+use Rattle.btree_model.specs.Range.{is_in_range}
+use Rattle.load_model.specs.Stands.{IsPut}
+use Rattle.bulk_load.specs.declared.error.LoadError.{LoadError}
+use Rattle.bulk_load.specs.declared.error.LoadError.TheVariants.{RowidOrder, Out, OutOfMemory, TooDeep}
+use Rattle.bulk_load.specs.declared.out.OutError.{OutError}
+use Rattle.bulk_load.specs.declared.out.OutError.TheVariants.{TooManyPages, DiskFault, EntropyFault}
+
+-- how often the disk and the entropy have failed
+pub record Faults : Type 0 where
+  pub disk : ℕ
+  pub entropy : ℕ
+
+-- the same numbers were taken, and the same were put
+pub record SameNumbers (old new : Pages) : Type 0 where
+  pub count : new.count ≡ old.count
+  pub size : new.usable ≡ old.usable
+  pub accepts : (k : ℕ) → new.accepts k ≡ old.accepts k
+
+-- n is the next number; nothing was put there
+pub record IsTaken (old new : Pages) (n : ℕ) : Type 0 where
+  pub count : new.count ≡ old.count + 1
+  pub next : n ≡ new.count
+  pub low : 2 ≤ n
+  pub free : new.accepts n ≡ false
+  pub size : new.usable ≡ old.usable
+  pub accepts : (k : ℕ) → new.accepts k ≡ old.accepts k
+
+-- of the numbers that were put n alone may have changed
+pub record MarksAt (old new : Pages) (n : ℕ) : Type 0 where
+  pub count : new.count ≡ old.count
+  pub size : new.usable ≡ old.usable
+  pub others : (k : ℕ) → (n == k) ≡ false → new.accepts k ≡ old.accepts k
+  pub stays : old.accepts n ≡ true → new.accepts n ≡ true
+
+-- every page but n reads as before
+abbrev pub SameBut : Pages → Pages → ℕ → Type 0
+SameBut old new n = (k : ℕ) → (n == k) ≡ false → new.page k ≡ old.page k
+
+-- k was taken between the two
+abbrev pub is_new : Pages → Pages → ℕ → Bool
+is_new old new k = nat_lt old.count k && nat_le k new.count
+
+-- Whatever was answered: each page that was put before is put still, and only numbers that were taken in between were put. Where
+-- the pages are told, those that were put before read as they did.
+pub record Keeps {S : Type 0} (pages : S → Pages) (limit : S → ℕ) (faults : S → Faults) (well : ℕ → S → Type 0) (old new : S) : Type 0 where
+  pub size : (pages new).usable ≡ (pages old).usable
+  pub count : (pages old).count ≤ (pages new).count
+  pub put : (k : ℕ) → (pages old).accepts k ≡ true → (pages new).accepts k ≡ true
+  pub others : (k : ℕ) → is_new (pages old) (pages new) k ≡ false → (pages new).accepts k ≡ (pages old).accepts k
+  pub page : (start : ℕ) → well start old → (k : ℕ) → (pages old).accepts k ≡ true → (pages new).page k ≡ (pages old).page k
+  pub limit_is : limit new ≡ limit old
+  pub disk : (faults old).disk ≤ (faults new).disk
+  pub entropy : (faults old).entropy ≤ (faults new).entropy
+
+-- After Ok besides: each number that was taken in between was put, and the pages are still told.
+pub record Follows {S : Type 0} (pages : S → Pages) (limit : S → ℕ) (faults : S → Faults) (well : ℕ → S → Type 0) (old new : S) : Type 0 where
+  pub keeps : Keeps pages limit faults well old new
+  pub puts : (k : ℕ) → is_new (pages old) (pages new) k ≡ true → (pages new).accepts k ≡ true
+  pub told : (start : ℕ) → well start old → well start new
+
+-- why no page was taken or put: all numbers were given, or a count of failures rose
+abbrev pub HasCause : {S : Type 0} → (S → Pages) → (S → ℕ) → (S → Faults) → S → S → OutError → Type 0
+HasCause pages limit faults old new (TooManyPages at_most) = (at_most ≡ limit old) × (limit old ≤ (pages new).count)
+HasCause pages limit faults old new DiskFault = Rose (faults old).disk (faults new).disk
+HasCause pages limit faults old new EntropyFault = Rose (faults old).entropy (faults new).entropy
+
+-- these bytes were put at n, where nothing was put before; it is told so
+pub record IsPutAs (old new : Pages) (n : ℕ) (bytes : List ℕ) : Type 0 where
+  pub put : IsPut old new n
+  pub range : is_in_range new n ≡ true
+  pub low : 2 ≤ n
+  pub here : new.page n ≡ bytes
+
+-- the same for a tree that is loaded: want of memory is free, and the order of rowids is told apart
+abbrev pub HasLoadCause : {S : Type 0} → (S → Pages) → (S → ℕ) → (S → Faults) → S → S → LoadError → Type 0
+HasLoadCause pages limit faults old new RowidOrder = ⊥
+HasLoadCause pages limit faults old new (Out why) = HasCause pages limit faults old new why
+HasLoadCause pages limit faults old new OutOfMemory = Unit {0}
+HasLoadCause pages limit faults old new TooDeep = Unit {0}

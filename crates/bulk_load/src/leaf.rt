@@ -1,0 +1,48 @@
+// The open leaf of a table.
+ghost use Rattle.std.specs.Prelude.{◌≡◌, ℕ, ℤ, ◌+◌, ◌≤◌, max, List, [], ◌∷◌, ◌++◌, Some, None, IfOk, IfErr, OnOk};
+ghost use Rattle.btree_page.specs.declared.kind.Family.TheVariants.{Table};
+ghost use Rattle.btree_page.specs.declared.kind.Kind.TheVariants.{TableLeaf};
+ghost use Rattle.btree_page.specs.Cell.{Cell};
+ghost use Rattle.btree_page.specs.Step.{steps};
+ghost use Rattle.btree_model.specs.Content.{Entry};
+ghost use Rattle.load_model.specs.Open.{Open, at_height};
+ghost use Rattle.load_model.specs.Stands.{Stands};
+ghost use Rattle.page_build.specs.Draft.{room_of};
+ghost use Rattle.bulk_load.specs.Close.{HasCells, SameShape};
+ghost use Rattle.bulk_load.specs.Leaf.{HasRoom};
+ghost use Rattle.bulk_load.specs.Out.{Follows, HasCause, Keeps};
+
+use crate::closing::close;
+use crate::out::{OutError, PageOut};
+use page_build::PageBuilder;
+
+/// Makes room on the open leaf of a table for a cell of `len` bytes, of which an empty leaf has room for one. A leaf that was put is
+/// answered; the last rowid stands behind it.
+#[tactic(auto, using(crate::proofs::PutLemmas::keeps_after, crate::proofs::PutLemmas::keeps_same, crate::proofs::PutLemmas::follows_same))]
+pub fn make_room<P: PageOut>(
+    leaf: &mut PageBuilder,
+    out: &mut P,
+    len: usize,
+) -> Result<Option<u32>, OutError>
+    requires size { leaf.old.usable ≡ (P.pages out.old).usable }
+    requires plain { leaf.old.header ≡ 0 }
+    requires kind { leaf.old.kind ≡ TableLeaf }
+    requires fits { max 4 len + 10 ≤ leaf.old.usable }
+    ensures shape { SameShape leaf.old leaf.new }
+    ensures fits { OnOk result (max 4 len + 2 ≤ room_of leaf.new) }
+    ensures room { (start : ℕ) → P.well start out.old → (k : ℤ) (cells : List Cell) (front : List Open) (pushed : List Entry)
+        → HasCells leaf.old (P.pages out.old).usable cells
+        → Stands (P.pages out.old) Table (Some k) (front ++ at_height 0 (steps cells None)) pushed
+        → IfOk result (HasRoom (P.pages out.new) leaf.new (P.pages out.old).usable k cells front pushed) }
+    ensures keeps { Keeps P.pages P.limit P.faults P.well out.old out.new }
+    ensures follows { OnOk result (Follows P.pages P.limit P.faults P.well out.old out.new) }
+    ensures cause { IfErr result (HasCause P.pages P.limit P.faults out.old out.new) }
+    ensures fresh { P.only_fresh out.old out.new }
+{
+    if leaf.fits(len) {
+        return Ok(None);
+    }
+    let m = close(leaf, out, 0)?;
+    leaf.clear();
+    Ok(Some(m))
+}

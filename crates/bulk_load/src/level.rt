@@ -1,0 +1,85 @@
+// The open page of one level, and what waits to be put on it.
+ghost use Rattle.std.specs.Prelude.{◌≡◌, ℕ, suc, ℤ, ◌+◌, ◌≤◌, List, [], ◌∷◌, ◌++◌, length, drop, Option, None, IfOk, IfErr, OnOk, vec_len};
+ghost use Rattle.std.specs.Option.{option_to_list};
+ghost use Rattle.db_format.specs.Pages.{IsUsable};
+ghost use Rattle.btree_page.specs.Kind.{family_of};
+ghost use Rattle.btree_page.specs.Step.{Step};
+ghost use Rattle.btree_model.specs.Content.{Entry};
+ghost use Rattle.load_model.specs.Open.{Open, at_height};
+ghost use Rattle.load_model.specs.Stands.{Stands};
+ghost use Rattle.bulk_load.specs.Close.{HasCells};
+ghost use Rattle.bulk_load.specs.Level.{IsReady, AreNamed, HoldsLevel, IsEntered};
+ghost use Rattle.bulk_load.specs.Out.{Follows, HasLoadCause, Keeps};
+ghost use Rattle.bulk_load.specs.Settle.{IsPair, on};
+
+use crate::error::LoadError;
+use crate::out::PageOut;
+use crate::pair::{Pair, settle};
+use btree_page::Kind;
+use page_build::PageBuilder;
+use std::alloc::Global;
+
+/// A level of interior pages, or the leaf of an index.
+#[derive(Drop)]
+pub struct Level {
+    /// Its open page.
+    pub page: PageBuilder,
+    /// The last two children, or the last two entries, which are not yet on a page: so the last page can always get a cell.
+    pub waiting: Vec<Pair>,
+}
+
+impl Level {
+    /// A level with an empty page.
+    pub fn new(alloc: Global, usable: usize, kind: Kind) -> Result<Level, LoadError>
+        requires { IsUsable usable }
+        ensures ready { IfOk result (λ level. IsReady level usable) }
+        ensures kind { IfOk result (λ level. level.page.kind ≡ kind) }
+        ensures empty { IfOk result (λ level. HasCells level.page usable []) }
+        ensures none { IfOk result (λ level. level.waiting.items ≡ []) }
+        ensures cause { IfErr result (λ error. error ≡ LoadError.OutOfMemory) }
+    {
+        let Ok(page) = PageBuilder::new(alloc, usable, kind, false) else {
+            return Err(LoadError::OutOfMemory);
+        };
+        Ok(Level {
+            page,
+            waiting: Vec::new(alloc),
+        })
+    }
+
+    /// One child more. Where the page is full, it is put, and answered as a child of the level above.
+    #[tactic(auto, using(crate::proofs::PutLemmas::keeps_after, crate::proofs::PutLemmas::keeps_same, crate::proofs::PutLemmas::follows_same))]
+    pub fn enter<P: PageOut>(&mut self, out: &mut P, pair: Pair) -> Result<Option<Pair>, LoadError>
+        requires ready { IsReady self.old (P.pages out.old).usable }
+        requires named { 4 ≤ length pair.cell.items }
+        ensures ready { OnOk result (IsReady self.new (P.pages out.old).usable) }
+        ensures kind { OnOk result (self.new.page.kind ≡ self.old.page.kind) }
+        ensures named { IfOk result (λ up. AreNamed (option_to_list up)) }
+        ensures entered { (start : ℕ) → P.well start out.old → (todo : List Step) (s : Step) (h : ℕ) (front back : List Open) (last : Option ℤ) (pushed : List Entry)
+            → HoldsLevel self.old (P.pages out.old).usable todo
+            → IsPair pair self.old.page.kind (P.pages out.old).usable s
+            → Stands (P.pages out.old) (family_of self.old.page.kind) last (front ++ (at_height h todo ++ (at_height h (on self.old.page.kind pair.child s) ++ back))) pushed
+            → IfOk result (IsEntered (P.pages out.new) self.new (P.pages out.old).usable self.old.page.kind h front back last pushed) }
+        ensures keeps { Keeps P.pages P.limit P.faults P.well out.old out.new }
+        ensures follows { OnOk result (Follows P.pages P.limit P.faults P.well out.old out.new) }
+        ensures cause { IfErr result (HasLoadCause P.pages P.limit P.faults out.old out.new) }
+        ensures fresh { P.only_fresh out.old out.new }
+    {
+        if self.waiting.len() < 2 {
+            return match self.waiting.push(pair) {
+                Ok(()) => Ok(None),
+                Err(_) => Err(LoadError::OutOfMemory),
+            };
+        }
+        let mut first = self.waiting.remove(0);
+        match self.waiting.push(pair) {
+            Ok(()) => {}
+            Err(_) => return Err(LoadError::OutOfMemory),
+        }
+        match settle(&mut self.page, out, &mut first, 0) {
+            Ok(true) => Ok(Some(first)),
+            Ok(false) => Ok(None),
+            Err(error) => Err(LoadError::Out(error)),
+        }
+    }
+}

@@ -1,0 +1,20 @@
+//! Loads a tree from its entries in order, page by page, with one open page a level.
+//!
+//! Section numbers are those of SQLite's "Database File Format".
+#![tactic(auto)]
+
+mod cells;
+mod chain;
+mod closing;
+mod error;
+mod leaf;
+mod level;
+mod levels;
+mod loader;
+mod out;
+mod pair;
+mod putting;
+
+pub use error::LoadError;
+pub use loader::Loader;
+pub use out::{OutError, PageOut};

@@ -1,0 +1,309 @@
+// A loader: the open leaf and the levels above it.
+ghost use Rattle.std.specs.Prelude.{◌≡◌, ◌↔◌, ℕ, ℤ, ◌+◌, ◌≤◌, true, false, List, [], ◌∷◌, ◌++◌, length, max, Option, Some, None, map, Err, IfOk, IfErr, OnOk};
+ghost use Rattle.std.specs.Option.{option_map};
+ghost use Rattle.db_format.specs.Pages.{IsUsable, Pages};
+ghost use Rattle.btree_page.specs.declared.kind.Family.TheVariants.{Table, Index};
+ghost use Rattle.btree_page.specs.declared.kind.Kind.TheVariants.{IndexLeaf, TableLeaf};
+ghost use Rattle.btree_page.specs.Kind.{is_interior};
+ghost use Rattle.btree_page.specs.Payload.{local_len, max_payload};
+ghost use Rattle.btree_model.specs.Content.{Entry, entry_of};
+ghost use Rattle.btree_model.specs.Tree.{tree};
+ghost use Rattle.load_model.specs.Stands.{is_at_most, last_after};
+ghost use Rattle.page_build.specs.Draft.{room_of};
+ghost use Rattle.bulk_load.specs.Chain.{IsPutChain};
+ghost use Rattle.bulk_load.specs.Out.{Follows, HasCause, HasLoadCause, Keeps};
+ghost use Rattle.bulk_load.specs.Cells.{row_len};
+ghost use Rattle.bulk_load.specs.Settle.{up_kind};
+
+use crate::cells::{entry_pair, key_pair, row_len, write_row};
+use crate::chain::put_chain;
+use crate::error::LoadError;
+use crate::leaf::make_room;
+use crate::level::Level;
+use crate::levels::{climb, end, end_all};
+use crate::out::{OutError, PageOut};
+use btree_page::{Kind, local_len};
+use std::alloc::Global;
+
+/// A tree that is being written. It holds one open page a level, the last two children or entries that go on it, one page of an
+/// overflow chain, and one cell.
+#[derive(Drop)]
+pub struct Loader {
+    leaf: Level,
+    // the levels of interior pages, from the lowest up
+    levels: Vec<Level>,
+    // a page of any bytes, for overflow pages
+    spare: Vec<u8>,
+    // the cell of a row
+    cell: Vec<u8>,
+    // the last rowid
+    last: Option<i64>,
+}
+
+// The kind of the page above.
+fn above(kind: Kind) -> Kind
+    ensures { result ≡ up_kind kind }
+{
+    match kind {
+        Kind::TableLeaf | Kind::TableInterior => Kind::TableInterior,
+        Kind::IndexLeaf | Kind::IndexInterior => Kind::IndexInterior,
+    }
+}
+
+// The chain of these bytes.
+fn chain_of<P: PageOut>(out: &mut P, page: &mut Vec<u8>, rest: &[u8]) -> Result<u32, LoadError>
+    requires size { length page.old.items ≡ (P.pages out.old).usable }
+    requires large { 480 ≤ length page.old.items }
+    ensures size { OnOk result (length page.new.items ≡ length page.old.items) }
+    ensures chain { (start : ℕ) → P.well start out.old → IfOk result (λ n. IsPutChain (P.pages out.old) (P.pages out.new) n rest.now) }
+    ensures none { length rest.now ≡ 0 → IfOk result (λ n. n ≡ 0) }
+    ensures some { 1 ≤ length rest.now → IfOk result (λ n. 2 ≤ n) }
+    ensures keeps { Keeps P.pages P.limit P.faults P.well out.old out.new }
+    ensures follows { OnOk result (Follows P.pages P.limit P.faults P.well out.old out.new) }
+    ensures cause { IfErr result (HasLoadCause P.pages P.limit P.faults out.old out.new) }
+    ensures fresh { P.only_fresh out.old out.new }
+{
+    match put_chain(out, page, rest) {
+        Ok(n) => Ok(n),
+        Err(error) => Err(LoadError::Out(error)),
+    }
+}
+
+// Is there a last rowid, and is this one not above it?
+fn is_at_most(last: Option<i64>, rowid: i64) -> bool
+    ensures { result ≡ is_at_most last rowid }
+{
+    match last {
+        None => false,
+        Some(last) => rowid <= last,
+    }
+}
+
+impl Loader {
+    ghost use Rattle.bulk_load.specs.Loader.{IsLoader, Loaded, family_of_loader, is_for, is_late};
+
+    /// A loader of an empty table. The usable size is that of its pages, in bytes.
+    pub fn table(alloc: Global, usable: usize) -> Result<Loader, LoadError>
+        requires { IsUsable usable }
+        ensures ready { IfOk result (λ loader. IsLoader loader usable) }
+        ensures family { IfOk result (λ loader. family_of_loader loader ≡ Table) }
+        ensures last { IfOk result (λ loader. loader.last ≡ None) }
+        ensures empty { (pages : Pages) → pages.usable ≡ usable → IfOk result (λ loader. Loaded pages loader []) }
+        ensures cause { IfErr result (λ error. error ≡ LoadError.OutOfMemory) }
+    {
+        Loader::new(alloc, usable, Kind::TableLeaf)
+    }
+
+    /// A loader of an empty index.
+    pub fn index(alloc: Global, usable: usize) -> Result<Loader, LoadError>
+        requires { IsUsable usable }
+        ensures ready { IfOk result (λ loader. IsLoader loader usable) }
+        ensures family { IfOk result (λ loader. family_of_loader loader ≡ Index) }
+        ensures last { IfOk result (λ loader. loader.last ≡ None) }
+        ensures empty { (pages : Pages) → pages.usable ≡ usable → IfOk result (λ loader. Loaded pages loader []) }
+        ensures cause { IfErr result (λ error. error ≡ LoadError.OutOfMemory) }
+    {
+        Loader::new(alloc, usable, Kind::IndexLeaf)
+    }
+
+    // A loader with an empty leaf of this kind.
+    fn new(alloc: Global, usable: usize, kind: Kind) -> Result<Loader, LoadError>
+        requires usable { IsUsable usable }
+        requires leaf { is_interior kind ≡ false }
+        ensures ready { IfOk result (λ loader. IsLoader loader usable) }
+        ensures kind { IfOk result (λ loader. loader.leaf.page.kind ≡ kind) }
+        ensures last { IfOk result (λ loader. loader.last ≡ None) }
+        ensures empty { (pages : Pages) → pages.usable ≡ usable → IfOk result (λ loader. Loaded pages loader []) }
+        ensures cause { IfErr result (λ error. error ≡ LoadError.OutOfMemory) }
+    {
+        let leaf = Level::new(alloc, usable, kind)?;
+        let Ok(spare) = vec![in alloc; 0; usable] else {
+            return Err(LoadError::OutOfMemory);
+        };
+        Ok(Loader {
+            leaf,
+            levels: Vec::new(alloc),
+            spare,
+            cell: Vec::new(alloc),
+            last: None,
+        })
+    }
+
+    /// One entry more, behind all others: a row with its rowid, or an entry of an index without one. Its payload has at most 2^30 bytes.
+    /// After an answer that is neither Ok nor RowidOrder the loader may only be dropped.
+    #[tactic(auto, using(crate::proofs::PutLemmas::keeps_after, crate::proofs::PutLemmas::keeps_same))]
+    pub fn push<P: PageOut>(
+        &mut self,
+        out: &mut P,
+        rowid: Option<i64>,
+        payload: &[u8],
+    ) -> Result<(), LoadError>
+        requires ready { IsLoader self.old (P.pages out.old).usable }
+        requires family { is_for (family_of_loader self.old) rowid ≡ true }
+        requires short { length payload.now ≤ max_payload }
+        // the entry stands behind those that were pushed before
+        ensures loaded { (start : ℕ) → P.well start out.old → (pushed : List Entry) → Loaded (P.pages out.old) self.old pushed
+            → OnOk result (Loaded (P.pages out.new) self.new (pushed ++ record { rowid = rowid; payload = payload.now } ∷ [])) }
+        ensures ready { OnOk result (IsLoader self.new (P.pages out.old).usable) }
+        ensures family { OnOk result (family_of_loader self.new ≡ family_of_loader self.old) }
+        ensures last { OnOk result (self.new.last ≡ last_after self.old.last rowid) }
+        // a rowid that is not above the last is refused, and nothing changes
+        ensures order { (result ≡ Err LoadError.RowidOrder) ↔ (is_late self.old rowid ≡ true) }
+        ensures unchanged { result ≡ Err LoadError.RowidOrder → (self.new ≡ self.old) × (out.new ≡ out.old) }
+        // what other answers there are, and what all of them leave
+        ensures cause { (why : OutError) → result ≡ Err (LoadError.Out why) → HasCause P.pages P.limit P.faults out.old out.new why }
+        ensures keeps { Keeps P.pages P.limit P.faults P.well out.old out.new }
+        ensures follows { OnOk result (Follows P.pages P.limit P.faults P.well out.old out.new) }
+        ensures fresh { P.only_fresh out.old out.new }
+    {
+        match rowid {
+            None => self.push_entry(out, payload),
+            Some(rowid) => {
+                if is_at_most(self.last, rowid) {
+                    return Err(LoadError::RowidOrder);
+                }
+                self.push_row(out, rowid, payload)
+            }
+        }
+    }
+
+    /// The end: all open pages are put, and the root of the tree is answered.
+    #[tactic(auto, using(crate::proofs::PutLemmas::keeps_after, crate::proofs::PutLemmas::follows_all))]
+    pub fn finish<P: PageOut>(mut self, out: &mut P) -> Result<u32, LoadError>
+        requires ready { IsLoader self (P.pages out.old).usable }
+        // the tree from the root is the pushed list
+        ensures tree { (start : ℕ) → P.well start out.old → (pushed : List Entry) → Loaded (P.pages out.old) self pushed
+            → IfOk result (λ root. option_map (map entry_of) (tree (P.pages out.new) (family_of_loader self) root) ≡ Some pushed) }
+        ensures cause { IfErr result (HasLoadCause P.pages P.limit P.faults out.old out.new) }
+        ensures keeps { Keeps P.pages P.limit P.faults P.well out.old out.new }
+        ensures follows { OnOk result (Follows P.pages P.limit P.faults P.well out.old out.new) }
+        ensures fresh { P.only_fresh out.old out.new }
+    {
+        let kind = above(self.leaf.page.kind());
+        let m = end(&mut self.leaf, &mut self.levels, out, kind, 0)?;
+        end_all(&mut self.levels, out, kind, m, 19)
+    }
+
+    // One entry more of an index.
+    #[tactic(auto, using(crate::proofs::PutLemmas::keeps_after, crate::proofs::PutLemmas::follows_all))]
+    fn push_entry<P: PageOut>(&mut self, out: &mut P, payload: &[u8]) -> Result<(), LoadError>
+        requires ready { IsLoader self.old (P.pages out.old).usable }
+        requires kind { self.old.leaf.page.kind ≡ IndexLeaf }
+        requires short { length payload.now ≤ max_payload }
+        ensures ready { OnOk result (IsLoader self.new (P.pages out.old).usable) }
+        ensures kind { OnOk result (self.new.leaf.page.kind ≡ self.old.leaf.page.kind) }
+        ensures last { OnOk result (self.new.last ≡ self.old.last) }
+        ensures loaded { (start : ℕ) → P.well start out.old → (pushed : List Entry) → Loaded (P.pages out.old) self.old pushed
+            → OnOk result (Loaded (P.pages out.new) self.new (pushed ++ record { rowid = None; payload = payload.now } ∷ [])) }
+        ensures cause { IfErr result (HasLoadCause P.pages P.limit P.faults out.old out.new) }
+        ensures keeps { Keeps P.pages P.limit P.faults P.well out.old out.new }
+        ensures follows { OnOk result (Follows P.pages P.limit P.faults P.well out.old out.new) }
+        ensures fresh { P.only_fresh out.old out.new }
+    {
+        let usable = out.usable();
+        let local = local_len(false, usable, payload.len() as u64);
+        let first = chain_of(out, &mut self.spare, &payload[local..])?;
+        let pair = entry_pair(*self.levels.allocator(), payload, local, first)?;
+        match self.leaf.enter(out, pair)? {
+            None => Ok(()),
+            Some(up) => {
+                climb(&mut self.levels, out, Kind::IndexInterior, up)?;
+                Ok(())
+            }
+        }
+    }
+
+    // One row more of a table: room first, then its chain, then its cell, so that no page is put between a chain and its cell.
+    #[tactic(auto, using(crate::proofs::PutLemmas::keeps_after, crate::proofs::PutLemmas::follows_all))]
+    fn push_row<P: PageOut>(
+        &mut self,
+        out: &mut P,
+        rowid: i64,
+        payload: &[u8],
+    ) -> Result<(), LoadError>
+        requires ready { IsLoader self.old (P.pages out.old).usable }
+        requires kind { self.old.leaf.page.kind ≡ TableLeaf }
+        requires short { length payload.now ≤ max_payload }
+        requires above { is_at_most self.old.last rowid ≡ false }
+        ensures ready { OnOk result (IsLoader self.new (P.pages out.old).usable) }
+        ensures kind { OnOk result (self.new.leaf.page.kind ≡ self.old.leaf.page.kind) }
+        ensures last { OnOk result (self.new.last ≡ Some rowid) }
+        ensures loaded { (start : ℕ) → P.well start out.old → (pushed : List Entry) → Loaded (P.pages out.old) self.old pushed
+            → OnOk result (Loaded (P.pages out.new) self.new (pushed ++ record { rowid = Some rowid; payload = payload.now } ∷ [])) }
+        ensures cause { IfErr result (HasLoadCause P.pages P.limit P.faults out.old out.new) }
+        ensures keeps { Keeps P.pages P.limit P.faults P.well out.old out.new }
+        ensures follows { OnOk result (Follows P.pages P.limit P.faults P.well out.old out.new) }
+        ensures fresh { P.only_fresh out.old out.new }
+    {
+        let usable = out.usable();
+        let local = local_len(true, usable, payload.len() as u64);
+        let len = row_len(rowid, payload.len(), local);
+        self.leaf_for(out, len)?;
+        self.add_row(out, rowid, payload, local)?;
+        Ok(())
+    }
+
+    // Makes room on the open leaf of a table for a cell of `len` bytes.
+    #[tactic(auto, using(crate::proofs::PutLemmas::keeps_after, crate::proofs::PutLemmas::keeps_same, crate::proofs::PutLemmas::follows_same, crate::proofs::PutLemmas::follows_all))]
+    fn leaf_for<P: PageOut>(&mut self, out: &mut P, len: usize) -> Result<(), LoadError>
+        requires ready { IsLoader self.old (P.pages out.old).usable }
+        requires kind { self.old.leaf.page.kind ≡ TableLeaf }
+        requires fits { len + 17 ≤ (P.pages out.old).usable }
+        ensures ready { OnOk result (IsLoader self.new (P.pages out.old).usable) }
+        ensures kind { OnOk result (self.new.leaf.page.kind ≡ self.old.leaf.page.kind) }
+        ensures last { OnOk result (self.new.last ≡ self.old.last) }
+        ensures fits { OnOk result (max 4 len + 2 ≤ room_of self.new.leaf.page) }
+        ensures loaded { (start : ℕ) → P.well start out.old → (pushed : List Entry) → Loaded (P.pages out.old) self.old pushed
+            → OnOk result (Loaded (P.pages out.new) self.new pushed) }
+        ensures cause { IfErr result (HasLoadCause P.pages P.limit P.faults out.old out.new) }
+        ensures keeps { Keeps P.pages P.limit P.faults P.well out.old out.new }
+        ensures follows { OnOk result (Follows P.pages P.limit P.faults P.well out.old out.new) }
+        ensures fresh { P.only_fresh out.old out.new }
+    {
+        let Some(last) = self.last else {
+            return Ok(());
+        };
+        match make_room(&mut self.leaf.page, out, len) {
+            Err(error) => Err(LoadError::Out(error)),
+            Ok(None) => Ok(()),
+            Ok(Some(m)) => {
+                let pair = key_pair(*self.levels.allocator(), m, last)?;
+                climb(&mut self.levels, out, Kind::TableInterior, pair)?;
+                Ok(())
+            }
+        }
+    }
+
+    // Puts the chain of a row, and adds its cell to the open leaf.
+    #[tactic(auto, using(crate::proofs::PutLemmas::keeps_after, crate::proofs::PutLemmas::follows_all))]
+    fn add_row<P: PageOut>(
+        &mut self,
+        out: &mut P,
+        rowid: i64,
+        payload: &[u8],
+        local: usize,
+    ) -> Result<(), LoadError>
+        requires ready { IsLoader self.old (P.pages out.old).usable }
+        requires kind { self.old.leaf.page.kind ≡ TableLeaf }
+        requires short { length payload.now ≤ max_payload }
+        requires above { is_at_most self.old.last rowid ≡ false }
+        requires local { local ≡ local_len Table (P.pages out.old).usable (length payload.now) }
+        requires some { local ≤ length payload.now }
+        requires fits { max 4 (row_len (length payload.now) rowid local) + 2 ≤ room_of self.old.leaf.page }
+        ensures ready { OnOk result (IsLoader self.new (P.pages out.old).usable) }
+        ensures kind { OnOk result (self.new.leaf.page.kind ≡ self.old.leaf.page.kind) }
+        ensures last { OnOk result (self.new.last ≡ Some rowid) }
+        ensures loaded { (start : ℕ) → P.well start out.old → (pushed : List Entry) → Loaded (P.pages out.old) self.old pushed
+            → OnOk result (Loaded (P.pages out.new) self.new (pushed ++ record { rowid = Some rowid; payload = payload.now } ∷ [])) }
+        ensures cause { IfErr result (HasLoadCause P.pages P.limit P.faults out.old out.new) }
+        ensures keeps { Keeps P.pages P.limit P.faults P.well out.old out.new }
+        ensures follows { OnOk result (Follows P.pages P.limit P.faults P.well out.old out.new) }
+        ensures fresh { P.only_fresh out.old out.new }
+    {
+        let first = chain_of(out, &mut self.spare, &payload[local..])?;
+        write_row(&mut self.cell, rowid, payload, local, first)?;
+        self.leaf.page.add(&self.cell);
+        self.last = Some(rowid);
+        Ok(())
+    }
+}
