@@ -1,6 +1,8 @@
 pub mod FindingLemmas
 pub mod RestLemmas
 pub mod UnmarkedLemmas
+pub mod UnreadLemmas
+pub mod LeafLemmas
 pub mod KeptLemmas
 pub mod ProperLemmas
 pub mod ContextLemmas
