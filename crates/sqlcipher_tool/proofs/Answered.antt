@@ -7,21 +7,20 @@ use Rattle.rollback_journal.specs.Recovery.{Recovers, Keeps as KeepsRecovered}
 use Rattle.cipher_profile.specs.declared.key_line.KeyError.{KeyError}
 use Rattle.cipher_profile.specs.declared.keys.Secret.{Secret}
 use Rattle.cipher_profile.specs.KeyLine.{key_line}
-use Rattle.sqlcipher_tool.specs.Answer.{Answer, IsAnswer, IsAnswered, IsFault, Puts, PutsPart, begun}
+use Rattle.sqlcipher_tool.specs.Answer.{Answer, IsAnswer, IsAnswered, IsFault, Puts, PutsPart}
 use Rattle.sqlcipher_tool.specs.Crash.{KeepsHeld}
 use Rattle.sqlcipher_tool.specs.Due.{and_secrets, key_lines, keyed_answers}
 use Rattle.sqlcipher_tool.specs.declared.command.Command.{Command}
 use Rattle.sqlcipher_tool.specs.declared.command.Command.TheVariants.{Tags, Header, Probe, Recover}
 use Rattle.sqlcipher_tool.specs.declared.status.Status.{Status}
 use Rattle.sqlcipher_tool.specs.declared.status.Status.TheVariants.{Done, Usage, Refused, KeyRefused, DiskFault, OutputFault, InputFault, EntropyFault, OutOfMemory}
-use Rattle.sqlcipher_tool.specs.Database.{database}
 use Rattle.sqlcipher_tool.specs.Holding.{AreOfSize, DiskRun, Held, HoldsOneOf, HoldsOnly}
 use Rattle.sqlcipher_tool.specs.Promises.{AnswersOne, PutsSo}
 use Rattle.sqlcipher_tool.proofs.Conclusions.{no_part}
 
 -- what was printed of the answer
 puts_so : (status : Status) (answer : Answer) (before after : List ℕ) → Puts status answer.text before after
-    → (status ≡ DiskFault → PutsPart (begun answer) before after) → (status ≡ OutOfMemory → after ≡ before)
+    → (status ≡ DiskFault → PutsPart answer.begun before after) → (status ≡ OutOfMemory → after ≡ before)
     → (status ≡ InputFault → ⊥) → (status ≡ EntropyFault → ⊥) → PutsSo status answer before after
 puts_so Done answer before after text failed starved no_input no_entropy = text
 puts_so Usage answer before after text failed starved no_input no_entropy = text
@@ -31,12 +30,12 @@ puts_so DiskFault answer before after text failed starved no_input no_entropy = 
 puts_so OutputFault answer before after text failed starved no_input no_entropy = text
 puts_so InputFault answer before after text failed starved no_input no_entropy = absurd (no_input refl)
 puts_so EntropyFault answer before after text failed starved no_input no_entropy = absurd (no_entropy refl)
-puts_so OutOfMemory answer before after text failed starved no_input no_entropy = no_part (begun answer) before after (starved refl)
+puts_so OutOfMemory answer before after text failed starved no_input no_entropy = no_part answer.begun before after (starved refl)
 
 -- the only answer that is due
 pub answers_one : (answer : Answer) (status : Status) (tells : Bool) (before after : List ℕ) → IsAnswered status answer
     → (IsTrue tells → Puts status answer.text before after)
-    → (IsTrue tells → status ≡ DiskFault → PutsPart (begun answer) before after) → (status ≡ OutOfMemory → after ≡ before)
+    → (IsTrue tells → status ≡ DiskFault → PutsPart answer.begun before after) → (status ≡ OutOfMemory → after ≡ before)
     → (status ≡ InputFault → ⊥) → (status ≡ EntropyFault → ⊥) → AnswersOne (answer ∷ []) status tells before after
 answers_one answer status tells before after answered text failed starved no_input no_entropy = record {
   answer = answer;
@@ -104,4 +103,4 @@ pub unread_one : (command : Command) (left : List ℕ) (files : Files) (tells : 
     → AnswersOne (keyed_answers command (key_lines 1 left) files) InputFault tells before before
 unread_one command left files tells before =
     let due = first_due (keyed_answers command (key_lines 1 left) files) (one_due command (key_line left) files) in
-    record { answer = due.0; is_due = due.1; answered = inr tt; puts = λ printed. no_part (begun due.0) before before refl }
+    record { answer = due.0; is_due = due.1; answered = inr tt; puts = λ printed. no_part due.0.begun before before refl }

@@ -1,7 +1,7 @@
 -- The answer of `tags`, by the first page that is not accepted.
 use Rattle.std.proofs.Common.{◌≡◌, ◌++◌, ℕ, List, [], ◌∷◌, Some, None, refl, sym, ap, ◌∙◌, append-nil}
 use Rattle.std.specs.Prelude.{slice_get}
-use Rattle.sqlcipher_tool.specs.Answer.{PutsPart, done, begun}
+use Rattle.sqlcipher_tool.specs.Answer.{PutsPart, done}
 use Rattle.sqlcipher_tool.specs.declared.status.Refusal.TheVariants.{PageTag}
 use Rattle.sqlcipher_tool.specs.declared.status.Status.TheVariants.{Refused}
 use Rattle.sqlcipher_tool.specs.Tags.{pages_answer}
@@ -22,10 +22,10 @@ none_printed pages before after none put = put ∙ ap (λ (l : List ℕ). before
 
 -- this page is the first that is not accepted
 pub some_refused : (count : ℕ) (pages : List ℕ) (page : ℕ) → Some page ≡ slice_get pages 0
-    → pages_answer count pages ≡ record { status = Refused (PageTag page); text = tag_lines pages }
+    → pages_answer count pages ≡ record { status = Refused (PageTag page); text = tag_lines pages; begun = tag_lines pages }
 some_refused count [] page first = cc
 some_refused count (other ∷ rest) page first =
-    let same : page ≡ other = cc in ap (λ (n : ℕ). record { status = Refused (PageTag n); text = tag_lines (other ∷ rest) }) (sym same)
+    let same : page ≡ other = cc in ap (λ (n : ℕ). record { status = Refused (PageTag n); text = tag_lines (other ∷ rest); begun = tag_lines (other ∷ rest) }) (sym same)
 
 -- a part of nothing is nothing
 empty_part : (put rest : List ℕ) → [] ≡ put ++ rest → put ≡ []
@@ -45,7 +45,7 @@ part_of_answer count (page ∷ rest) before after part = part
 
 -- and so it is of what may be printed before a file fails
 pub part_of_begun : (count : ℕ) (pages before after : List ℕ) → PutsPart (tag_lines pages) before after
-    → PutsPart (begun (pages_answer count pages)) before after
+    → PutsPart (pages_answer count pages).begun before after
 part_of_begun count [] before after part =
     record {
       put = [];

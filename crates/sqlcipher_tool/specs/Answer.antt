@@ -2,7 +2,7 @@
 use Rattle.std.specs.Prelude.{◌≡◌, ◌⊎◌, ◌≤◌, ℕ, Bool, true, false, IsTrue, List, [], ◌∷◌, ◌++◌, Option, Some, None, if◌then◌else◌}
 use Rattle.edge_model.specs.Causes.{Rose}
 use Rattle.sqlcipher_tool.specs.declared.status.Refusal.{Refusal}
-use Rattle.sqlcipher_tool.specs.declared.status.Refusal.TheVariants.{NoTags, KeyMissing, KeyEmpty, KeyTooLong, KeyForm, JournalThere, Empty, Short, HeaderFault, WalMode, AutoVacuum, Ragged, TooLarge, PageTag, JournalPageSize, SuperJournal}
+use Rattle.sqlcipher_tool.specs.declared.status.Refusal.TheVariants.{NoTags, KeyMissing, KeyEmpty, KeyTooLong, KeyForm, JournalThere, Empty, Short, HeaderFault, WalMode, AutoVacuum, Ragged, TooLarge, PageTag, JournalPageSize, SuperJournal, Defect}
 use Rattle.sqlcipher_tool.specs.declared.status.Status.{Status}
 use Rattle.sqlcipher_tool.specs.declared.status.Status.TheVariants.{Done, Usage, Refused, KeyRefused, DiskFault, OutputFault, InputFault, EntropyFault, OutOfMemory}
 use Rattle.sqlcipher_tool.specs.Text.{refusal_line, usage_line, key_refused_line}
@@ -10,6 +10,8 @@ use Rattle.sqlcipher_tool.specs.Text.{refusal_line, usage_line, key_refused_line
 pub record Answer : Type 0 where
   pub status : Status
   pub text : List ℕ
+  -- what of the text may be printed before something fails: a report, or the lines of pages
+  pub begun : List ℕ
 
 -- a cause of a refusal: whether it holds, and the answer that it has
 pub record Cause : Type 0 where
@@ -22,16 +24,16 @@ first_of [] = None
 first_of (cause ∷ causes) = if cause.holds then Some cause.answer else first_of causes
 
 abbrev pub done : List ℕ → Answer
-done report = record { status = Done; text = report }
+done report = record { status = Done; text = report; begun = report }
 
 abbrev pub refused : Refusal → Answer
-refused refusal = record { status = Refused refusal; text = refusal_line refusal }
+refused refusal = record { status = Refused refusal; text = refusal_line refusal; begun = [] }
 
 abbrev pub usage : Answer
-usage = record { status = Usage; text = usage_line }
+usage = record { status = Usage; text = usage_line; begun = [] }
 
 abbrev pub key_refused : Answer
-key_refused = record { status = KeyRefused; text = key_refused_line }
+key_refused = record { status = KeyRefused; text = key_refused_line; begun = [] }
 
 -- the command was answered
 abbrev pub IsAnswer : Status → Type 0
@@ -106,6 +108,7 @@ is_early (TooLarge pages) = false
 is_early (PageTag page) = false
 is_early (JournalPageSize found) = false
 is_early SuperJournal = false
+is_early (Defect defect) = false
 
 -- it is a page whose tag does not hold
 abbrev pub is_page : Refusal → Bool
@@ -125,21 +128,7 @@ is_page (TooLarge pages) = false
 is_page (PageTag page) = true
 is_page (JournalPageSize found) = false
 is_page SuperJournal = false
-
--- what of a text may be printed before a file fails: a report, or the lines of pages
-abbrev pub begun_by : Status → List ℕ → List ℕ
-begun_by Done text = text
-begun_by Usage text = []
-begun_by (Refused refusal) text = if is_page refusal then text else []
-begun_by KeyRefused text = []
-begun_by DiskFault text = []
-begun_by OutputFault text = []
-begun_by InputFault text = []
-begun_by EntropyFault text = []
-begun_by OutOfMemory text = []
-
-abbrev pub begun : Answer → List ℕ
-begun answer = begun_by answer.status answer.text
+is_page (Defect defect) = false
 
 -- the one line of an answer that has one; pages whose tags do not hold have a line each
 abbrev pub line_of : Status → Option (List ℕ)

@@ -37,7 +37,7 @@ key_answer KeyMissing = refused RefusedMissing
 key_answer KeyEmpty = refused RefusedEmpty
 key_answer KeyTooLong = refused RefusedLong
 key_answer KeyForm = refused RefusedForm
-key_answer SourceFault = record { status = InputFault; text = [] }
+key_answer SourceFault = record { status = InputFault; text = []; begun = [] }
 
 -- a command with one secret
 abbrev pub with_one : List Secret → (Secret → List Answer) → List Answer

@@ -1,6 +1,7 @@
 pub mod Answer
 pub mod Crash
 pub mod Database
+pub mod Plain
 pub mod Due
 pub mod Header
 pub mod Holding
@@ -11,4 +12,5 @@ pub mod Recovered
 pub mod Stop
 pub mod Tags
 pub mod Text
+pub mod Verify
 pub mod Words

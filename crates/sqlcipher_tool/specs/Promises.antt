@@ -1,10 +1,10 @@
 -- The words of the top call's clauses.
-use Rattle.std.specs.Prelude.{◌≡◌, ◌⊎◌, ◌≤◌, ◌*◌, ◌==◌, ℕ, zero, suc, not, Bool, true, IsTrue, List, [], ◌∷◌, ◌++◌, drop, Option, Some, None, Result, Ok, Err}
+use Rattle.std.specs.Prelude.{◌≡◌, ◌⊎◌, ◌≤◌, ◌*◌, ◌==◌, ℕ, zero, suc, not, Bool, true, IsTrue, List, ◌++◌, drop, Some, None, Result, Ok, Err}
 use Rattle.std.specs.List.{Contains}
 use Rattle.cipher_profile.specs.declared.keys.Secret.{Secret}
 use Rattle.cipher_profile.specs.declared.key_line.KeyError.{KeyError}
 use Rattle.cipher_profile.specs.KeyLine.{after_line, key_line}
-use Rattle.sqlcipher_tool.specs.Answer.{Answer, IsAnswered, PutsPart, begun}
+use Rattle.sqlcipher_tool.specs.Answer.{Answer, IsAnswered, PutsPart}
 use Rattle.sqlcipher_tool.specs.declared.command.Command.{Command}
 use Rattle.sqlcipher_tool.specs.declared.status.Refusal.TheVariants.{JournalPageSize, SuperJournal}
 use Rattle.sqlcipher_tool.specs.declared.status.Status.{Status}
@@ -61,11 +61,11 @@ PutsSo Done answer before after = after ≡ before ++ answer.text
 PutsSo Usage answer before after = after ≡ before ++ answer.text
 PutsSo (Refused refusal) answer before after = after ≡ before ++ answer.text
 PutsSo KeyRefused answer before after = after ≡ before ++ answer.text
-PutsSo DiskFault answer before after = PutsPart (begun answer) before after
+PutsSo DiskFault answer before after = PutsPart answer.begun before after
 PutsSo OutputFault answer before after = PutsPart answer.text before after
-PutsSo InputFault answer before after = PutsPart (begun answer) before after
-PutsSo EntropyFault answer before after = PutsPart (begun answer) before after
-PutsSo OutOfMemory answer before after = PutsPart (begun answer) before after
+PutsSo InputFault answer before after = PutsPart answer.begun before after
+PutsSo EntropyFault answer before after = PutsPart answer.begun before after
+PutsSo OutOfMemory answer before after = PutsPart answer.begun before after
 
 -- one of the answers that are due came, or a fault in its place, and this was printed of it
 pub record AnswersOne (answers : List Answer) (status : Status) (tells : Bool) (before after : List ℕ) : Type 0 where

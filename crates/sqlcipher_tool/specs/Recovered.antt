@@ -25,8 +25,8 @@ abbrev pub recovery_answer : Result Recovery RecoverError → Answer
 recovery_answer (Ok recovery) = done (recovery_line recovery)
 recovery_answer (Err (PageSizeDiffers found)) = refused (JournalPageSize found)
 recovery_answer (Err NamesSuper) = refused SuperJournal
-recovery_answer (Err DiskFails) = record { status = DiskFault; text = [] }
-recovery_answer (Err MemoryEnds) = record { status = OutOfMemory; text = [] }
+recovery_answer (Err DiskFails) = record { status = DiskFault; text = []; begun = [] }
+recovery_answer (Err MemoryEnds) = record { status = OutOfMemory; text = []; begun = [] }
 
 -- the answer on the recovered file, or to a recovery that is refused
 abbrev pub after_recovery : Result Recovery RecoverError → Answer → Answer

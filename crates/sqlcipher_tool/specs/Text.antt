@@ -1,11 +1,35 @@
 -- What is printed. Each line ends with a line feed, and numbers are decimal.
 use Rattle.std.specs.Prelude.{ℕ, List, [], ◌∷◌, ◌++◌, codes, decimal}
+use Rattle.std.specs.Fmt.{signed_decimal}
 use Rattle.std.specs.List.{flat_map}
+use Rattle.btree_model.specs.Parts.{Counts}
+use Rattle.db_format.specs.declared.defect.Defect.{Defect}
+use Rattle.db_format.specs.declared.defect.Defect.TheVariants.{TrunkFault, FreeCount, BadKind, BadCell, ChildOutOfRange, PageTwice, TooDeep, ChainShort, ChainLong, RowidOrder, RecordFault, SchemaRow, RootFault}
 use Rattle.db_format.specs.declared.header.Header.{Header}
 use Rattle.rollback_journal.specs.declared.recovery.Recovery.{Recovery}
 use Rattle.rollback_journal.specs.declared.recovery.Recovery.TheVariants.{Nothing, Cold, Played}
 use Rattle.sqlcipher_tool.specs.declared.status.Refusal.{Refusal}
-use Rattle.sqlcipher_tool.specs.declared.status.Refusal.TheVariants.{NoTags, KeyMissing, KeyEmpty, KeyTooLong, KeyForm, JournalThere, Empty, Short, HeaderFault, WalMode, AutoVacuum, Ragged, TooLarge, PageTag, JournalPageSize, SuperJournal}
+use Rattle.sqlcipher_tool.specs.declared.status.Refusal.TheVariants.{NoTags, KeyMissing, KeyEmpty, KeyTooLong, KeyForm, JournalThere, Empty, Short, HeaderFault, WalMode, AutoVacuum, Ragged, TooLarge, PageTag, JournalPageSize, SuperJournal, Defect as RefusedDefect}
+
+-- what is said of a page
+abbrev pub of_page : ℕ → List ℕ → List ℕ
+of_page page text = codes "page " ++ (decimal page ++ (codes ": " ++ text))
+
+-- the text of a defect, without its line feed
+abbrev pub defect_text : Defect → List ℕ
+defect_text (TrunkFault page) = of_page page (codes "trunk fault")
+defect_text (FreeCount kept found) = codes "free count " ++ (decimal kept ++ (codes ", found " ++ decimal found))
+defect_text (BadKind page) = of_page page (codes "bad kind")
+defect_text (BadCell page index) = of_page page (codes "bad cell " ++ decimal index)
+defect_text (ChildOutOfRange page) = of_page page (codes "child out of range")
+defect_text (PageTwice page) = of_page page (codes "page twice")
+defect_text (TooDeep page) = of_page page (codes "too deep")
+defect_text (ChainShort page) = of_page page (codes "chain short")
+defect_text (ChainLong page) = of_page page (codes "chain long")
+defect_text (RowidOrder page) = of_page page (codes "rowid order")
+defect_text (RecordFault page) = of_page page (codes "record fault")
+defect_text (SchemaRow rowid) = codes "schema row " ++ signed_decimal rowid
+defect_text (RootFault rowid) = codes "root fault in row " ++ signed_decimal rowid
 
 -- the text of a refusal, without its line feed
 abbrev pub refusal_text : Refusal → List ℕ
@@ -25,6 +49,7 @@ refusal_text (TooLarge pages) = codes "file is too large: " ++ decimal pages ++ 
 refusal_text (PageTag page) = codes "page " ++ decimal page ++ codes ": tag refused"
 refusal_text (JournalPageSize found) = codes "journal page size " ++ decimal found
 refusal_text SuperJournal = codes "journal names a super-journal"
+refusal_text (RefusedDefect defect) = defect_text defect
 
 abbrev pub line : List ℕ → List ℕ
 line text = text ++ 10 ∷ []
@@ -49,6 +74,11 @@ key_refused_line = line (codes "key refused")
 -- what `tags` prints of a file whose pages are all accepted
 abbrev pub tags_report : ℕ → List ℕ
 tags_report pages = line (codes "tags hold: " ++ decimal pages ++ codes " pages")
+
+-- what `verify` prints of a file without a defect
+abbrev pub verify_report : Counts → List ℕ
+verify_report found =
+    line (codes "ok: " ++ (decimal found.trees ++ (codes " trees, " ++ (decimal found.rows ++ (codes " entries, " ++ (decimal found.free ++ (codes " free pages, " ++ (decimal found.unused ++ codes " unused pages"))))))))
 
 -- what `probe` prints
 abbrev pub probe_report : ℕ → List ℕ

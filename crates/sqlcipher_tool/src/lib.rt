@@ -13,6 +13,8 @@ mod tags;
 #[cfg(test)]
 mod tests;
 mod text;
+#[cfg(test)]
+mod text_tests;
 mod top;
 
 pub use status::{Refusal, Status};

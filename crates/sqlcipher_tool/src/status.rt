@@ -2,6 +2,8 @@
 ghost use Rattle.std.specs.Prelude.{◌≡◌};
 ghost use Rattle.sqlcipher_tool.specs.Answer.{code_of};
 
+use db_format::Defect;
+
 /// Why a command was refused. Lengths are in bytes, and pages are numbered from 1.
 #[derive(Clone, Copy, Debug, PartialEq, Eq)]
 pub enum Refusal {
@@ -57,6 +59,8 @@ pub enum Refusal {
     },
     /// The hot journal beside the file names a super-journal.
     SuperJournal,
+    /// The structure of the database has this defect.
+    Defect(Defect),
 }
 
 /// How a run ended.

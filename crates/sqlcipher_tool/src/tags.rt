@@ -7,7 +7,7 @@ ghost use Rattle.cipher_profile.specs.Profile.{IsListed};
 ghost use Rattle.db_format.specs.Count.{largest_database};
 ghost use Rattle.page_codec.specs.Page.{keys_of};
 ghost use Rattle.rollback_journal.specs.Recovery.{Keeps};
-ghost use Rattle.sqlcipher_tool.specs.Answer.{first_of, Puts, PutsLine, PutsPart, IsAnswered, HasCauses, begun};
+ghost use Rattle.sqlcipher_tool.specs.Answer.{first_of, Puts, PutsLine, PutsPart, IsAnswered, HasCauses};
 ghost use Rattle.sqlcipher_tool.specs.Opening.{main_of, whole_pages};
 ghost use Rattle.sqlcipher_tool.specs.Promises.{IsUnrecovered};
 ghost use Rattle.sqlcipher_tool.specs.Recovered.{recovered_answer};
@@ -31,10 +31,12 @@ use std::alloc::Global;
 // How many pages are read at once.
 const BATCH: usize = 16;
 
-// What failed while pages were checked.
+/// What failed while pages were checked.
 #[derive(Clone, Copy, Debug, PartialEq, Eq)]
-enum CheckFault {
+pub enum CheckFault {
+    /// The disk failed.
     Disk,
+    /// The output failed.
     Output,
 }
 
@@ -51,7 +53,7 @@ pub fn tags<S: Sink, D: Disk>(
     ensures status { IsTrue D.tells → IsAnswered result (recovered_answer profile (D.reads disk.old) (tags_answer profile secret.now)) }
     ensures text { IsTrue S.tells → IsTrue D.tells → Puts result (recovered_answer profile (D.reads disk.old) (tags_answer profile secret.now)).text (S.taken out.old) (S.taken out.new) }
     ensures line { IsTrue S.tells → PutsLine result (S.taken out.old) (S.taken out.new) }
-    ensures disk_text { IsTrue S.tells → IsTrue D.tells → result ≡ Status.DiskFault → PutsPart (begun (recovered_answer profile (D.reads disk.old) (tags_answer profile secret.now))) (S.taken out.old) (S.taken out.new) }
+    ensures disk_text { IsTrue S.tells → IsTrue D.tells → result ≡ Status.DiskFault → PutsPart (recovered_answer profile (D.reads disk.old) (tags_answer profile secret.now)).begun (S.taken out.old) (S.taken out.new) }
     ensures memory_text { result ≡ Status.OutOfMemory → out.new ≡ out.old }
     ensures causes { HasCauses result (D.faults disk.old) (D.faults disk.new) (S.faults out.old) (S.faults out.new) }
     ensures keeps { IsTrue D.tells → LeavesOnly D.moment D.since disk.old disk.new (From (Keeps profile.page_size) (D.images disk.old)) }
@@ -75,7 +77,7 @@ fn tags_of_main<S: Sink, D: Disk>(
     ensures status { IsTrue D.tells → IsAnswered result (tags_answer profile secret.now (main_of (D.reads disk.old))) }
     ensures text { IsTrue S.tells → IsTrue D.tells → Puts result (tags_answer profile secret.now (main_of (D.reads disk.old))).text (S.taken out.old) (S.taken out.new) }
     ensures line { IsTrue S.tells → PutsLine result (S.taken out.old) (S.taken out.new) }
-    ensures disk_text { IsTrue S.tells → IsTrue D.tells → result ≡ Status.DiskFault → PutsPart (begun (tags_answer profile secret.now (main_of (D.reads disk.old)))) (S.taken out.old) (S.taken out.new) }
+    ensures disk_text { IsTrue S.tells → IsTrue D.tells → result ≡ Status.DiskFault → PutsPart (tags_answer profile secret.now (main_of (D.reads disk.old))).begun (S.taken out.old) (S.taken out.new) }
     ensures memory { result ≡ Status.OutOfMemory → out.new ≡ out.old }
     ensures causes { HasCauses result (D.faults disk.old) (D.faults disk.new) (S.faults out.old) (S.faults out.new) }
     ensures only_read { IsTrue D.tells → OnlyRead D.reads D.images D.moment D.since disk.old disk.new }
@@ -131,7 +133,7 @@ fn tags_of_pages<S: Sink, D: Disk>(codec: &Codec, pages: u32, out: &mut S, disk:
     ensures status { IsTrue D.tells → IsAnswered result (pages_answer pages (refused_pages codec.now (main_of (D.reads disk.old)) pages)) }
     ensures text { IsTrue S.tells → IsTrue D.tells → Puts result (pages_answer pages (refused_pages codec.now (main_of (D.reads disk.old)) pages)).text (S.taken out.old) (S.taken out.new) }
     ensures line { IsTrue S.tells → PutsLine result (S.taken out.old) (S.taken out.new) }
-    ensures disk_text { IsTrue S.tells → IsTrue D.tells → result ≡ Status.DiskFault → PutsPart (begun (pages_answer pages (refused_pages codec.now (main_of (D.reads disk.old)) pages))) (S.taken out.old) (S.taken out.new) }
+    ensures disk_text { IsTrue S.tells → IsTrue D.tells → result ≡ Status.DiskFault → PutsPart (pages_answer pages (refused_pages codec.now (main_of (D.reads disk.old)) pages)).begun (S.taken out.old) (S.taken out.new) }
     ensures memory { result ≡ Status.OutOfMemory → ⊥ }
     ensures causes { HasCauses result (D.faults disk.old) (D.faults disk.new) (S.faults out.old) (S.faults out.new) }
     ensures only_read { IsTrue D.tells → OnlyRead D.reads D.images D.moment D.since disk.old disk.new }
@@ -205,8 +207,8 @@ fn load_batch<D: Disk>(
     read_main(disk, done as u64 * size as u64, &mut buffer[..count * size])
 }
 
-// Page n of a file, which is stored so, where it is not accepted, for which it prints a line.
-fn check_page<S: Sink>(
+/// Page n of a file, which is stored so, where it is not accepted, for which it prints a line.
+pub fn check_page<S: Sink>(
     out: &mut S,
     codec: &Codec,
     n: u32,

@@ -1,11 +1,12 @@
 // Printed lines, in place: none takes memory.
 ghost use Rattle.std.specs.Prelude.{◌≡◌, ◌+◌, ◌≤◌, ◌++◌, ◌∷◌, ℕ, List, [], length, take, codes, decimal, OnOk, OnErr, IsTrue};
+ghost use Rattle.std.specs.Fmt.{signed_decimal};
 ghost use Rattle.edge_model.specs.Causes.{HasCause};
 ghost use Rattle.sqlcipher_tool.specs.Answer.{PutsPart};
-ghost use Rattle.sqlcipher_tool.specs.Text.{refusal_text, refusal_line, tags_report, probe_report, recovery_line, field_line, header_report, usage_line, key_refused_line};
+ghost use Rattle.sqlcipher_tool.specs.Text.{defect_text, of_page, verify_report, refusal_text, refusal_line, tags_report, probe_report, recovery_line, field_line, header_report, usage_line, key_refused_line};
 
 use crate::status::Refusal;
-use db_format::Header;
+use db_format::{Defect, Header};
 use edge_model::{Failed, Sink, put_all};
 use itoa::Buffer;
 use rollback_journal::Recovery;
@@ -68,6 +69,17 @@ impl Text {
         self.push(after);
     }
 
+    // A text and a number with its sign.
+    fn push_signed(&mut self, before: &[u8], number: i64)
+        requires { length self.old + length before.now ≤ 900 }
+        ensures text { self.new ≡ self.old ++ (before.now ++ signed_decimal number) }
+        ensures short { length self.new ≤ length self.old + length before.now + 40 }
+    {
+        let mut digits = Buffer::new();
+        self.push(before);
+        self.push(digits.format(number).as_bytes());
+    }
+
     fn push_field(&mut self, name: &[u8], value: u32)
         requires { length self.old + length name.now ≤ 990 }
         ensures text { self.new ≡ self.old ++ field_line name.now value }
@@ -93,6 +105,47 @@ impl Text {
     }
 }
 
+// What is said of a page.
+fn push_page(text: &mut Text, page: u32, what: &[u8])
+    requires short { length what.now ≤ 40 }
+    requires empty { text.old ≡ [] }
+    ensures text { text.new ≡ of_page page what.now }
+    ensures length { length text.new ≤ 70 }
+{
+    text.push_around(b"page ", u64::from(page), b": ");
+    text.push(what);
+}
+
+// The text of a defect, without its line feed.
+fn defect_text(defect: &Defect) -> Text
+    ensures text { result ≡ defect_text defect.now }
+    ensures short { length result ≤ 100 }
+{
+    let mut text = Text::new();
+    match defect {
+        Defect::TrunkFault { page } => push_page(&mut text, *page, b"trunk fault"),
+        Defect::FreeCount { kept, found } => {
+            text.push_around(b"free count ", u64::from(*kept), b", found ");
+            text.push_number(u64::from(*found));
+        }
+        Defect::BadKind { page } => push_page(&mut text, *page, b"bad kind"),
+        Defect::BadCell { page, index } => {
+            push_page(&mut text, *page, b"bad cell ");
+            text.push_number(*index as u64);
+        }
+        Defect::ChildOutOfRange { page } => push_page(&mut text, *page, b"child out of range"),
+        Defect::PageTwice { page } => push_page(&mut text, *page, b"page twice"),
+        Defect::TooDeep { page } => push_page(&mut text, *page, b"too deep"),
+        Defect::ChainShort { page } => push_page(&mut text, *page, b"chain short"),
+        Defect::ChainLong { page } => push_page(&mut text, *page, b"chain long"),
+        Defect::RowidOrder { page } => push_page(&mut text, *page, b"rowid order"),
+        Defect::RecordFault { page } => push_page(&mut text, *page, b"record fault"),
+        Defect::SchemaRow { rowid } => text.push_signed(b"schema row ", *rowid),
+        Defect::RootFault { rowid } => text.push_signed(b"root fault in row ", *rowid),
+    }
+    text
+}
+
 // The text of a refusal, without its line feed.
 fn refusal_text(refusal: &Refusal) -> Text
     ensures text { result ≡ refusal_text refusal.now }
@@ -100,6 +153,7 @@ fn refusal_text(refusal: &Refusal) -> Text
 {
     let mut text = Text::new();
     match refusal {
+        Refusal::Defect(defect) => return defect_text(defect),
         Refusal::NoTags => text.push(b"profile has no tags"),
         Refusal::KeyMissing => text.push(b"key missing"),
         Refusal::KeyEmpty => text.push(b"key empty"),
@@ -141,6 +195,19 @@ pub fn tags_report(pages: u32) -> Text
 {
     let mut text = Text::new();
     text.push_around(b"tags hold: ", u64::from(pages), b" pages\n");
+    text
+}
+
+/// The line of a file without a defect.
+pub fn verify_report(trees: u64, rows: u64, free: u32, unused: u32) -> Text
+    ensures { result ≡ verify_report (record { trees = trees; rows = rows; free = free; unused = unused }) }
+{
+    let mut text = Text::new();
+    text.push_around(b"ok: ", trees, b" trees, ");
+    text.push_number(rows);
+    text.push_around(b" entries, ", free as u64, b" free pages, ");
+    text.push_number(unused as u64);
+    text.push(b" unused pages\n");
     text
 }
 
