@@ -1,31 +1,21 @@
 -- One page more.
 use Rattle.std.proofs.Common.{◌≡◌, ◌+◌, ◌-◌, ◌<◌, ◌≤◌, arith, ◌++◌, ℕ, zero, suc, Bool, true, false, List, [], ◌∷◌, filter, append-nil, refl, sym, ap, ◌∙◌, add-one, add-zero, add-suc, append_assoc}
-use Rattle.std.specs.Prelude.{not, ◌&&◌, slice_get, Option, Some, None, option_to_list}
+use Rattle.std.specs.Prelude.{slice_get, Option, Some, None, option_to_list}
 use Rattle.std.specs.Option.{option_or}
 use Rattle.std.proofs.lemmas.List.Elements.{filter-append}
 use Rattle.std.proofs.lemmas.List.Concat.{flat_map-append}
 use Rattle.db_format.specs.Pages.{Test}
-use Rattle.page_codec.specs.Page.{FileKeys}
 use Rattle.sqlcipher_tool.specs.Answer.{PutsPart}
-use Rattle.sqlcipher_tool.specs.Tags.{page_numbers, is_refused, refused_but, refused_unless}
+use Rattle.sqlcipher_tool.specs.Tags.{page_numbers, number_where, numbers_where}
 use Rattle.sqlcipher_tool.specs.Text.{tag_line, tag_lines}
 
--- the test of the pages that are looked for
-abbrev looked_for : FileKeys → List ℕ → Test → ℕ → Bool
-looked_for keys main passed n = not (passed n) && is_refused keys main n
+one_page : (test : Test) (n : ℕ) (is : Bool) → test n ≡ is → filter test (n ∷ []) ≡ option_to_list (number_where test n)
+one_page test n true same = rw same refl
+one_page test n false same = rw same refl
 
-one_page : (keys : FileKeys) (main : List ℕ) (passed : Test) (n : ℕ) (skip refused : Bool) → passed n ≡ skip → is_refused keys main n ≡ refused
-    → filter (looked_for keys main passed) (n ∷ []) ≡ option_to_list (refused_unless keys main passed n)
-one_page keys main passed n true refused skips is = rw skips refl
-one_page keys main passed n false true skips is = rw (skips, is) refl
-one_page keys main passed n false false skips is = rw (skips, is) refl
-
-pub more_pages : (keys : FileKeys) (main : List ℕ) (passed : Test) (n : ℕ)
-    → refused_but keys main passed (n + 1) ≡ refused_but keys main passed n ++ option_to_list (refused_unless keys main passed (n + 1))
-more_pages keys main passed n =
-    rw add-one
-    (filter-append (looked_for keys main passed) (page_numbers n) (suc n ∷ [])
-    ∙ ap (λ (l : List ℕ). refused_but keys main passed n ++ l) (one_page keys main passed (suc n) _ _ refl refl))
+pub more_pages : (test : Test) (n : ℕ) → numbers_where test (n + 1) ≡ numbers_where test n ++ option_to_list (number_where test (n + 1))
+more_pages test n =
+    rw add-one (filter-append test (page_numbers n) (suc n ∷ []) ∙ ap (λ (l : List ℕ). numbers_where test n ++ l) (one_page test (suc n) _ refl))
 
 -- the first of two lists
 pub first_of_both : (xs : List ℕ) (last : Option ℕ) → slice_get (xs ++ option_to_list last) 0 ≡ option_or (slice_get xs 0) last
@@ -38,30 +28,30 @@ pub tag_lines-append : (xs ys : List ℕ) → tag_lines (xs ++ ys) ≡ tag_lines
 tag_lines-append xs ys = flat_map-append tag_line xs ys
 
 -- the pages up to a number are the first of those up to a later one
-pub record LaterPages (keys : FileKeys) (main : List ℕ) (passed : Test) (n m : ℕ) : Type 0 where
+pub record LaterPages (test : Test) (n m : ℕ) : Type 0 where
   pub others : List ℕ
-  pub joined : refused_but keys main passed m ≡ refused_but keys main passed n ++ others
+  pub joined : numbers_where test m ≡ numbers_where test n ++ others
 
-pub later_pages : (keys : FileKeys) (main : List ℕ) (passed : Test) (n k : ℕ) → LaterPages keys main passed n (n + k)
-later_pages keys main passed n zero = record { others = []; joined = rw add-zero (sym (append-nil (refused_but keys main passed n))) }
-later_pages keys main passed n (suc k) =
-    let earlier = later_pages keys main passed n k in
-    let more = filter (looked_for keys main passed) (suc (n + k) ∷ []) in
+pub later_pages : (test : Test) (n k : ℕ) → LaterPages test n (n + k)
+later_pages test n zero = record { others = []; joined = rw add-zero (sym (append-nil (numbers_where test n))) }
+later_pages test n (suc k) =
+    let earlier = later_pages test n k in
+    let more = filter (test) (suc (n + k) ∷ []) in
     record {
       others = earlier.others ++ more;
       joined =
-          rw add-suc (filter-append (looked_for keys main passed) (page_numbers (n + k)) (suc (n + k) ∷ []))
-          ∙ ap (λ (l : List ℕ). l ++ more) earlier.joined ∙ append_assoc (refused_but keys main passed n) earlier.others more;
+          rw add-suc (filter-append (test) (page_numbers (n + k)) (suc (n + k) ∷ []))
+          ∙ ap (λ (l : List ℕ). l ++ more) earlier.joined ∙ append_assoc (numbers_where test n) earlier.others more;
     }
 
 -- the lines of one page more
-pub lines_more : (keys : FileKeys) (main : List ℕ) (passed : Test) (n : ℕ) (before : List ℕ)
-    → (before ++ tag_lines (refused_but keys main passed n)) ++ tag_lines (option_to_list (refused_unless keys main passed (n + 1))) ≡ before ++ tag_lines (refused_but keys main passed (n + 1))
-lines_more keys main passed n before =
-    let pages = refused_but keys main passed n in
-    let page = option_to_list (refused_unless keys main passed (n + 1)) in
+pub lines_more : (test : Test) (n : ℕ) (before : List ℕ)
+    → (before ++ tag_lines (numbers_where test n)) ++ tag_lines (option_to_list (number_where test (n + 1))) ≡ before ++ tag_lines (numbers_where test (n + 1))
+lines_more test n before =
+    let pages = numbers_where test n in
+    let page = option_to_list (number_where test (n + 1)) in
     append_assoc before (tag_lines pages) (tag_lines page)
-    ∙ ap (λ (l : List ℕ). before ++ l) (sym (tag_lines-append pages page) ∙ ap tag_lines (sym (more_pages keys main passed n)))
+    ∙ ap (λ (l : List ℕ). before ++ l) (sym (tag_lines-append pages page) ∙ ap tag_lines (sym (more_pages test n)))
 
 -- what was put, and then a part of what follows
 pub part_joined : {text before mid after : List ℕ} (first next later : List ℕ) → text ≡ first ++ (next ++ later) → mid ≡ before ++ first
@@ -77,30 +67,30 @@ part_joined {text} {before} first next later whole put part = record {
 }
 
 -- the lines of the pages up to a number are the first of those up to a later one
-later_lines : (keys : FileKeys) (main : List ℕ) (passed : Test) (n count : ℕ) → n ≤ count
-    → (later : List ℕ) × (tag_lines (refused_but keys main passed count) ≡ tag_lines (refused_but keys main passed n) ++ later)
-later_lines keys main passed n count within =
+later_lines : (test : Test) (n count : ℕ) → n ≤ count
+    → (later : List ℕ) × (tag_lines (numbers_where test count) ≡ tag_lines (numbers_where test n) ++ later)
+later_lines test n count within =
     let there : n + (count - n) ≡ count = omega arith in
-    let more = later_pages keys main passed n (count - n) in (
+    let more = later_pages test n (count - n) in (
       tag_lines more.others,
-      ap (λ (m : ℕ). tag_lines (refused_but keys main passed m)) (sym there) ∙ ap tag_lines more.joined ∙ tag_lines-append (refused_but keys main passed n) more.others,
+      ap (λ (m : ℕ). tag_lines (numbers_where test m)) (sym there) ∙ ap tag_lines more.joined ∙ tag_lines-append (numbers_where test n) more.others,
     )
 
 -- the lines so far are a part of all
-pub part_of_lines : (keys : FileKeys) (main : List ℕ) (passed : Test) (n count : ℕ) → n ≤ count → (before after : List ℕ)
-    → after ≡ before ++ tag_lines (refused_but keys main passed n) → PutsPart (tag_lines (refused_but keys main passed count)) before after
-part_of_lines keys main passed n count within before after put =
-    let later = later_lines keys main passed n count within in
-    record { put = tag_lines (refused_but keys main passed n); rest = later.0; whole = later.1; appended = put }
+pub part_of_lines : (test : Test) (n count : ℕ) → n ≤ count → (before after : List ℕ)
+    → after ≡ before ++ tag_lines (numbers_where test n) → PutsPart (tag_lines (numbers_where test count)) before after
+part_of_lines test n count within before after put =
+    let later = later_lines test n count within in
+    record { put = tag_lines (numbers_where test n); rest = later.0; whole = later.1; appended = put }
 
 -- and so are the lines so far and a part of the next page's
-pub part_of_next : (keys : FileKeys) (main : List ℕ) (passed : Test) (n count : ℕ) → n < count → refused_unless keys main passed (n + 1) ≡ Some (n + 1)
-    → (before mid after : List ℕ) → mid ≡ before ++ tag_lines (refused_but keys main passed n) → PutsPart (tag_lines ((n + 1) ∷ [])) mid after
-    → PutsPart (tag_lines (refused_but keys main passed count)) before after
-part_of_next keys main passed n count within refused before mid after put part =
-    let later = later_lines keys main passed (n + 1) count (omega arith) in
-    let pages = refused_but keys main passed n in
-    let next : tag_lines (refused_but keys main passed (n + 1)) ≡ tag_lines pages ++ tag_lines ((n + 1) ∷ []) =
-    ap tag_lines (more_pages keys main passed n ∙ ap (λ (o : Option ℕ). pages ++ option_to_list o) refused) ∙ tag_lines-append pages ((n + 1) ∷ []) in
+pub part_of_next : (test : Test) (n count : ℕ) → n < count → number_where test (n + 1) ≡ Some (n + 1)
+    → (before mid after : List ℕ) → mid ≡ before ++ tag_lines (numbers_where test n) → PutsPart (tag_lines ((n + 1) ∷ [])) mid after
+    → PutsPart (tag_lines (numbers_where test count)) before after
+part_of_next test n count within refused before mid after put part =
+    let later = later_lines test (n + 1) count (omega arith) in
+    let pages = numbers_where test n in
+    let next : tag_lines (numbers_where test (n + 1)) ≡ tag_lines pages ++ tag_lines ((n + 1) ∷ []) =
+    ap tag_lines (more_pages test n ∙ ap (λ (o : Option ℕ). pages ++ option_to_list o) refused) ∙ tag_lines-append pages ((n + 1) ∷ []) in
     part_joined (tag_lines pages) (tag_lines ((n + 1) ∷ [])) later.0
     (later.1 ∙ ap (λ (l : List ℕ). l ++ later.0) next ∙ append_assoc (tag_lines pages) (tag_lines ((n + 1) ∷ [])) later.0) put part

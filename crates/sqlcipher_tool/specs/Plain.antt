@@ -1,27 +1,28 @@
 -- The plain pages of a file, and what it holds.
-use Rattle.std.specs.Prelude.{◌≡◌, ℕ, ◌==◌, ◌&&◌, nat_le, not, Bool, true, List, [], map, filter, replicate, Some, if◌then◌else◌}
+use Rattle.std.specs.Prelude.{◌≡◌, ℕ, ◌==◌, ◌&&◌, nat_le, not, Bool, true, List, [], map, replicate, Some, if◌then◌else◌}
 use Rattle.std.specs.List.{list_any, range_with_len}
 use Rattle.btree_model.specs.Content.{Content, content}
 use Rattle.btree_model.specs.Finding.{is_sound, leaves}
 use Rattle.btree_model.specs.Freelist.{freelist_walk}
 use Rattle.btree_model.specs.Parts.{is_database}
 use Rattle.cipher_profile.specs.Profile.{usable}
-use Rattle.db_format.specs.Pages.{Pages, nothing}
+use Rattle.db_format.specs.Pages.{Pages, Test, nothing}
 use Rattle.page_codec.specs.Page.{FileKeys, accepts, fits, opened}
 use Rattle.sqlcipher_tool.specs.Database.{count_of, page_stored}
+use Rattle.sqlcipher_tool.specs.Tags.{numbers_where}
 
 -- page n of a file, as it is opened
 abbrev pub page_opened : FileKeys → List ℕ → ℕ → List ℕ
 page_opened keys file n = opened keys n (page_stored keys file n)
 
--- the pages of a file with so many, as the definitions of structure see them
+-- the pages of a file with so many, as the definitions of structure see them; a number out of range has no byte
 abbrev pub opened_pages : FileKeys → List ℕ → ℕ → Pages
 opened_pages keys file count =
     record {
       count = count;
       usable = usable keys.profile;
       page = λ n. if nat_le 1 n && nat_le n count then page_opened keys file n else [];
-      accepts = λ n. accepts keys n (page_stored keys file n);
+      accepts = λ n. nat_le 1 n && nat_le n count && accepts keys n (page_stored keys file n);
     }
 
 -- the leaves of the freelist, none where it has a defect
@@ -45,9 +46,13 @@ with_zeros pages =
 abbrev pub plain_pages : FileKeys → List ℕ → ℕ → List (List ℕ)
 plain_pages keys file count = map (with_zeros (opened_pages keys file count)).page (range_with_len 1 count)
 
--- the pages in use that are not accepted, ascending
+-- the pages that are not accepted, ascending, but those of a test
+abbrev pub refused_but : Pages → Test → List ℕ
+refused_but pages passed = numbers_where (λ n. not (passed n) && not (pages.accepts n)) pages.count
+
+-- those in use
 abbrev pub refused_in_use : Pages → List ℕ
-refused_in_use pages = filter (λ n. not (pages.accepts n) && not (is_leaf pages n)) (range_with_len 1 pages.count)
+refused_in_use pages = refused_but pages (is_leaf pages)
 
 abbrev pub content_of : FileKeys → List ℕ → ℕ → Content
 content_of keys file count = content (with_zeros (opened_pages keys file count))

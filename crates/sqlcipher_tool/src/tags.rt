@@ -31,12 +31,10 @@ use std::alloc::Global;
 // How many pages are read at once.
 const BATCH: usize = 16;
 
-/// What failed while pages were checked.
+// What failed while pages were checked.
 #[derive(Clone, Copy, Debug, PartialEq, Eq)]
-pub enum CheckFault {
-    /// The disk failed.
+enum CheckFault {
     Disk,
-    /// The output failed.
     Output,
 }
 
@@ -207,8 +205,8 @@ fn load_batch<D: Disk>(
     read_main(disk, done as u64 * size as u64, &mut buffer[..count * size])
 }
 
-/// Page n of a file, which is stored so, where it is not accepted, for which it prints a line.
-pub fn check_page<S: Sink>(
+// Page n of a file, which is stored so, where it is not accepted, for which it prints a line.
+fn check_page<S: Sink>(
     out: &mut S,
     codec: &Codec,
     n: u32,

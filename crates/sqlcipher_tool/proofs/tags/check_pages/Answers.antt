@@ -2,9 +2,8 @@ use Rattle.std.proofs.Common.{◌≡◌, ◌+◌, ◌++◌, List, ℕ, IsTrue, O
 use Rattle.std.specs.Prelude.{slice_get, option_to_list}
 use Rattle.std.specs.Option.{option_or}
 use Rattle.cipher_profile.specs.declared.profile.Profile.{Profile}
-use Rattle.db_format.specs.Pages.{nothing}
 use Rattle.sqlcipher_tool.specs.Opening.{main_of}
-use Rattle.sqlcipher_tool.specs.Tags.{IsLoaded, page_refused, refused_page, refused_pages}
+use Rattle.sqlcipher_tool.specs.Tags.{IsLoaded, is_refused, page_refused, refused_page, refused_pages}
 use Rattle.sqlcipher_tool.specs.Text.{tag_lines}
 use Rattle.sqlcipher_tool.proofs.Batches.{slice_of_batch, still_loaded}
 use Rattle.sqlcipher_tool.proofs.RefusedPages.{more_pages, first_of_both, lines_more, part_of_lines, part_of_next}
@@ -13,7 +12,7 @@ use Rattle.sqlcipher_tool.proofs.tags.check_pages.Goals as goal
 pub returns-in-Err-clause-part : goal.returns-in-Err-clause-part
 returns-in-Err-clause-part g c = λ printed told.
     let main = main_of (g.D.Disk.reads c.args.disk.now) in
-    part_of_lines c.args.codec.now main nothing c.loop-done.done c.args.pages (omega arith) (g.S.Sink.taken c.args.out.now) (g.S.Sink.taken c.loop-done.out)
+    part_of_lines (is_refused c.args.codec.now main) c.loop-done.done c.args.pages (omega arith) (g.S.Sink.taken c.args.out.now) (g.S.Sink.taken c.loop-done.out)
     (c.loop-done.invariant.text printed told)
 
 pub returns-in-Err-check_page-clause-part : goal.returns-in-Err-check_page-clause-part
@@ -26,7 +25,7 @@ returns-in-Err-check_page-clause-part g c = λ printed told.
     (main_of (g.D.Disk.reads c.loop-done.disk)) (ap (λ (p : Profile). p.page_size) c.profile.ensures.value) stays (omega arith) (c.in-Ok.ensures.loaded told) in
     let refused : refused_page keys main (n + 1) ≡ Some (n + 1) =
     ap (λ (l : List ℕ). page_refused keys (n + 1) l) (sym stored) ∙ c.in-Err-check_page.ensures.is_refused in
-    part_of_next keys main nothing n c.args.pages (omega arith) refused (g.S.Sink.taken c.args.out.now) (g.S.Sink.taken c.loop-done.out)
+    part_of_next (is_refused keys main) n c.args.pages (omega arith) refused (g.S.Sink.taken c.args.out.now) (g.S.Sink.taken c.loop-done.out)
     (g.S.Sink.taken c.check_page.new.out) (c.loop-done.invariant.text printed told) (c.in-Err-check_page.ensures.part printed)
 
 pub loop-done-preserved : goal.loop-done-preserved
@@ -49,11 +48,11 @@ loop-done-preserved g c =
           ∙ ap (λ (first : Option ℕ). option_or first refused) (c.loop-done.invariant.first told)
           ∙ ap (λ (last : Option ℕ). option_or (slice_get (refused_pages keys main n) 0) last) (found told)
           ∙ sym (first_of_both (refused_pages keys main n) (refused_page keys main (n + 1)))
-          ∙ ap (λ (l : List ℕ). slice_get l 0) (sym (more_pages keys main nothing n));
+          ∙ ap (λ (l : List ℕ). slice_get l 0) (sym (more_pages (is_refused keys main) n));
       text = λ printed told. c.in-Ok-check_page.ensures.text printed
           ∙ ap (λ (l : List ℕ). l ++ tag_lines (option_to_list refused)) (c.loop-done.invariant.text printed told)
           ∙ ap (λ (last : Option ℕ). (g.S.Sink.taken c.args.out.now ++ tag_lines (refused_pages keys main n)) ++ tag_lines (option_to_list last)) (found told)
-          ∙ lines_more keys main nothing n (g.S.Sink.taken c.args.out.now);
+          ∙ lines_more (is_refused keys main) n (g.S.Sink.taken c.args.out.now);
       loaded = λ told within.
           still_loaded size c.args.pages n buffer main within (subst (λ (l : List ℕ). IsLoaded size c.args.pages n buffer l) (stays told) (c.in-Ok.ensures.loaded told));
       only_read = search rules;
