@@ -1,20 +1,20 @@
 -- A walk of the freelist without a defect reads none of the leaves that it meets.
-use Rattle.std.proofs.Common.{◌≡◌, ℕ, zero, suc, ◌-◌, ◌/◌, Bool, true, false, List, [], ◌∷◌, ◌++◌, ◌&&◌, ◌||◌, ◌==◌, if◌then◌else◌, refl, ap, sym, ◌∙◌, append_assoc, append-nil}
+use Rattle.std.proofs.Common.{◌≡◌, ℕ, zero, suc, ◌-◌, ◌/◌, Bool, true, false, List, [], ◌∷◌, ◌++◌, ◌&&◌, ◌||◌, ◌==◌, if◌then◌else◌, refl, ap, sym, ◌∙◌, append_assoc}
 use Rattle.std.proofs.lemmas.Bool.{eqb-true, eq-eqb}
 use Rattle.std.proofs.Math.Bool.{or_comm}
 use Rattle.db_format.specs.Bytes.{u32_at}
 use Rattle.std.specs.Prelude.{nat_le}
 use Rattle.std.specs.List.{list_any, list_all}
 use Rattle.std.proofs.lemmas.List.Folds.{list_any-append}
-use Rattle.db_format.specs.declared.defect.Defect.TheVariants.{PageTwice, TrunkFault, FreeCount}
+use Rattle.db_format.specs.declared.defect.Defect.TheVariants.{PageTwice}
 use Rattle.db_format.specs.Pages.{Pages, Test}
 use Rattle.btree_model.specs.Finding.{Finding, place, leaf, entry, key, fault, refused, places, leaves, is_sound}
-use Rattle.btree_model.specs.Freelist.{first_trunk, free_field, freelist_walk, leaf_numbers, leaves_of, lists_of, next_trunk, is_trunk, trunk_found, trunks, visit_trunk}
+use Rattle.btree_model.specs.Freelist.{leaf_numbers, leaves_of, next_trunk, is_trunk, trunk_found, trunks, visit_trunk}
 use Rattle.btree_model.specs.Range.{is_in_range}
 use Rattle.btree_model.specs.Walk.{is_met}
 use Rattle.btree_model.proofs.FindingLemmas.{places-append}
 use Rattle.btree_model.proofs.UnmarkedLemmas.{or_left, or_right, sound_left, sound_right}
-use Rattle.btree_model.proofs.UnreadLemmas.{IsAlike, AreAlikeBut, same_range}
+use Rattle.btree_model.proofs.UnreadLemmas.{IsAlike, AreAlikeBut}
 
 pub leaves-append : (xs ys : List Finding) → leaves (xs ++ ys) ≡ leaves xs ++ leaves ys
 leaves-append [] ys = refl
@@ -35,11 +35,11 @@ in_both xs ys k = list_any-append (λ m. m == k) xs ys
 in_places : (xs ys : List Finding) (k : ℕ) → is_in (places (xs ++ ys)) k ≡ (is_in (places xs) k || is_in (places ys) k)
 in_places xs ys k = ap (λ l. is_in l k) (places-append xs ys) ∙ in_both (places xs) (places ys) k
 
-in_leaves : (xs ys : List Finding) (k : ℕ) → is_in (leaves (xs ++ ys)) k ≡ (is_in (leaves xs) k || is_in (leaves ys) k)
+pub in_leaves : (xs ys : List Finding) (k : ℕ) → is_in (leaves (xs ++ ys)) k ≡ (is_in (leaves xs) k || is_in (leaves ys) k)
 in_leaves xs ys k = ap (λ l. is_in l k) (leaves-append xs ys) ∙ in_both (leaves xs) (leaves ys) k
 
 -- a page with no place is no leaf
-no_leaf : (xs : List Finding) (k : ℕ) → is_in (places xs) k ≡ false → is_in (leaves xs) k ≡ false
+pub no_leaf : (xs : List Finding) (k : ℕ) → is_in (places xs) k ≡ false → is_in (leaves xs) k ≡ false
 no_leaf [] k h = refl
 no_leaf (key x ∷ xs) k h = no_leaf xs k h
 no_leaf (place n ∷ xs) k h = no_leaf xs k (or_right _ _ h)
@@ -173,7 +173,7 @@ module _ (taken : Test) (old new : Pages) (all : List Finding) (sound : is_sound
   if_same fuel n met true one other whole p = refl
   if_same fuel n met false one other whole p = p whole
 
-  trunks_same : (fuel : ℕ) → IsSameBehind fuel
+  pub trunks_same : (fuel : ℕ) → IsSameBehind fuel
   trunks_same zero n met whole = refl
   trunks_same (suc fuel) n met whole =
       if_same fuel n met (n == 0) _ _ whole

@@ -3,6 +3,9 @@ pub mod RestLemmas
 pub mod UnmarkedLemmas
 pub mod UnreadLemmas
 pub mod LeafLemmas
+pub mod AcceptedLemmas
+pub mod WholeLemmas
+pub mod PlainLemmas
 pub mod KeptLemmas
 pub mod ProperLemmas
 pub mod ContextLemmas

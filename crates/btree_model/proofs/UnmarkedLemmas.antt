@@ -29,11 +29,11 @@ met_both extra taken met n =
     ∙ ap (λ b. b || taken n) (or_comm (list_any (λ m. m == n) (places met)) (extra n))
     ∙ or_assoc (extra n) (list_any (λ m. m == n) (places met)) (taken n)
 
-and_left : (a b : Bool) → (a && b) ≡ true → a ≡ true
+pub and_left : (a b : Bool) → (a && b) ≡ true → a ≡ true
 and_left true b h = refl
 and_left false b h = h
 
-and_right : (a b : Bool) → (a && b) ≡ true → b ≡ true
+pub and_right : (a b : Bool) → (a && b) ≡ true → b ≡ true
 and_right true b h = h
 and_right false b h = cc
 

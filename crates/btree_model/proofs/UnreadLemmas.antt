@@ -1,5 +1,5 @@
 -- A walk reads no page that has a place in an earlier part.
-use Rattle.std.proofs.Common.{◌≡◌, ℕ, zero, suc, ℤ, Bool, true, false, List, [], ◌∷◌, ◌++◌, ◌==◌, ◌||◌, drop, take, Option, Result, Ok, Err, if◌then◌else◌, refl, ap, sym, subst, ◌∙◌}
+use Rattle.std.proofs.Common.{◌≡◌, ℕ, zero, suc, ℤ, Bool, true, false, List, [], ◌∷◌, ◌++◌, ◌==◌, drop, take, Option, Result, Ok, Err, if◌then◌else◌, refl, ap, ◌∙◌}
 use Rattle.std.specs.Prelude.{◌&&◌, nat_le}
 use Rattle.std.proofs.Math.Dec.{eqb-suc-zero}
 use Rattle.btree_page.specs.declared.kind.Family.{Family}
@@ -10,7 +10,7 @@ use Rattle.btree_page.specs.Page.{Node, read_node}
 use Rattle.btree_page.specs.declared.page.PageFault.{PageFault}
 use Rattle.db_format.specs.Pages.{Pages, Test}
 use Rattle.btree_model.specs.Range.{is_in_range}
-use Rattle.btree_model.specs.Finding.{Finding, place, entry, fault, places, is_sound}
+use Rattle.btree_model.specs.Finding.{Finding, place, entry, fault, is_sound}
 use Rattle.btree_page.specs.Step.{Step, child, divider, entry as cell, steps}
 use Rattle.btree_model.specs.Walk.{is_met, step, steps_of, walk, visit, inside, chain, link, chain_of, given, chain_bytes, payload_of, links_needed, order_faults, Below}
 use Rattle.btree_model.proofs.UnmarkedLemmas.{or_right}

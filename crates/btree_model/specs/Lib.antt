@@ -8,3 +8,4 @@ pub mod Records
 pub mod Schema
 pub mod Parts
 pub mod Content
+pub mod Plain
