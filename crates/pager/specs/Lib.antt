@@ -1,5 +1,6 @@
 pub mod File
 pub mod Opening
+pub mod Database
 pub mod Pages
 pub mod Held
 pub mod Causes

@@ -1,23 +1,23 @@
 -- A command that reads the recovered file.
-use Rattle.std.proofs.Common.{◌≡◌, ◌⊎◌, ⊎_elim, ◌≤◌, ℕ, Bool, true, false, List, [], ◌∷◌, Option, Some, None, Result, Ok, Err, unwrap_or, if◌then◌else◌, sym, ap, ◌∙◌, subst}
-use Rattle.edge_model.specs.Files.{Files}
+use Rattle.std.proofs.Common.{◌≡◌, ◌⊎◌, ⊎_elim, ◌≤◌, ◌<◌, ℕ, List, [], ◌∷◌, length, Option, Some, None, Result, Ok, Err, sym, ap, ◌∙◌, subst, arith}
+use Rattle.edge_model.specs.Files.{Files, bytes_of}
 use Rattle.edge_model.specs.Images.{From, LeavesOnly}
 use Rattle.edge_model.specs.Moments.{goes_less}
 use Rattle.edge_model.specs.OnlyRead.{OnlyRead}
 use Rattle.cipher_profile.specs.declared.keys.Secret.{Secret}
 use Rattle.cipher_profile.specs.declared.profile.Profile.{Profile}
-use Rattle.db_format.specs.Count.{count_of_pages}
-use Rattle.db_format.specs.declared.count.CountRefusal.{CountRefusal}
-use Rattle.db_format.specs.declared.count.CountRefusal.TheVariants.{Ragged, TooLarge, Short}
-use Rattle.db_format.specs.declared.header.Header.{Header}
-use Rattle.db_format.specs.declared.header.HeaderRefusal.{HeaderRefusal}
-use Rattle.db_format.specs.declared.header.HeaderRefusal.TheVariants.{HeaderFault, WalMode, AutoVacuum}
+use Rattle.pager.specs.Opening.{Opened}
+use Rattle.pager.specs.declared.opening.OpenError.{OpenError}
+use Rattle.pager.specs.declared.opening.OpenError.TheVariants.{Empty, Short, KeyRefused as NoKey, HeaderFault, WalMode, AutoVacuum, Ragged, TooLarge, DiskFault as DiskFails, OutOfMemory as MemoryEnds}
 use Rattle.rollback_journal.specs.declared.recovery.Recovery.{Recovery}
 use Rattle.rollback_journal.specs.declared.recovery.RecoverError.{RecoverError}
-use Rattle.sqlcipher_tool.specs.Answer.{Answer, Cause, IsAnswered, IsFault, first_of}
+use Rattle.rollback_journal.specs.Recovery.{IsDone, recovered}
+use Rattle.pager.specs.File.{main_of}
+use Rattle.sqlcipher_tool.specs.Answer.{Answer, IsAnswered, IsFault}
 use Rattle.sqlcipher_tool.specs.declared.status.Status.{Status}
 use Rattle.sqlcipher_tool.specs.declared.status.Status.TheVariants.{Done, Usage, Refused, KeyRefused, DiskFault, OutputFault, InputFault, EntropyFault, OutOfMemory}
-use Rattle.sqlcipher_tool.specs.Header.{counted_answer, file_header, header_answer, header_causes, read_answer}
+use Rattle.sqlcipher_tool.specs.Header.{header_answer, opened_answer}
+use Rattle.sqlcipher_tool.specs.Opening.{opened_with}
 use Rattle.sqlcipher_tool.specs.Promises.{IsUnrecovered}
 use Rattle.sqlcipher_tool.specs.Recovered.{after_recovery, recovered_answer, recovered_main, recovery_of}
 
@@ -36,39 +36,24 @@ read_after counts_now run read = goes_less counts_now run read.time (λ c now. r
 
 -- ---- a refusal of the recovery comes of no file
 
--- each answer of the causes has this
-abbrev AllAnswers : (Answer → Type 0) → List Cause → Type 0
-AllAnswers P [] = Unit {0}
-AllAnswers P (cause ∷ causes) = P cause.answer × AllAnswers P causes
-
-pick : (P : Answer → Type 0) (holds : Bool) (answer otherwise : Answer) (rest : Option Answer)
-    → P answer → P (unwrap_or rest otherwise) → P (unwrap_or (if holds then Some answer else rest) otherwise)
-pick P true answer otherwise rest first later = first
-pick P false answer otherwise rest first later = later
-
-of_first : (P : Answer → Type 0) (causes : List Cause) (otherwise : Answer) → AllAnswers P causes → P otherwise → P (unwrap_or (first_of causes) otherwise)
-of_first P [] otherwise all other = other
-of_first P (cause ∷ causes) otherwise all other =
-    pick P cause.holds cause.answer otherwise (first_of causes) all.0 (of_first P causes otherwise all.1 other)
-
 abbrev IsOfFile : Answer → Type 0
 IsOfFile answer = IsUnrecovered answer.status → ⊥
 
-counted_of_file : (header : Header) (counted : Result ℕ CountRefusal) → IsOfFile (counted_answer header counted)
-counted_of_file header (Ok pages) is = is
-counted_of_file header (Err (Ragged len)) is = is
-counted_of_file header (Err (TooLarge pages)) is = is
-counted_of_file header (Err (Short len)) is = is
-
-read_of_file : (len : ℕ) (header : Result Header HeaderRefusal) → IsOfFile (read_answer len header)
-read_of_file len (Ok header) is = counted_of_file header (count_of_pages header len) is
-read_of_file len (Err (HeaderFault offset found)) is = is
-read_of_file len (Err WalMode) is = is
-read_of_file len (Err AutoVacuum) is = is
+opened_of_file : (opened : Result Opened OpenError) → IsOfFile (opened_answer opened)
+opened_of_file (Ok opened) is = is
+opened_of_file (Err Empty) is = is
+opened_of_file (Err (Short len)) is = is
+opened_of_file (Err NoKey) is = is
+opened_of_file (Err (HeaderFault offset found)) is = is
+opened_of_file (Err WalMode) is = is
+opened_of_file (Err AutoVacuum) is = is
+opened_of_file (Err (Ragged len)) is = is
+opened_of_file (Err (TooLarge pages)) is = is
+opened_of_file (Err DiskFails) is = is
+opened_of_file (Err MemoryEnds) is = is
 
 header_of_file : (profile : Profile) (secret : Secret) (file : List ℕ) → IsOfFile (header_answer profile secret file)
-header_of_file profile secret file =
-    of_first IsOfFile (header_causes profile secret file) _ ((λ is. is), ((λ is. is), ((λ is. is), tt))) (read_of_file _ (file_header profile secret file))
+header_of_file profile secret file = opened_of_file (opened_with profile secret file)
 
 fault_of_file : (status : Status) → IsFault status → IsUnrecovered status → ⊥
 fault_of_file Done fault is = fault
@@ -86,3 +71,20 @@ pub header_recovered : (profile : Profile) (secret : Secret) (file : List ℕ) (
 header_recovered profile secret file status answered is =
     ⊎_elim (λ (same : status ≡ (header_answer profile secret file).status). header_of_file profile secret file (subst IsUnrecovered same is))
     (λ (fault : IsFault status). fault_of_file status fault is) answered
+
+-- ---- what a recovery leaves beside Main
+
+byte_before : (size : ℕ) (main : List ℕ) (journal : Option (List ℕ)) → 0 < length (recovered size main journal) → 0 < length main
+byte_before size [] None byte = byte
+byte_before size [] (Some journal) byte = byte
+byte_before size (x ∷ xs) journal byte = omega arith
+
+-- Main had a byte, where the recovered file has one
+pub had_byte : (profile : Profile) (files : Files) (main : List ℕ) → main ≡ recovered_main profile files → 0 < length main → 0 < length (main_of files)
+had_byte profile files main is byte =
+    byte_before profile.page_size (main_of files) (bytes_of files.journal) (subst (λ (l : List ℕ). 0 < length l) is byte)
+
+-- and then no journal is left
+pub journal_gone : (size : ℕ) (main journal : Option (List ℕ)) (image : Files) → IsDone size main journal image → image.journal ≡ None
+journal_gone size None journal image done = absurd done
+journal_gone size (Some main) journal image done = done.1

@@ -9,7 +9,7 @@ use Rattle.sqlcipher_tool.specs.declared.command.Command.TheVariants.{Tags, Head
 use Rattle.sqlcipher_tool.specs.declared.status.Status.{Status}
 use Rattle.sqlcipher_tool.specs.declared.status.Status.TheVariants.{Done}
 use Rattle.sqlcipher_tool.specs.Holding.{Held, HoldsOneOf, AreOfSize, DiskRun}
-use Rattle.sqlcipher_tool.specs.Opening.{main_of}
+use Rattle.pager.specs.File.{main_of}
 
 -- Recovery, and the commands that only read after it.
 pub record KeepsHeld (size : ℕ) (run : DiskRun) : Type 0 where

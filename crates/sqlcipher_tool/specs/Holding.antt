@@ -3,7 +3,7 @@ use Rattle.std.specs.Prelude.{◌≡◌, ◌⊎◌, ℕ, List, [], ◌∷◌}
 use Rattle.edge_model.specs.Files.{Files}
 use Rattle.page_codec.specs.Page.{FileKeys}
 use Rattle.rollback_journal.specs.Recovery.{Recovers}
-use Rattle.sqlcipher_tool.specs.Database.{Stored, database}
+use Rattle.pager.specs.Database.{Stored, database}
 
 -- a database, and the keys under which it is one
 pub record Held : Type 0 where

@@ -1,6 +1,5 @@
 pub mod Answer
 pub mod Crash
-pub mod Database
 pub mod Plain
 pub mod Due
 pub mod Header

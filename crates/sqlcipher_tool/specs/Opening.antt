@@ -1,31 +1,53 @@
 -- What stands in the way of opening a file, in the order in which it is looked at.
-use Rattle.std.specs.Prelude.{ℕ, ◌*◌, ◌/◌, ◌==◌, not, List, [], ◌∷◌, length, nat_lt, unwrap_or}
-use Rattle.edge_model.specs.Files.{Files, bytes_of}
+use Rattle.std.specs.Prelude.{ℕ, ◌*◌, ◌<◌, List, [], ◌∷◌, length, map, nat_lt, Option, Some, None, Result, Ok, Err}
+use Rattle.edge_model.specs.Files.{Files}
+use Rattle.edge_model.specs.Images.{Each}
 use Rattle.cipher_profile.specs.declared.keys.Secret.{Secret}
 use Rattle.cipher_profile.specs.declared.profile.Profile.{Profile}
 use Rattle.db_format.specs.Count.{largest_database}
-use Rattle.page_codec.specs.Page.{keys_of, stored_page, fits}
-use Rattle.sqlcipher_tool.specs.Answer.{Cause, refused, key_refused}
-use Rattle.sqlcipher_tool.specs.declared.status.Refusal.TheVariants.{Empty, Short, TooLarge}
+use Rattle.db_format.specs.Rules.{Rule}
+use Rattle.page_codec.specs.Page.{keys_of}
+use Rattle.pager.specs.File.{main_of, whole_pages}
+use Rattle.pager.specs.Opening.{HasNoJournal, Opened, file_opened, key_rules, length_rules}
+use Rattle.pager.specs.declared.opening.OpenError.{OpenError}
+use Rattle.pager.specs.declared.opening.OpenError.TheVariants.{Empty as IsEmpty, Short as IsShort, KeyRefused as NoKey, HeaderFault as AtFault, WalMode as IsWal, AutoVacuum as IsVacuum, Ragged as IsRagged, TooLarge as IsLarge, DiskFault as DiskFails, OutOfMemory as MemoryEnds}
+use Rattle.sqlcipher_tool.specs.Answer.{Answer, Cause, refused, key_refused}
+use Rattle.sqlcipher_tool.specs.declared.status.Refusal.TheVariants.{Empty, Short, HeaderFault, WalMode, AutoVacuum, Ragged, TooLarge}
+use Rattle.sqlcipher_tool.specs.declared.status.Status.TheVariants.{DiskFault, OutOfMemory}
 
--- the bytes of Main, none where it is absent
-abbrev pub main_of : Files → List ℕ
-main_of files = unwrap_or (bytes_of files.main) []
+-- the answer to a file that does not open; the last two are never due to a file
+abbrev pub open_answer : OpenError → Answer
+open_answer IsEmpty = refused Empty
+open_answer (IsShort len) = refused (Short len)
+open_answer NoKey = key_refused
+open_answer (AtFault offset found) = refused (HeaderFault offset found)
+open_answer IsWal = refused WalMode
+open_answer IsVacuum = refused AutoVacuum
+open_answer (IsRagged len) = refused (Ragged len)
+open_answer (IsLarge pages) = refused (TooLarge pages)
+open_answer DiskFails = record { status = DiskFault; text = []; begun = [] }
+open_answer MemoryEnds = record { status = OutOfMemory; text = []; begun = [] }
 
--- how many whole pages a file has by its length
-abbrev pub whole_pages : Profile → List ℕ → ℕ
-whole_pages profile file = length file / profile.page_size
+-- what opening Main with this secret comes to
+abbrev pub opened_with : Profile → Secret → List ℕ → Result Opened OpenError
+opened_with profile secret file = file_opened (keys_of profile secret file) file
 
--- page 1 of a file, as it is stored
-abbrev pub first_page : Profile → List ℕ → List ℕ
-first_page profile file = stored_page profile.page_size 1 file
+-- the answer where it does not open, none where it does
+abbrev pub unopened_answer : Result Opened OpenError → Option Answer
+unopened_answer (Ok opened) = None
+unopened_answer (Err error) = Some (open_answer error)
+
+-- no image has a journal beside a Main with a byte
+abbrev pub AreRecovered : Files → (Files → Type 0) → Type 0
+AreRecovered files images = 0 < length (main_of files) → Each images HasNoJournal
+
+-- a broken rule as a cause
+abbrev pub causes_of : List (Rule OpenError) → List Cause
+causes_of rules = map (λ rule. record { holds = rule.0; answer = open_answer rule.1 }) rules
 
 -- a file that is absent or empty, or shorter than a page
 abbrev pub length_causes : Profile → List ℕ → List Cause
-length_causes profile file =
-    record { holds = length file == 0; answer = refused Empty }
-    ∷ record { holds = nat_lt (length file) profile.page_size; answer = refused (Short (length file)) }
-    ∷ []
+length_causes profile file = causes_of (length_rules profile.page_size file)
 
 -- more whole pages than are served
 abbrev pub size_causes : Profile → List ℕ → List Cause
@@ -35,5 +57,4 @@ size_causes profile file =
 
 -- a key that does not fit
 abbrev pub key_causes : Profile → Secret → List ℕ → List Cause
-key_causes profile secret file =
-    record { holds = not (fits (keys_of profile secret file) (first_page profile file)); answer = key_refused } ∷ []
+key_causes profile secret file = causes_of (key_rules (keys_of profile secret file) file)

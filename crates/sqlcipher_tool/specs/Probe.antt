@@ -7,7 +7,7 @@ use Rattle.cipher_profile.specs.Profile.{sqlcipher_1, sqlcipher_2, sqlcipher_3, 
 use Rattle.page_codec.specs.Page.{fits, keys_of}
 use Rattle.sqlcipher_tool.specs.Answer.{Answer, Cause, first_of, done, refused, key_refused}
 use Rattle.sqlcipher_tool.specs.declared.status.Refusal.TheVariants.{JournalThere, Empty}
-use Rattle.sqlcipher_tool.specs.Opening.{main_of, first_page}
+use Rattle.pager.specs.File.{main_of, first_page}
 use Rattle.sqlcipher_tool.specs.Text.{probe_report}
 
 -- the profiles in the order in which they are tried

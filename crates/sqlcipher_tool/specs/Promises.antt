@@ -92,7 +92,7 @@ IsUnrecovered InputFault = ⊥
 IsUnrecovered EntropyFault = ⊥
 IsUnrecovered OutOfMemory = ⊥
 
--- memory runs out only in a recovery, which comes after the words and the key lines
+-- memory runs out only in a command that recovers, then or while the file is opened, which comes after the words and the key lines
 pub record ComesLate (words : List (List ℕ)) (tells : Bool) (left : List ℕ) : Type 0 where
   pub command : Command
   pub is_form : form words ≡ Some command

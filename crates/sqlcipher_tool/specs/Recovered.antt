@@ -9,7 +9,7 @@ use Rattle.rollback_journal.specs.Recovery.{recovered, answer_to}
 use Rattle.sqlcipher_tool.specs.Answer.{Answer, done, refused}
 use Rattle.sqlcipher_tool.specs.declared.status.Refusal.TheVariants.{JournalPageSize, SuperJournal}
 use Rattle.sqlcipher_tool.specs.declared.status.Status.TheVariants.{DiskFault, OutOfMemory}
-use Rattle.sqlcipher_tool.specs.Opening.{main_of}
+use Rattle.pager.specs.File.{main_of}
 use Rattle.sqlcipher_tool.specs.Text.{recovery_line}
 
 -- Main with the images of a hot journal laid, where bytes that no image gives are zeros

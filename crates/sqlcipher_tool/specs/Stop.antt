@@ -1,6 +1,9 @@
 -- What a command comes to, as an answer.
 use Rattle.std.specs.Prelude.{◌≡◌, ◌⊎◌, false, ℕ, List, Option, Some, None, Result, Ok, Err}
 use Rattle.sqlcipher_tool.specs.Answer.{Answer, done, refused, key_refused, is_early}
+use Rattle.pager.specs.declared.opening.OpenError.{OpenError}
+use Rattle.pager.specs.declared.opening.OpenError.TheVariants.{Empty as IsEmpty, Short as IsShort, KeyRefused as NoKey, HeaderFault as AtFault, WalMode as IsWal, AutoVacuum as IsVacuum, Ragged as IsRagged, TooLarge as IsLarge, DiskFault as DiskFails, OutOfMemory as MemoryEnds}
+use Rattle.sqlcipher_tool.specs.declared.status.Refusal.TheVariants.{Empty, Short, HeaderFault, WalMode, AutoVacuum, Ragged, TooLarge}
 use Rattle.sqlcipher_tool.specs.declared.opening.Stop.{Stop}
 use Rattle.sqlcipher_tool.specs.declared.opening.Stop.TheVariants.{Refused as StopRefused, KeyRefused as StopKey, DiskFault as StopDisk, OutOfMemory as StopMemory}
 
@@ -10,6 +13,19 @@ stop_answer (StopRefused refusal) = Some (refused refusal)
 stop_answer StopKey = Some key_refused
 stop_answer StopDisk = None
 stop_answer StopMemory = None
+
+-- how a command stops whose file does not open
+abbrev pub stop_of : OpenError → Stop
+stop_of IsEmpty = StopRefused Empty
+stop_of (IsShort len) = StopRefused (Short len)
+stop_of NoKey = StopKey
+stop_of (AtFault offset found) = StopRefused (HeaderFault offset found)
+stop_of IsWal = StopRefused WalMode
+stop_of IsVacuum = StopRefused AutoVacuum
+stop_of (IsRagged len) = StopRefused (Ragged len)
+stop_of (IsLarge pages) = StopRefused (TooLarge pages)
+stop_of DiskFails = StopDisk
+stop_of MemoryEnds = StopMemory
 
 -- it is none that the words or the key line alone decide
 abbrev pub IsLate : Stop → Type 0

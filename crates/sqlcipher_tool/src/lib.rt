@@ -4,7 +4,6 @@
 mod command;
 mod conclusion;
 mod header;
-mod main_file;
 mod opening;
 mod probe;
 mod recovery;

@@ -1,19 +1,24 @@
 // A file is opened for its secret: nothing stands in the way, and the key fits.
-ghost use Rattle.std.specs.Prelude.{◌≡◌, ◌⊎◌, ◌+◌, ◌*◌, ◌/◌, ◌≤◌, ◌<◌, ℕ, List, length, true, None, Some, IfOk, OnOk, IfErr, IsTrue};
-ghost use Rattle.edge_model.specs.Causes.{HasCause, Rose};
+ghost use Rattle.std.specs.Prelude.{◌≡◌, ◌⊎◌, ◌≤◌, length, None, Ok, IfOk, OnOk, IfErr, IsTrue};
+ghost use Rattle.edge_model.specs.Causes.{Rose};
 ghost use Rattle.edge_model.specs.OnlyRead.{OnlyRead};
 ghost use Rattle.cipher_profile.specs.Profile.{IsListed};
-ghost use Rattle.page_codec.specs.Page.{fits, keys_of};
+ghost use Rattle.page_codec.specs.Page.{keys_of};
+ghost use Rattle.pager.specs.File.{main_of};
 ghost use Rattle.sqlcipher_tool.specs.Answer.{first_of};
-ghost use Rattle.sqlcipher_tool.specs.Opening.{main_of, first_page, length_causes, key_causes};
-ghost use Rattle.sqlcipher_tool.specs.Stop.{stop_answer, IsLate};
+ghost use Rattle.sqlcipher_tool.specs.Opening.{length_causes, key_causes, opened_with, unopened_answer, AreRecovered};
+ghost use Rattle.sqlcipher_tool.specs.Stop.{stop_answer, IsLate, IsOutside};
 ghost use Rattle.sqlcipher_tool.specs.declared.opening.Stop.TheVariants.{DiskFault};
 
-use crate::main_file::{MAX_PAGE, file_length, read_page};
 use crate::status::Refusal;
 use cipher_profile::{Profile, Secret};
-use edge_model::{Disk, Failed, Role};
+use edge_model::{Disk, Failed};
 use page_codec::Codec;
+use pager::{OpenError, OpenedFile, codec_of};
+use std::alloc::Global;
+
+/// How many pages are held at once.
+const FRAMES: u32 = 64;
 
 /// Why a command has no report.
 #[derive(Clone, Copy, Debug, PartialEq, Eq)]
@@ -36,6 +41,56 @@ impl From<Failed> for Stop {
     }
 }
 
+impl From<OpenError> for Stop {
+    ghost use Rattle.sqlcipher_tool.specs.Stop.{stop_of};
+
+    ghost from_gives = { λ error stop. stop ≡ stop_of error };
+
+    fn from(error: OpenError) -> Stop {
+        match error {
+            OpenError::Empty => Stop::Refused(Refusal::Empty),
+            OpenError::Short { length } => Stop::Refused(Refusal::Short { length }),
+            OpenError::KeyRefused => Stop::KeyRefused,
+            OpenError::HeaderFault { offset, found } => {
+                Stop::Refused(Refusal::HeaderFault { offset, found })
+            }
+            OpenError::WalMode => Stop::Refused(Refusal::WalMode),
+            OpenError::AutoVacuum => Stop::Refused(Refusal::AutoVacuum),
+            OpenError::Ragged { length } => Stop::Refused(Refusal::Ragged { length }),
+            OpenError::TooLarge { pages } => Stop::Refused(Refusal::TooLarge { pages }),
+            OpenError::DiskFault => Stop::DiskFault,
+            OpenError::OutOfMemory => Stop::OutOfMemory,
+        }
+    }
+}
+
+/// Opens Main with this secret.
+pub fn open_main<D: Disk>(
+    alloc: Global,
+    disk: &mut D,
+    profile: Profile,
+    secret: &Secret,
+) -> Result<OpenedFile, Stop>
+    requires listed { IsListed profile }
+    requires recovered { IsTrue D.tells → AreRecovered (D.reads disk.old) (D.images disk.old) }
+    ensures opens { IfOk result (λ file. IsTrue D.tells
+        → opened_with profile secret.now (main_of (D.reads disk.old)) ≡ Ok (record { header = file.header; count = file.count })) }
+    ensures codec { IfOk result (λ file. IsTrue D.tells → file.codec ≡ keys_of profile secret.now (main_of (D.reads disk.old))) }
+    ensures stop { IfErr result (λ stop. IsTrue D.tells
+        → IsOutside stop ⊎ (stop_answer stop ≡ unopened_answer (opened_with profile secret.now (main_of (D.reads disk.old))))) }
+    ensures late { IfErr result IsLate }
+    ensures cause { IfErr result (λ stop. stop ≡ Stop.DiskFault → Rose (D.faults disk.old) (D.faults disk.new)) }
+    ensures later { D.faults disk.old ≤ D.faults disk.new }
+    ensures only_read { IsTrue D.tells → OnlyRead D.reads D.images D.moment D.since disk.old disk.new }
+{
+    pager::served_length(disk, &profile)?;
+    let (codec, _fits) = codec_of(disk, profile, secret)?;
+    match OpenedFile::read(alloc, disk, codec, FRAMES) {
+        Ok(file) => Ok(file),
+        Err(error) => Err(Stop::from(error)),
+    }
+}
+
 /// The length of Main, where it has a page.
 pub fn served_length<D: Disk>(disk: &mut D, profile: Profile) -> Result<u64, Stop>
     requires { IsListed profile }
@@ -49,13 +104,7 @@ pub fn served_length<D: Disk>(disk: &mut D, profile: Profile) -> Result<u64, Sto
     ensures later { D.faults disk.old ≤ D.faults disk.new }
     ensures only_read { IsTrue D.tells → OnlyRead D.reads D.images D.moment D.since disk.old disk.new }
 {
-    let length = file_length(disk, Role::Main)?.unwrap_or(0);
-    if length == 0 {
-        return Err(Stop::Refused(Refusal::Empty));
-    }
-    if length < u64::from(profile.page_size) {
-        return Err(Stop::Refused(Refusal::Short { length }));
-    }
+    let length = pager::served_length(disk, &profile)?;
     Ok(length)
 }
 
@@ -82,26 +131,4 @@ pub fn fitting_codec<D: Disk>(
         return Err(Stop::KeyRefused);
     }
     Ok(codec)
-}
-
-/// The codec that the secret gives for Main, and whether its key fits.
-pub fn codec_of<D: Disk>(
-    disk: &mut D,
-    profile: Profile,
-    secret: &Secret,
-) -> Result<(Codec, bool), Failed>
-    requires listed { IsListed profile }
-    requires some { IsTrue D.tells → profile.page_size ≤ length (main_of (D.reads disk.old)) }
-    ensures codec { IfOk result (λ codec. IsTrue D.tells → codec.0 ≡ keys_of profile secret.now (main_of (D.reads disk.old))) }
-    ensures profile { IfOk result (λ codec. codec.0.profile ≡ profile) }
-    ensures fits { IfOk result (λ codec. IsTrue D.tells → codec.1 ≡ fits (keys_of profile secret.now (main_of (D.reads disk.old))) (first_page profile (main_of (D.reads disk.old)))) }
-    ensures cause { HasCause (D.faults disk.old) (D.faults disk.new) result }
-    ensures only_read { IsTrue D.tells → OnlyRead D.reads D.images D.moment D.since disk.old disk.new }
-{
-    let mut buffer = [0u8; MAX_PAGE];
-    let page = &mut buffer[..profile.page_size as usize];
-    read_page(disk, 1, page)?;
-    let codec = Codec::of_file(profile, secret, page);
-    let fits = codec.key_fits(page);
-    Ok((codec, fits))
 }

@@ -4,17 +4,17 @@ ghost use Rattle.edge_model.specs.Causes.{HasCause, Rose};
 ghost use Rattle.edge_model.specs.OnlyRead.{OnlyRead};
 ghost use Rattle.cipher_profile.specs.Profile.{IsListed};
 ghost use Rattle.sqlcipher_tool.specs.Answer.{first_of, Puts, PutsLine, IsAnswered, HasCauses};
-ghost use Rattle.sqlcipher_tool.specs.Opening.{main_of};
+ghost use Rattle.pager.specs.File.{main_of};
 ghost use Rattle.sqlcipher_tool.specs.Probe.{is_fitting, probed_profiles, probe_causes, probe_answer};
 ghost use Rattle.sqlcipher_tool.specs.Stop.{stop_answer, outcome_answer, IsLate};
 
 use crate::conclusion::conclude_outcome;
-use crate::main_file::file_length;
-use crate::opening::{Stop, codec_of};
+use crate::opening::Stop;
 use crate::status::{Refusal, Status};
 use crate::text::{Text, probe_report};
 use cipher_profile::{PROFILES, Profile, Secret};
 use edge_model::{Disk, Failed, Role, Sink};
+use pager::{codec_of, file_length};
 
 /// `probe` with this secret.
 pub fn probe<S: Sink, D: Disk>(secret: &Secret, out: &mut S, disk: &mut D) -> Status

@@ -6,7 +6,7 @@ ghost use Rattle.edge_model.specs.Images.{Each, From, LeavesOnly};
 ghost use Rattle.cipher_profile.specs.Profile.{IsListed};
 ghost use Rattle.rollback_journal.specs.Recovery.{IsDone, Keeps};
 ghost use Rattle.sqlcipher_tool.specs.Answer.{IsAnswered, HasCauses, Puts, PutsLine};
-ghost use Rattle.sqlcipher_tool.specs.Opening.{main_of};
+ghost use Rattle.pager.specs.File.{main_of};
 ghost use Rattle.sqlcipher_tool.specs.Promises.{IsUnrecovered};
 ghost use Rattle.sqlcipher_tool.specs.Recovered.{recovered_main, recovery_answer, recovery_of, refused_answer};
 ghost use Rattle.sqlcipher_tool.specs.Stop.{stop_answer, outcome_answer, IsLate, IsOutside};

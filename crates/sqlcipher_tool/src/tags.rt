@@ -8,7 +8,7 @@ ghost use Rattle.db_format.specs.Count.{largest_database};
 ghost use Rattle.page_codec.specs.Page.{keys_of};
 ghost use Rattle.rollback_journal.specs.Recovery.{Keeps};
 ghost use Rattle.sqlcipher_tool.specs.Answer.{first_of, Puts, PutsLine, PutsPart, IsAnswered, HasCauses};
-ghost use Rattle.sqlcipher_tool.specs.Opening.{main_of, whole_pages};
+ghost use Rattle.pager.specs.File.{main_of, whole_pages};
 ghost use Rattle.sqlcipher_tool.specs.Promises.{IsUnrecovered};
 ghost use Rattle.sqlcipher_tool.specs.Recovered.{recovered_answer};
 ghost use Rattle.sqlcipher_tool.specs.Tags.{IsLoaded, page_refused, refused_pages, pages_answer, tags_causes, tags_answer};
@@ -17,7 +17,6 @@ ghost use Rattle.sqlcipher_tool.specs.Text.{tag_lines};
 ghost use Rattle.sqlcipher_tool.specs.declared.status.Refusal.TheVariants.{TooLarge};
 
 use crate::conclusion::{conclude, conclude_stop};
-use crate::main_file::{MAX_PAGE, read_main};
 use crate::opening::{Stop, fitting_codec, served_length};
 use crate::recovery::recover_main;
 use crate::status::{Refusal, Status};
@@ -26,6 +25,7 @@ use cipher_profile::{Profile, Secret};
 use db_format::LARGEST_DATABASE;
 use edge_model::{Disk, Failed, Sink};
 use page_codec::Codec;
+use pager::{MAX_PAGE, read_main};
 use std::alloc::Global;
 
 // How many pages are read at once.

@@ -6,7 +6,6 @@
 ghost use Rattle.std.specs.Prelude.{◌≡◌, ◌≤◌, length, false, refl};
 ghost use Rattle.cipher_profile.specs.Profile.{usable};
 
-use crate::main_file::read_page;
 use crate::{Status, run};
 use cipher_profile::{Profile, derive, profile_of, read_key};
 use edge_model::{
@@ -14,6 +13,7 @@ use edge_model::{
     SilentSource,
 };
 use page_codec::Codec;
+use pager::read_page;
 use std::alloc::Global;
 use std::process::Abort;
 use std::test::Fail;

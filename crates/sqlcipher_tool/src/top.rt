@@ -80,16 +80,17 @@ pub fn run<K: Source, S: Sink, E: Entropy, D: Disk>(
 {
     match parse_words(words) {
         None => conclude(out, &usage_line(), Status::Usage),
-        Some(command) => serve(alloc, command, input, out, disk),
+        Some(command) => serve(alloc, command, input, out, entropy, disk),
     }
 }
 
 // A command, with the input and the files.
-fn serve<K: Source, S: Sink, D: Disk>(
+fn serve<K: Source, S: Sink, E: Entropy, D: Disk>(
     alloc: Global,
     command: Command,
     input: &mut K,
     out: &mut S,
+    entropy: &mut E,
     disk: &mut D,
 ) -> Status
     requires { IsServed command }
@@ -112,6 +113,7 @@ fn serve<K: Source, S: Sink, D: Disk>(
     ensures early_first { IsEarly result → disk.new ≡ disk.old }
     ensures fault_first { result ≡ Status.InputFault → disk.new ≡ disk.old }
     ensures takes { IsTrue K.tells → word_refusal command ≡ None → TakesLines result (keys_taken command) (K.left input.old) (K.left input.new) }
+    ensures draws { entropy.new ≡ entropy.old }
     ensures unrecovered { IsTrue D.tells → IsUnrecovered result → D.reads disk.new ≡ D.reads disk.old }
     ensures keeps { IsTrue D.tells → Keeps command (disk_run D.reads D.images D.moment D.since disk.old disk.new) }
     ensures changes { IsTrue D.tells → Changes result command (disk_run D.reads D.images D.moment D.since disk.old disk.new) }
@@ -125,17 +127,18 @@ fn serve<K: Source, S: Sink, D: Disk>(
     match command {
         Command::Recover(profile) => report_recovery(alloc, profile, out, disk),
         Command::Tags(_) | Command::Header(_) | Command::Probe => {
-            serve_keyed(alloc, command, input, out, disk)
+            serve_keyed(alloc, command, input, out, entropy, disk)
         }
     }
 }
 
 // A command that takes a key line.
-fn serve_keyed<K: Source, S: Sink, D: Disk>(
+fn serve_keyed<K: Source, S: Sink, E: Entropy, D: Disk>(
     alloc: Global,
     command: Command,
     input: &mut K,
     out: &mut S,
+    entropy: &mut E,
     disk: &mut D,
 ) -> Status
     requires served { IsServed command }
@@ -157,6 +160,7 @@ fn serve_keyed<K: Source, S: Sink, D: Disk>(
     ensures early_first { IsEarly result → disk.new ≡ disk.old }
     ensures fault_first { result ≡ Status.InputFault → disk.new ≡ disk.old }
     ensures takes { IsTrue K.tells → TakesLines result 1 (K.left input.old) (K.left input.new) }
+    ensures draws { entropy.new ≡ entropy.old }
     ensures unrecovered { IsTrue D.tells → IsUnrecovered result → D.reads disk.new ≡ D.reads disk.old }
     ensures keeps { IsTrue D.tells → Keeps command (disk_run D.reads D.images D.moment D.since disk.old disk.new) }
     ensures input_later { K.faults input.old ≤ K.faults input.new }
@@ -164,7 +168,7 @@ fn serve_keyed<K: Source, S: Sink, D: Disk>(
     ensures disk_later { D.faults disk.old ≤ D.faults disk.new }
 {
     match read_key(input) {
-        Ok(secret) => carry_out(alloc, command, &secret, out, disk),
+        Ok(secret) => carry_out(alloc, command, &secret, out, entropy, disk),
         Err(KeyError::KeyMissing) => conclude_refusal(out, Refusal::KeyMissing),
         Err(KeyError::KeyEmpty) => conclude_refusal(out, Refusal::KeyEmpty),
         Err(KeyError::KeyTooLong) => conclude_refusal(out, Refusal::KeyTooLong),
@@ -174,11 +178,12 @@ fn serve_keyed<K: Source, S: Sink, D: Disk>(
 }
 
 // A command with its secret.
-fn carry_out<S: Sink, D: Disk>(
+fn carry_out<S: Sink, E: Entropy, D: Disk>(
     alloc: Global,
     command: Command,
     secret: &Secret,
     out: &mut S,
+    entropy: &mut E,
     disk: &mut D,
 ) -> Status
     requires served { IsServed command }
@@ -188,12 +193,13 @@ fn carry_out<S: Sink, D: Disk>(
     ensures line { IsTrue S.tells → PutsLine result (S.taken out.old) (S.taken out.new) }
     ensures memory { result ≡ Status.OutOfMemory → recovers command ≡ true }
     ensures causes { HasCauses result (D.faults disk.old) (D.faults disk.new) (S.faults out.old) (S.faults out.new) }
+    ensures draws { entropy.new ≡ entropy.old }
     ensures unrecovered { IsTrue D.tells → IsUnrecovered result → D.reads disk.new ≡ D.reads disk.old }
     ensures keeps { IsTrue D.tells → Keeps command (disk_run D.reads D.images D.moment D.since disk.old disk.new) }
 {
     match command {
         Command::Tags(profile) => tags(alloc, profile, secret, out, disk),
-        Command::Header(profile) => header(alloc, profile, secret, out, disk),
+        Command::Header(profile) => header(alloc, profile, secret, out, entropy, disk),
         Command::Probe => probe(secret, out, disk),
         Command::Recover(profile) => report_recovery(alloc, profile, out, disk),
     }

@@ -1,8 +1,9 @@
 use Rattle.std.proofs.Common.{◌≡◌, ⊎_elim, inl, inr, List, ℕ, sym, ap, subst}
 use Rattle.sqlcipher_tool.specs.Answer.{Answer, IsAnswered, IsFault, Puts}
+use Rattle.edge_model.specs.Files.{bytes_of}
 use Rattle.sqlcipher_tool.specs.Header.{header_answer}
-use Rattle.sqlcipher_tool.specs.Opening.{main_of}
-use Rattle.sqlcipher_tool.proofs.Recoveries.{header_recovered, read_after, recovered_is}
+use Rattle.pager.specs.File.{main_of}
+use Rattle.sqlcipher_tool.proofs.Recoveries.{had_byte, header_recovered, journal_gone, read_after, recovered_is}
 use Rattle.sqlcipher_tool.specs.declared.status.Status.TheVariants.{OutputFault}
 use Rattle.sqlcipher_tool.specs.Recovered.{recovered_main, recovery_of}
 use Rattle.sqlcipher_tool.proofs.Conclusions.{recovery_status, recovery_text}
@@ -54,3 +55,9 @@ returns-in-Err-clause-text g c = λ printed told.
     (λ answer is. c.conclude_stop.ensures.text answer is printed)
     (λ is. let failed = c.conclude_stop.ensures.disk is in (failed.0, ap g.S.Sink.taken failed.1))
     (λ is. let starved = c.conclude_stop.ensures.memory is in (starved.0, ap g.S.Sink.taken starved.1))
+
+pub header_of_main-requires-clause-recovered : goal.header_of_main-requires-clause-recovered
+header_of_main-requires-clause-recovered g c = λ told byte image now.
+    let files = g.D.Disk.reads c.args.disk.now in
+    journal_gone c.args.profile.page_size (bytes_of files.main) (bytes_of files.journal) image
+    (c.in-Ok.ensures.done told (had_byte c.args.profile files (main_of (g.D.Disk.reads c.recover_main.new.disk)) (c.in-Ok.ensures.main told) byte) image now)

@@ -2,7 +2,7 @@ use Rattle.std.proofs.Common.{◌≡◌, ◌+◌, ◌++◌, List, ℕ, IsTrue, O
 use Rattle.std.specs.Prelude.{slice_get, option_to_list}
 use Rattle.std.specs.Option.{option_or}
 use Rattle.cipher_profile.specs.declared.profile.Profile.{Profile}
-use Rattle.sqlcipher_tool.specs.Opening.{main_of}
+use Rattle.pager.specs.File.{main_of}
 use Rattle.sqlcipher_tool.specs.Tags.{IsLoaded, is_refused, page_refused, refused_page, refused_pages}
 use Rattle.sqlcipher_tool.specs.Text.{tag_lines}
 use Rattle.sqlcipher_tool.proofs.Batches.{slice_of_batch, still_loaded}

@@ -2,7 +2,7 @@ use Rattle.std.proofs.Common.{◌≡◌, ◌*◌, ◌%◌, ◌-◌, ◌≤◌, �
 use Rattle.std.proofs.lemmas.List.{length-take-le}
 use Rattle.std.proofs.lemmas.Nat.{mul-le}
 use Rattle.std.proofs.lemmas.Result.{on_ok_weaker}
-use Rattle.sqlcipher_tool.specs.Opening.{main_of}
+use Rattle.pager.specs.File.{main_of}
 use Rattle.sqlcipher_tool.proofs.Batches.{batch_read}
 use Rattle.sqlcipher_tool.proofs.tags.load_batch.Goals as goal
 

@@ -1,4 +1,4 @@
-use Rattle.sqlcipher_tool.proofs.OnlyReads.{then_read}
+use Rattle.pager.specs.Reads.{then_read}
 use Rattle.sqlcipher_tool.proofs.tags.open_for_tags.Goals as goal
 
 pub returns-clause-only_read : goal.returns-clause-only_read

@@ -1,7 +1,7 @@
 use Rattle.std.proofs.Common.{◌≡◌, ap}
 use Rattle.sqlcipher_tool.specs.Answer.{first_of}
 use Rattle.page_codec.specs.Page.{keys_of}
-use Rattle.sqlcipher_tool.specs.Opening.{main_of}
+use Rattle.pager.specs.File.{main_of}
 use Rattle.sqlcipher_tool.specs.Tags.{tags_causes, file_answer}
 use Rattle.sqlcipher_tool.proofs.Conclusions.{no_part, stop_text}
 use Rattle.sqlcipher_tool.proofs.tags.tags_of_main.Goals as goal

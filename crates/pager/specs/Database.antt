@@ -6,7 +6,8 @@ use Rattle.db_format.specs.declared.count.CountRefusal.{CountRefusal}
 use Rattle.db_format.specs.declared.header.Header.{Header}
 use Rattle.db_format.specs.declared.header.HeaderRefusal.{HeaderRefusal}
 use Rattle.db_format.specs.Header.{header_read}
-use Rattle.page_codec.specs.Page.{FileKeys, stored_page, opened}
+use Rattle.page_codec.specs.Page.{FileKeys, opened}
+use Rattle.pager.specs.File.{page_stored}
 
 abbrev pub ok_count : Result ℕ CountRefusal → Option ℕ
 ok_count (Ok count) = Some count
@@ -15,10 +16,6 @@ ok_count (Err refusal) = None
 abbrev pub counted : ℕ → Result Header HeaderRefusal → Option ℕ
 counted len (Err refusal) = None
 counted len (Ok header) = ok_count (count_of_pages header len)
-
--- page n as it is stored
-abbrev pub page_stored : FileKeys → List ℕ → ℕ → List ℕ
-page_stored keys file n = stored_page keys.profile.page_size n file
 
 -- the count of pages by page 1 as it is stored and the length of the file, none where there is a refusal
 abbrev pub count_by : FileKeys → List ℕ → ℕ → Option ℕ

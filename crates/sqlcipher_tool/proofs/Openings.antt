@@ -1,0 +1,73 @@
+-- What a file that is opened comes to.
+use Rattle.std.proofs.Common.{◌≡◌, ◌⊎◌, ⊎_elim, inl, inr, ℕ, List, length, Option, Some, None, Result, Ok, Err, refl, sym, ap, ◌∙◌, subst}
+use Rattle.cipher_profile.specs.declared.keys.Secret.{Secret}
+use Rattle.cipher_profile.specs.declared.profile.Profile.{Profile}
+use Rattle.page_codec.specs.Page.{FileKeys, keys_of}
+use Rattle.pager.specs.Opening.{Opened, IsRefusedBy, file_header, file_opened, first_broken, key_rules, length_rules, unless, with_header}
+use Rattle.pager.specs.declared.opening.OpenError.{OpenError}
+use Rattle.pager.specs.declared.opening.OpenError.TheVariants.{Empty, Short, KeyRefused as NoKey, HeaderFault, WalMode, AutoVacuum, Ragged, TooLarge, DiskFault as DiskFails, OutOfMemory as MemoryEnds}
+use Rattle.sqlcipher_tool.specs.Answer.{Answer, first_of}
+use Rattle.sqlcipher_tool.specs.Header.{opened_answer}
+use Rattle.sqlcipher_tool.specs.Opening.{causes_of, open_answer, opened_with, unopened_answer}
+use Rattle.sqlcipher_tool.specs.Stop.{IsOutside, outcome_answer, stop_answer, stop_of}
+use Rattle.sqlcipher_tool.specs.declared.opening.Stop.{Stop}
+use Rattle.sqlcipher_tool.specs.declared.opening.Stop.TheVariants.{Refused as StopRefused, KeyRefused as StopKey, DiskFault as StopDisk, OutOfMemory as StopMemory}
+
+-- a file that does not open has this answer, or something outside stopped the command
+answered : (error : OpenError) → IsOutside (stop_of error) ⊎ (stop_answer (stop_of error) ≡ Some (open_answer error))
+answered Empty = inr refl
+answered (Short len) = inr refl
+answered NoKey = inr refl
+answered (HeaderFault offset found) = inr refl
+answered WalMode = inr refl
+answered AutoVacuum = inr refl
+answered (Ragged len) = inr refl
+answered (TooLarge pages) = inr refl
+answered DiskFails = inl (inl refl)
+answered MemoryEnds = inl (inr refl)
+
+stopped_by : (error : OpenError) (opened : Result Opened OpenError) → opened ≡ Err error → IsOutside (stop_of error) ⊎ (stop_answer (stop_of error) ≡ unopened_answer opened)
+stopped_by error opened is =
+    ⊎_elim (λ outside. inl outside) (λ same. inr (same ∙ sym (ap (λ (r : Result Opened OpenError). unopened_answer r) is))) (answered error)
+
+-- a file that has no page
+pub short_stop : (profile : Profile) (secret : Secret) (file : List ℕ) (error : OpenError)
+    → (error ≡ DiskFails) ⊎ (first_broken (length_rules profile.page_size file) ≡ Some error)
+    → IsOutside (stop_of error) ⊎ (stop_answer (stop_of error) ≡ unopened_answer (opened_with profile secret file))
+short_stop profile secret file error is =
+    let keys = keys_of profile secret file in
+    let rest = unless (first_broken (key_rules keys file)) (with_header (length file) (file_header keys file)) in
+    ⊎_elim (λ (failed : error ≡ DiskFails). inl (inl (ap stop_of failed)))
+    (λ (broken : first_broken (length_rules profile.page_size file) ≡ Some error).
+    stopped_by error (opened_with profile secret file) (ap (λ (o : Option OpenError). unless o rest) broken)) is
+
+-- a file that does not open
+pub open_stop : (opened : Result Opened OpenError) (error : OpenError) → IsRefusedBy opened error
+    → IsOutside (stop_of error) ⊎ (stop_answer (stop_of error) ≡ unopened_answer opened)
+open_stop opened error is =
+    ⊎_elim (λ (failed : error ≡ DiskFails). inl (inl (ap stop_of failed)))
+    (λ rest. ⊎_elim (λ starved. inl (inr (ap stop_of starved.0))) (λ (same : opened ≡ Err error). stopped_by error opened same) rest) is
+
+abbrev stopped : Stop → Result (List ℕ) Stop
+stopped stop = Err stop
+
+-- the outcome where it does not
+pub unopened_told : (stop : Stop) (opened : Result Opened OpenError) → IsOutside stop ⊎ (stop_answer stop ≡ unopened_answer opened)
+    → (stopped stop ≡ Err StopDisk) ⊎ ((stopped stop ≡ Err StopMemory) ⊎ (outcome_answer (stopped stop) ≡ Some (opened_answer opened)))
+unopened_told StopDisk opened is = inl refl
+unopened_told StopMemory opened is = inr (inl refl)
+unopened_told StopKey (Ok opened) is = ⊎_elim (λ outside. ⊎_elim (λ (disk : StopKey ≡ StopDisk). cc) (λ (memory : StopKey ≡ StopMemory). cc) outside) (λ same. cc) is
+unopened_told StopKey (Err error) is =
+    ⊎_elim (λ outside. ⊎_elim (λ (disk : StopKey ≡ StopDisk). cc) (λ (memory : StopKey ≡ StopMemory). cc) outside) (λ same. inr (inr same)) is
+unopened_told (StopRefused refusal) (Ok opened) is =
+    ⊎_elim (λ outside. ⊎_elim (λ (disk : StopRefused refusal ≡ StopDisk). cc) (λ (memory : StopRefused refusal ≡ StopMemory). cc) outside) (λ same. cc) is
+unopened_told (StopRefused refusal) (Err error) is =
+    ⊎_elim (λ outside. ⊎_elim (λ (disk : StopRefused refusal ≡ StopDisk). cc) (λ (memory : StopRefused refusal ≡ StopMemory). cc) outside)
+    (λ same. inr (inr same)) is
+
+-- the file is the same, whichever read of it gave the codec
+pub same_opening : (profile : Profile) (secret : Secret) (main mid end : List ℕ) (codec : FileKeys) → mid ≡ main → end ≡ mid → codec ≡ keys_of profile secret mid
+    → file_opened codec end ≡ opened_with profile secret main
+same_opening profile secret main mid end codec first next is =
+    ap (λ (keys : FileKeys). file_opened keys end) (is ∙ ap (λ (l : List ℕ). keys_of profile secret l) first)
+    ∙ ap (λ (l : List ℕ). file_opened (keys_of profile secret main) l) (next ∙ first)
