@@ -1,3 +1,5 @@
+pub mod Causes
 pub mod Lines
 pub mod Out
+pub mod Report
 pub mod Text

@@ -10,13 +10,16 @@
 //! | bytes | `x'`, hex digits, `'` |
 #![tactic(auto)]
 
+mod error;
 mod line_out;
 mod lines;
 mod plain;
 #[cfg(test)]
 mod tests;
+mod tree;
 mod values;
 
+pub use error::ExportError;
 pub use line_out::LineOut;
 pub use lines::{put_database, put_end, put_entry, put_schema_row};
 pub use values::{put_value, put_values};
