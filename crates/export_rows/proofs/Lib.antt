@@ -1,6 +1,8 @@
 pub mod CursorSteps
 pub mod Escapes
 pub mod FewerMarks
+pub mod Handing
+pub mod ItemText
 pub mod Moving
 pub mod PartSteps
 pub mod TreeText

@@ -11,6 +11,7 @@
 #![tactic(auto)]
 
 mod error;
+mod item;
 mod line_out;
 mod lines;
 mod plain;
