@@ -41,6 +41,11 @@ pub if_given_later : {T R A : Type 0} (read : T → T → Type 0) (plain : T →
 if_given_later read plain refuses before middle (Ok value) on same first given = tt
 if_given_later read plain refuses before middle (Err error) on same first given = given_later read plain refuses before middle error on same first given
 
+-- what holds of an error
+pub if_err_map : {A E : Type 0} (P Q : E → Type 0) (result : Result A E) → ((error : E) → P error → Q error) → IfErr result P → IfErr result Q
+if_err_map P Q (Ok value) more held = tt
+if_err_map P Q (Err error) more held = more error held
+
 -- a count that rose after a later state rose after the first one too
 pub rose_later : (before middle now : ℕ) → before ≤ middle → Rose middle now → Rose before now
 rose_later before middle now less rose = omega arith

@@ -19,6 +19,7 @@ use Rattle.btree_model.proofs.ProperLemmas.{keys-append}
 use Rattle.btree_model.proofs.UnmarkedLemmas.{or_left, or_right, unmarked_left, unmarked_right}
 use Rattle.btree_page.specs.Cell.{Stored}
 use Rattle.btree_walk.specs.declared.error.WalkError.{WalkError}
+use Rattle.btree_walk.specs.Causes.{IsMarked}
 use Rattle.btree_walk.specs.Chain.{IsLinked, IsRead, IsCut, IsPaid}
 
 differ_by : (m n : ℕ) (b : Bool) → (m == n) ≡ b → (m ≡ n → ⊥) → b ≡ false
@@ -75,6 +76,10 @@ module _ (pages : Pages) (taken : Test) (met : List Finding) (needed start first
     taken_whole : chain pages taken met needed start first ≡ so_far ++ chain pages taken (met ++ so_far) more holder n
     taken_whole = at.whole taken at.passed.unmarked
 
+    -- the marks of the pages so far
+    pub chain_marked : IsMarked (chain pages taken met needed start first) seen later
+    chain_marked = record { found = so_far; more = chain pages taken (met ++ so_far) more holder n; whole = taken_whole; marks = at.passed.marks }
+
   module _ (holder n : ℕ) (got : List ℕ) (later : Test) (at : IsLinked pages taken met needed start first zero holder n local got seen later) where
     pub chain_done : n ≡ 0 → IsRead pages taken met needed start first local got seen later
     chain_done end =
@@ -122,6 +127,26 @@ module _ (pages : Pages) (taken : Test) (met : List Finding) (needed start first
 
       pub chain_placed : Contains (places (chain pages taken met needed start first)) n
       chain_placed = placed_after _ read_so_far _ n ((taken_whole (suc left) holder n got later at) ∙ ap (λ l. read_so_far ++ l) (linked taken)) (link_placed _ _ _)
+
+      link_first : (m accepted : Bool) (after : List Finding) → (x : List Finding) × (link n m accepted after ≡ place n ∷ x)
+      link_first true accepted after = (_, refl)
+      link_first false false after = (_, refl)
+      link_first false true after = (_, refl)
+
+      -- and of page n behind them
+      pub chain_marked_link : IsMarked (chain pages taken met needed start first) seen (also (n ∷ []) later)
+      chain_marked_link =
+          let after : List Finding = chain pages taken ((met ++ read_so_far) ++ place n ∷ []) left n (u32_at (pages.page n) 0) in
+          let first_is : (x : List Finding) × (link n (is_met taken (met ++ read_so_far) n) (pages.accepts n) after ≡ place n ∷ x) = link_first _ _ after in
+          let ns : places (read_so_far ++ place n ∷ []) ≡ places read_so_far ++ n ∷ [] = places-append read_so_far (place n ∷ []) in
+          record {
+            found = read_so_far ++ place n ∷ [];
+            more = first_is.0;
+            whole =
+                taken_whole (suc left) holder n got later at ∙ ap (λ l. read_so_far ++ l) (linked taken ∙ first_is.1)
+                ∙ sym (append_assoc read_so_far (place n ∷ []) first_is.0);
+            marks = ap (also (n ∷ [])) at.passed.marks ∙ sym (also-append (places read_so_far) (n ∷ []) seen) ∙ ap (λ l. also l seen) (sym ns);
+          }
 
       unmet_by : later n ≡ false → is_met taken (met ++ read_so_far) n ≡ false
       unmet_by fresh = sym (ap (λ t. t n) (all_marks (suc left) holder n got later at)) ∙ fresh
@@ -209,6 +234,9 @@ module _ (pages : Pages) (taken : Test) (met : List Finding) (n : ℕ) (stored :
           whole = λ b free. chain_is b ∙ is.whole b free;
           payload = ap (take stored.size) (is.bytes ∙ ap (λ k. stored.local ++ chain_bytes pages k stored.first) (sym links));
         }
+
+    pub cut_marked : (seen later : Test) → IsMarked (chain pages taken met needed n stored.first) seen later → IsMarked (chain_of pages taken met n stored) seen later
+    cut_marked seen later is = subst (λ l. IsMarked l seen later) (sym (chain_is taken)) is
 
     pub cut : {R : Type 0} (refuses : Pages → ℕ → R → Type 0) (error : WalkError R) → IsCut refuses pages (chain pages taken met needed n stored.first) error
         → IsCut refuses pages (chain_of pages taken met n stored) error

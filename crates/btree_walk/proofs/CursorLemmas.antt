@@ -16,7 +16,7 @@ use Rattle.btree_walk.specs.declared.cursor.Stage.TheVariants.{Inside}
 use Rattle.btree_walk.specs.declared.error.WalkError.{WalkError}
 use Rattle.btree_walk.specs.declared.path.Frame.{Frame}
 use Rattle.btree_walk.specs.Causes.{IsAmong}
-use Rattle.btree_walk.specs.Cursor.{IsAdvanced, IsAt, IsAtStage, IsBegun, IsEnd, IsMade, IsNext, IsReady, IsSameWalk, IsWalking, family_or, given_then, row_of, walked, walked_family}
+use Rattle.btree_walk.specs.Cursor.{IsAdvanced, IsAt, IsAtStage, IsBegun, IsEnd, IsMade, IsNext, IsReady, IsSameTree, IsSameWalk, IsWalking, family_or, given_then, row_of, walked, walked_family}
 use Rattle.std.proofs.lemmas.List.Elements.{All-nil}
 use Rattle.std.proofs.lemmas.List.Sums.{sum_by-le}
 use Rattle.btree_walk.specs.Pins.{path_pins}
@@ -49,7 +49,7 @@ module _ (root : ℕ) (asked : Option Family) (cursor : Cursor) (made : IsMade r
 -- ---- the walk goes on
 
 module _ (pages : Pages) (taken : Test) (given : List Row) (cursor : Cursor) (seen : Test) (begun : IsBegun pages taken given cursor seen) where
-  of_family : walked pages taken cursor ≡ tree_walk pages cursor.family taken cursor.root
+  pub of_family : walked pages taken cursor ≡ tree_walk pages cursor.family taken cursor.root
   of_family = ap (λ f. tree_walk pages f taken cursor.root) (sym begun.family)
 
   -- the entries of the walk are those that were given, and more
@@ -93,6 +93,11 @@ at_next pages taken given cursor seen row begun inside =
       more = first.0;
       order = first.1 ∙ append_assoc given (row ∷ []) first.0;
     }
+
+pub walked_same : (pages : Pages) (taken : Test) (old new : Cursor) → IsSameTree old new → walked pages taken new ≡ walked pages taken old
+walked_same pages taken old new same =
+    ap (λ r. tree_walk pages (family_or new.asked (root_family r (pages.page r))) taken r) same.root
+    ∙ ap (λ a. tree_walk pages (family_or a (root_family old.root (pages.page old.root))) taken old.root) same.asked
 
 -- what a walk came to is what its cursor came to
 module _ {R : Type 0} (refuses : Pages → ℕ → R → Type 0) (pages : Pages) (taken : Test) (given : List Row) (old new : Cursor) (seen later : Test)

@@ -5,7 +5,7 @@ use Rattle.std.specs.Option.{option_to_list}
 use Rattle.btree_page.specs.declared.kind.Family.{Family}
 use Rattle.db_format.specs.declared.defect.Defect.{Defect}
 use Rattle.db_format.specs.declared.defect.Defect.TheVariants.{ChildOutOfRange, RowidOrder}
-use Rattle.std.proofs.lemmas.List.{take-append-drop, append-nil, length-append, length-take}
+use Rattle.std.proofs.lemmas.List.{take-append-drop, append_assoc, append-nil, length-append, length-take}
 use Rattle.std.proofs.Math.Seq.{drop-cons, drop-length, set-append_seam, take-append_seam, get_or-append_seam}
 use Rattle.std.proofs.lemmas.List.Folds.{list_any-append}
 use Rattle.std.proofs.lemmas.List.Elements.{Contains-append_left, Contains-append_right, All-append, All-cons, All-nil, All-take}
@@ -23,7 +23,7 @@ use Rattle.btree_model.proofs.FindingLemmas.{entries-append, places-append, also
 use Rattle.btree_model.proofs.ProperLemmas.{keys-append}
 use Rattle.btree_model.proofs.RestLemmas.{rest-step, rest-down, Stands-on, Stands-fault, Stands-place, Stands-refused, Stands-start}
 use Rattle.btree_model.proofs.UnmarkedLemmas.{or_left, or_right}
-use Rattle.btree_walk.specs.Causes.{IsAmong}
+use Rattle.btree_walk.specs.Causes.{IsAmong, IsMarked}
 use Rattle.btree_walk.specs.declared.error.WalkError.{WalkError}
 use Rattle.btree_walk.specs.declared.error.WalkError.TheVariants.{Defect as Found, Source, OutOfMemory}
 use Rattle.btree_walk.specs.Chain.{IsCut, IsPaid}
@@ -105,6 +105,11 @@ walk_place pages family taken (suc left) c met = (0, omega arith, refl)
 step_place : (pages : Pages) (family : Family) (taken : Test) (left holder c : ℕ) (met : List Finding) → is_in_range pages c ≡ true
     → Contains (places (step pages taken (walk pages family taken left) met holder (child c))) c
 step_place pages family taken left holder c met range = rw range (walk_place pages family taken left c met)
+
+walk_first : (pages : Pages) (family : Family) (taken : Test) (left c : ℕ) (met : List Finding) → (x : List Finding) × (walk pages family taken left met c ≡ place c ∷ x)
+unfolding walk
+walk_first pages family taken zero c met = (_, refl)
+walk_first pages family taken (suc left) c met = (_, refl)
 
 -- a page that is not accepted is refused where it is new
 walk_refused : (pages : Pages) (family : Family) (taken : Test) (left c : ℕ) (met : List Finding) → is_met taken met c ≡ false → pages.accepts c ≡ false
@@ -304,6 +309,37 @@ module _ (pages : Pages) (family : Family) (root : ℕ) (taken : Test) (given : 
       (sym (ap refusals (rest-step pages family taken at.met top.page left_of s todo (path_of pages family 20 [] fs)) ∙ refusals-append first _))
       (Contains-append_left (refusals first) _ n found))
 
+  -- the marks of what was met
+  pub stay_marked : IsMarked (tree_walk pages family taken root) taken seen
+  stay_marked =
+      record {
+        found = at.met;
+        more = rest pages family taken at.met (path_of pages family 20 [] (fs ++ top ∷ []));
+        whole = at.stands.whole taken at.unmarked;
+        marks = at.marks;
+      }
+
+  -- and of the first findings of the next step
+  pub step_marked : (s : Step) (found more : List Finding) (later : Test) → slice_get (todo_of pages family top.page) top.done ≡ Some s
+      → step pages taken (walk pages family taken left_of) at.met top.page s ≡ found ++ more → later ≡ also (places found) seen
+      → IsMarked (tree_walk pages family taken root) taken later
+  step_marked s found more later is parts marks =
+      let todo : List Step = drop (top.done + 1) (todo_of pages family top.page) in
+      let path : List Place = path_of pages family 20 [] fs in
+      let first : List Finding = step pages taken (walk pages family taken left_of) at.met top.page s in
+      let behind : List Finding = rest pages family taken (at.met ++ first) (record { page = top.page; left = left_of; todo = todo } ∷ path) in
+      let now : Stands pages family root at.met (record { page = top.page; left = left_of; todo = s ∷ todo } ∷ path) = last_todo (s ∷ todo) (drop-some (todo_of pages family top.page) top.done s is) in
+      record {
+        found = at.met ++ found;
+        more = more ++ behind;
+        whole =
+            now.whole taken at.unmarked ∙ ap (λ l. at.met ++ l) (rest-step pages family taken at.met top.page left_of s todo path ∙ ap (λ l. l ++ behind) parts ∙ append_assoc found more behind)
+            ∙ sym (append_assoc at.met found (more ++ behind));
+        marks =
+            marks ∙ ap (also (places found)) at.marks ∙ sym (also-append (places at.met) (places found) taken)
+            ∙ ap (λ ns. also ns taken) (sym (places-append at.met found));
+      }
+
   -- a page that was met is one of the walk
   pub met_placed : (n : ℕ) → Contains (places at.met) n → Contains (places (tree_walk pages family taken root)) n
   met_placed n among =
@@ -458,6 +494,30 @@ module _ (pages : Pages) (family : Family) (root : ℕ) (taken : Test) (given : 
       }
   turn_unread refuses OutOfMemory range h = tt
 
+  pub turn_stays : IsMarked (tree_walk pages family taken root) taken seen
+  turn_stays = stay_marked pages family root taken given first_frames top floor last last_page seen at_last
+
+  pub turn_named : (c : ℕ) (later : Test) → next_step ≡ Some (child c) → (named : Bool) → is_in_range pages c ≡ named → later ≡ (if named then also (c ∷ []) seen else seen)
+      → IsMarked (tree_walk pages family taken root) taken later
+  turn_named c later is false range marks = subst (IsMarked (tree_walk pages family taken root) taken) (sym marks) turn_stays
+  turn_named c later is true range marks =
+      let left : ℕ = 20 - length first_frames - 1 in
+      let first_is : (x : List Finding) × (walk pages family taken left at_last.met c ≡ place c ∷ x) = walk_first pages family taken left c at_last.met in
+      step_marked pages family root taken given first_frames top floor last last_page seen at_last (child c) (place c ∷ []) first_is.0 later is
+      (let here : step pages taken (walk pages family taken left) at_last.met top.page (child c) ≡ walk pages family taken left at_last.met c = rw range refl in here ∙ first_is.1) marks
+
+  pub turn_cut_marked : (rowid : Option ℤ) (stored : Stored) (later : Test) → next_step ≡ Some (cell rowid stored) → low_of floor rowid ≡ false
+      → ((met : List Finding) → seen ≡ also (places met) taken → IsMarked (chain_of pages taken met top.page stored) seen later)
+      → IsMarked (tree_walk pages family taken root) taken later
+  turn_cut_marked rowid stored later is above cuts =
+      let cut : IsMarked (chain_of pages taken at_last.met top.page stored) seen later = cuts at_last.met at_last.marks in
+      let all : List Finding = chain_of pages taken at_last.met top.page stored in
+      let last_is : List Finding = if is_sound all then entry (record { rowid = rowid; payload = payload_of pages stored; page = top.page }) ∷ [] else [] in
+      step_marked pages family root taken given first_frames top floor last last_page seen at_last (cell rowid stored) cut.found (cut.more ++ last_is) later is
+      (ap (λ l. l ++ (all ++ last_is)) (order_none floor last last_page top.page at_last.met rowid at_last.ordered above)
+      ∙ ap (λ l. l ++ last_is) cut.whole ∙ append_assoc cut.found cut.more last_is)
+      cut.marks
+
   pub top_node : IsNode pages family top.page
   top_node = here.node
 
@@ -501,3 +561,9 @@ module _ (pages : Pages) (family : Family) (root : ℕ) (seen : Test) where
         listed = λ no. walk_refused pages family seen 19 root [] fresh no;
       }
   start_shut refuses OutOfMemory fresh range shut = tt
+
+  -- the root was marked
+  pub start_marked : IsMarked (tree_walk pages family seen root) seen (also (root ∷ []) seen)
+  start_marked =
+      let first_is : (x : List Finding) × (walk pages family seen 20 [] root ≡ place root ∷ x) = walk_first pages family seen 20 root [] in
+      record { found = place root ∷ []; more = first_is.0; whole = first_is.1; marks = refl }

@@ -1,7 +1,7 @@
 -- Why a walk stops.
-use Rattle.std.specs.Prelude.{◌≡◌, ℕ, Bool, true, false, List, ⊤}
+use Rattle.std.specs.Prelude.{◌≡◌, ℕ, Bool, true, false, List, ◌++◌, ⊤}
 use Rattle.std.specs.List.{Contains}
-use Rattle.db_format.specs.Pages.{Pages, is_page}
+use Rattle.db_format.specs.Pages.{Pages, Test, also, is_page}
 use Rattle.btree_model.specs.Finding.{Finding, faults, places, refusals}
 use Rattle.btree_walk.specs.declared.error.WalkError.{WalkError}
 use Rattle.btree_walk.specs.declared.error.WalkError.TheVariants.{Defect, Source, OutOfMemory}
@@ -39,3 +39,10 @@ abbrev pub is_failure : {R : Type 0} → (R → Bool) → WalkError R → Bool
 is_failure is_fault (Defect defect) = false
 is_failure is_fault (Source refusal) = is_fault refusal
 is_failure is_fault OutOfMemory = false
+
+-- the marks are those of before, and the places of the first findings of this walk
+pub record IsMarked (all : List Finding) (old new : Test) : Type 0 where
+  pub found : List Finding
+  pub more : List Finding
+  pub whole : all ≡ found ++ more
+  pub marks : new ≡ also (places found) old

@@ -14,7 +14,7 @@ use Rattle.btree_walk.specs.declared.error.WalkError.{WalkError}
 use Rattle.btree_walk.specs.declared.error.WalkError.TheVariants.{Defect as Found, Source, OutOfMemory}
 use Rattle.btree_walk.specs.declared.turn.Moved.{Moved}
 use Rattle.btree_walk.specs.declared.turn.Moved.TheVariants.{Up, Down, Passed, Gave}
-use Rattle.btree_walk.specs.Causes.{IsAmong}
+use Rattle.btree_walk.specs.Causes.{IsAmong, IsMarked}
 use Rattle.btree_walk.specs.Order.{IsAfter, IsCovered}
 use Rattle.btree_walk.specs.Pins.{path_pins}
 use Rattle.btree_walk.specs.Turn.{AreInside, IsInside}
@@ -77,7 +77,8 @@ pub record IsBegun (pages : Pages) (taken : Test) (given : List Row) (cursor : C
 abbrev pub IsAtStage : Stage → Pages → Test → List Row → Cursor → Test → Type 0
 IsAtStage New pages taken given cursor seen = IsNew taken given cursor seen
 IsAtStage Inside pages taken given cursor seen = IsBegun pages taken given cursor seen
-IsAtStage (Stopped defect) pages taken given cursor seen = Contains (faults (walked pages taken cursor)) defect
+IsAtStage (Stopped defect) pages taken given cursor seen =
+    Contains (faults (walked pages taken cursor)) defect × IsMarked (walked pages taken cursor) taken seen
 
 -- The cursor gave these entries of its tree, where `taken` holds for the pages with a place in an earlier part, and these
 -- pages are marked: those, and the tree's places that were met.

@@ -5,7 +5,8 @@ ghost use Rattle.db_format.specs.Seen.{marked, open_count};
 ghost use Rattle.db_format.specs.Source.{Rose};
 ghost use Rattle.btree_page.specs.Payload.{max_payload};
 ghost use Rattle.btree_model.specs.Finding.{Finding, places};
-ghost use Rattle.btree_walk.specs.Causes.{IsGivenBy, is_failure};
+ghost use Rattle.btree_model.specs.Walk.{chain, chain_of};
+ghost use Rattle.btree_walk.specs.Causes.{IsGivenBy, IsMarked, is_failure};
 ghost use Rattle.btree_walk.specs.Chain.{IsCellRead, IsChained};
 
 use crate::{WalkError, is_in_range};
@@ -28,6 +29,8 @@ fn read_chain<S: PageSource>(
     ensures fewer { OnOk result (open_count seen.new ≤ open_count seen.old) }
     ensures given { IfErr result (IsGivenBy S.only_read S.plain S.refuses source.old) }
     ensures fault { IfErr result (λ error. IsTrue (is_failure S.is_fault error) → Rose (S.faults source.old) (S.faults source.new)) }
+    ensures marks { IfErr result (λ error. IsTrue S.tells → (taken : Test) (met : List Finding) → marked seen.old ≡ also (places met) taken
+        → IsMarked (chain (S.plain source.old) taken met needed start first) (marked seen.old) (marked seen.new)) }
     ensures on { IsTrue S.tells → (taken : Test) (met : List Finding) → marked seen.old ≡ also (places met) taken
         → IsChained S.refuses (S.plain source.old) taken met needed start first payload.old.items payload.new.items (marked seen.old) (marked seen.new) result }
 {
@@ -81,6 +84,8 @@ pub(crate) fn read_payload<S: PageSource>(
     ensures fewer { OnOk result (open_count seen.new ≤ open_count seen.old) }
     ensures given { IfErr result (IsGivenBy S.only_read S.plain S.refuses source.old) }
     ensures fault { IfErr result (λ error. IsTrue (is_failure S.is_fault error) → Rose (S.faults source.old) (S.faults source.new)) }
+    ensures marks { IfErr result (λ error. IsTrue S.tells → (taken : Test) (met : List Finding) → marked seen.old ≡ also (places met) taken
+        → IsMarked (chain_of (S.plain source.old) taken met n (record { size = size; local = payload.old.items; first = first })) (marked seen.old) (marked seen.new)) }
     ensures on { IsTrue S.tells → (taken : Test) (met : List Finding) → marked seen.old ≡ also (places met) taken
         → IsCellRead S.refuses (S.plain source.old) taken met n (record { size = size; local = payload.old.items; first = first }) payload.new.items (marked seen.old) (marked seen.new) result }
 {

@@ -4,7 +4,7 @@ ghost use Rattle.db_format.specs.Pages.{Test};
 ghost use Rattle.db_format.specs.Seen.{marked};
 ghost use Rattle.db_format.specs.Source.{Rose, no_pins};
 ghost use Rattle.btree_model.specs.Finding.{Row};
-ghost use Rattle.btree_walk.specs.Causes.{IsGivenBy, is_failure};
+ghost use Rattle.btree_walk.specs.Causes.{IsGivenBy, IsMarked, is_failure};
 ghost use Rattle.btree_walk.specs.Cursor.{IsReady, GivesNext, IsAdvanced, IsAt, IsGivenAfter, IsMade, IsSameTree, KeepsDefect, gives, row_of, row_shown, walked};
 ghost use Rattle.btree_walk.specs.Order.{IsAfter};
 ghost use Rattle.btree_walk.specs.Turn.{work};
@@ -144,6 +144,8 @@ impl Cursor {
         ensures given { IfErr result (IsGivenBy S.only_read S.plain S.refuses source.old) }
         ensures fault { IfErr result (λ error. IsTrue (is_failure S.is_fault error) → Rose (S.faults source.old) (S.faults source.new)) }
         // the walk, where pages are told
+        ensures marks { IfErr result (λ error. IsTrue S.tells → (taken : Test) (given : List Row) → IsAt (S.plain source.old) taken given self.old (marked seen.old)
+            → IsMarked (walked (S.plain source.old) taken self.old) taken (marked seen.new)) }
         ensures on { IsTrue S.tells → (taken : Test) (given : List Row) → IsAt (S.plain source.old) taken given self.old (marked seen.old)
             → IsAdvanced S.refuses (S.plain source.old) taken given self.new (marked seen.new) result }
     {
@@ -174,6 +176,8 @@ impl Cursor {
         ensures again { (defect : Defect) → self.old.stage ≡ Stage.Stopped defect → result ≡ Err (WalkError.Defect defect) }
         ensures given { IfErr result (IsGivenBy S.only_read S.plain S.refuses source.old) }
         ensures fault { IfErr result (λ error. IsTrue (is_failure S.is_fault error) → Rose (S.faults source.old) (S.faults source.new)) }
+        ensures marks { IfErr result (λ error. IsTrue S.tells → (taken : Test) (given : List Row) → IsAt (S.plain source.old) taken given self.old (marked seen.old)
+            → IsMarked (walked (S.plain source.old) taken self.old) taken (marked seen.new)) }
         ensures on { IsTrue S.tells → (taken : Test) (given : List Row) → IsAt (S.plain source.old) taken given self.old (marked seen.old)
             → IsAdvanced S.refuses (S.plain source.old) taken given self.new (marked seen.new) result }
     {

@@ -4,8 +4,9 @@ ghost use Rattle.db_format.specs.Pages.{Test, also};
 ghost use Rattle.db_format.specs.Seen.{marked, open_count};
 ghost use Rattle.db_format.specs.Source.{Rose, one_more};
 ghost use Rattle.btree_model.specs.Finding.{Row};
+ghost use Rattle.btree_model.specs.Range.{is_in_range};
 ghost use Rattle.btree_model.specs.Tree.{tree_walk};
-ghost use Rattle.btree_walk.specs.Causes.{IsAmong, IsGivenBy, is_failure};
+ghost use Rattle.btree_walk.specs.Causes.{IsAmong, IsGivenBy, IsMarked, is_failure};
 ghost use Rattle.btree_walk.specs.Cursor.{IsReady, IsBegun, IsGivenAfter, IsNew, IsRising, IsSameTree, IsSameWalk, IsWalking, given_then, row_of, walked};
 ghost use Rattle.btree_walk.specs.Turn.{IsEntered, IsEnterStop, given_by, work};
 
@@ -48,6 +49,7 @@ fn enter<S: PageSource>(
     ensures count { OnOk result (open_count seen.new + 1 ≡ open_count seen.old) }
     ensures given { IfErr result (IsGivenBy S.only_read S.plain S.refuses source.old) }
     ensures fault { IfErr result (λ error. IsTrue (is_failure S.is_fault error) → Rose (S.faults source.old) (S.faults source.new)) }
+    ensures named { IfErr result (λ error. marked seen.new ≡ (if is_in_range (S.plain source.old) c then also (c ∷ []) (marked seen.old) else marked seen.old)) }
     ensures entered { OnOk result (IsTrue S.tells → IsEntered (S.plain source.old) family (marked seen.old) c) }
     ensures stop { IfErr result (λ error. IsTrue S.tells → IsEnterStop S.refuses (S.plain source.old) family (marked seen.old) depth holder c error) }
 {
@@ -79,6 +81,8 @@ fn take_turn<S: PageSource>(
     ensures rising { IfOk result (IsRising cursor.old cursor.new) }
     ensures given { IfErr result (IsGivenBy S.only_read S.plain S.refuses source.old) }
     ensures fault { IfErr result (λ error. IsTrue (is_failure S.is_fault error) → Rose (S.faults source.old) (S.faults source.new)) }
+    ensures marks { IfErr result (λ error. IsTrue S.tells → (taken : Test) (given : List Row) → IsWalking (S.plain source.old) taken given cursor.old (marked seen.old)
+        → IsMarked (tree_walk (S.plain source.old) cursor.old.family taken cursor.old.root) taken (marked seen.new)) }
     ensures on { IsTrue S.tells → (taken : Test) (given : List Row) → IsWalking (S.plain source.old) taken given cursor.old (marked seen.old)
         → MatchResult result (λ moved. IsWalking (S.plain source.old) taken (given_by given (row_of cursor.new) moved) cursor.new (marked seen.new))
         (IsAmong S.refuses (S.plain source.old) (tree_walk (S.plain source.old) cursor.old.family taken cursor.old.root)) }
@@ -153,6 +157,8 @@ pub(crate) fn walk_on<S: PageSource>(
     ensures rising { IfOk result (IsGivenAfter cursor.old cursor.new) }
     ensures given { IfErr result (IsGivenBy S.only_read S.plain S.refuses source.old) }
     ensures fault { IfErr result (λ error. IsTrue (is_failure S.is_fault error) → Rose (S.faults source.old) (S.faults source.new)) }
+    ensures marks { IfErr result (λ error. IsTrue S.tells → (taken : Test) (given : List Row) → IsWalking (S.plain source.old) taken given cursor.old (marked seen.old)
+        → IsMarked (tree_walk (S.plain source.old) cursor.old.family taken cursor.old.root) taken (marked seen.new)) }
     ensures on { IsTrue S.tells → (taken : Test) (given : List Row) → IsWalking (S.plain source.old) taken given cursor.old (marked seen.old)
         → MatchResult result (λ more. IsWalking (S.plain source.old) taken (given_then given (row_of cursor.new) more) cursor.new (marked seen.new))
         (IsAmong S.refuses (S.plain source.old) (tree_walk (S.plain source.old) cursor.old.family taken cursor.old.root)) }
@@ -186,6 +192,8 @@ pub(crate) fn begin<S: PageSource>(
     ensures less { OnOk result (work seen.new cursor.new.path < work seen.old cursor.old.path) }
     ensures given { IfErr result (IsGivenBy S.only_read S.plain S.refuses source.old) }
     ensures fault { IfErr result (λ error. IsTrue (is_failure S.is_fault error) → Rose (S.faults source.old) (S.faults source.new)) }
+    ensures marks { IfErr result (λ error. IsTrue S.tells → (taken : Test) (given : List Row) → IsNew taken given cursor.old (marked seen.old)
+        → IsMarked (walked (S.plain source.old) taken cursor.old) taken (marked seen.new)) }
     ensures on { IsTrue S.tells → (taken : Test) (given : List Row) → IsNew taken given cursor.old (marked seen.old)
         → MatchResult result (λ done. IsBegun (S.plain source.old) taken given cursor.new (marked seen.new))
         (IsAmong S.refuses (S.plain source.old) (walked (S.plain source.old) taken cursor.old)) }

@@ -2,7 +2,7 @@ use Rattle.std.proofs.Common.{◌≡◌, ◌+◌, ◌-◌, suc, not, true, drop,
 use Rattle.db_format.specs.Bytes.{u32_at}
 use Rattle.db_format.specs.Seen.{marked, open_count}
 use Rattle.btree_walk.specs.Chain.{IsLinked}
-use Rattle.btree_walk.proofs.ChainLemmas.{cut_all, chain_start, chain_done, chain_long, chain_short, chain_out, chain_twice, chain_placed, chain_refused, chain_on}
+use Rattle.btree_walk.proofs.ChainLemmas.{cut_all, chain_start, chain_done, chain_long, chain_short, chain_out, chain_twice, chain_placed, chain_refused, chain_on, chain_marked, chain_marked_link}
 use Rattle.btree_walk.proofs.CauseLemmas.{named_is_page}
 use Rattle.btree_model.specs.Range.{is_in_range}
 use Rattle.btree_walk.proofs.chain.read_chain.Goals as goal
@@ -110,3 +110,45 @@ returns-else-n-eq0-2-clause-on g c told taken met marks =
     (subst (λ k. IsLinked (g.S.PageSource.plain c.args.source.now) taken met c.args.needed c.args.start c.args.first k c.loop-turn.holder c.loop-turn.n c.args.payload.now.items c.loop-turn.payload.items (marked c.args.seen.now) (marked c.loop-turn.seen)) none
     (c.loop-turn.invariant.on told taken met marks))
     c.if-n-eq0-2.false
+
+pub returns-then-n-eq0-clause-marks : goal.returns-then-n-eq0-clause-marks
+returns-then-n-eq0-clause-marks g c told taken met marks =
+    chain_marked (g.S.PageSource.plain c.args.source.now) taken met c.args.needed c.args.start c.args.first c.args.payload.now.items (marked c.args.seen.now) marks (c.args.needed - c.loop-turn.turn) c.loop-turn.holder c.loop-turn.n c.loop-turn.payload.items (marked c.loop-turn.seen) (c.loop-turn.invariant.on told taken met marks)
+
+pub returns-then-not-is_in_range-clause-marks : goal.returns-then-not-is_in_range-clause-marks
+returns-then-not-is_in_range-clause-marks g c told taken met marks =
+    chain_marked (g.S.PageSource.plain c.args.source.now) taken met c.args.needed c.args.start c.args.first c.args.payload.now.items (marked c.args.seen.now) marks (c.args.needed - c.loop-turn.turn) c.loop-turn.holder c.loop-turn.n c.loop-turn.payload.items (marked c.loop-turn.seen) (c.loop-turn.invariant.on told taken met marks)
+
+pub returns-then-not-mark-clause-marks : goal.returns-then-not-mark-clause-marks
+returns-then-not-mark-clause-marks g c told taken met marks =
+    let less = c.loop-turn-test.true in
+    let more : c.args.needed - c.loop-turn.turn ≡ suc (c.args.needed - (c.loop-turn.turn + 1)) = omega arith in
+    let at : IsLinked (g.S.PageSource.plain c.args.source.now) taken met c.args.needed c.args.start c.args.first (suc (c.args.needed - (c.loop-turn.turn + 1))) c.loop-turn.holder c.loop-turn.n c.args.payload.now.items c.loop-turn.payload.items (marked c.args.seen.now) (marked c.loop-turn.seen) =
+    subst (λ k. IsLinked (g.S.PageSource.plain c.args.source.now) taken met c.args.needed c.args.start c.args.first (k) c.loop-turn.holder c.loop-turn.n c.args.payload.now.items c.loop-turn.payload.items (marked c.args.seen.now) (marked c.loop-turn.seen)) more (c.loop-turn.invariant.on told taken met marks)
+    in
+    rw c.mark.ensures.after
+    (chain_marked_link (g.S.PageSource.plain c.args.source.now) taken met c.args.needed c.args.start c.args.first c.args.payload.now.items (marked c.args.seen.now) marks (c.args.needed - (c.loop-turn.turn + 1)) c.loop-turn.holder c.loop-turn.n c.loop-turn.payload.items (marked c.loop-turn.seen) at c.if-n-eq0.false (sym (c.if-not-is_in_range.ensures.value (g.S.PageSource.plain c.args.source.now) (sym c.pages-count.ensures))))
+
+pub returns-in-Err-clause-marks : goal.returns-in-Err-clause-marks
+returns-in-Err-clause-marks g c told taken met marks =
+    let less = c.loop-turn-test.true in
+    let more : c.args.needed - c.loop-turn.turn ≡ suc (c.args.needed - (c.loop-turn.turn + 1)) = omega arith in
+    let at : IsLinked (g.S.PageSource.plain c.args.source.now) taken met c.args.needed c.args.start c.args.first (suc (c.args.needed - (c.loop-turn.turn + 1))) c.loop-turn.holder c.loop-turn.n c.args.payload.now.items c.loop-turn.payload.items (marked c.args.seen.now) (marked c.loop-turn.seen) =
+    subst (λ k. IsLinked (g.S.PageSource.plain c.args.source.now) taken met c.args.needed c.args.start c.args.first (k) c.loop-turn.holder c.loop-turn.n c.args.payload.now.items c.loop-turn.payload.items (marked c.args.seen.now) (marked c.loop-turn.seen)) more (c.loop-turn.invariant.on told taken met marks)
+    in
+    rw c.mark.ensures.after
+    (chain_marked_link (g.S.PageSource.plain c.args.source.now) taken met c.args.needed c.args.start c.args.first c.args.payload.now.items (marked c.args.seen.now) marks (c.args.needed - (c.loop-turn.turn + 1)) c.loop-turn.holder c.loop-turn.n c.loop-turn.payload.items (marked c.loop-turn.seen) at c.if-n-eq0.false (sym (c.if-not-is_in_range.ensures.value (g.S.PageSource.plain c.args.source.now) (sym c.pages-count.ensures))))
+
+pub returns-in-Err-extend_from_slice-clause-marks : goal.returns-in-Err-extend_from_slice-clause-marks
+returns-in-Err-extend_from_slice-clause-marks g c told taken met marks =
+    let less = c.loop-turn-test.true in
+    let more : c.args.needed - c.loop-turn.turn ≡ suc (c.args.needed - (c.loop-turn.turn + 1)) = omega arith in
+    let at : IsLinked (g.S.PageSource.plain c.args.source.now) taken met c.args.needed c.args.start c.args.first (suc (c.args.needed - (c.loop-turn.turn + 1))) c.loop-turn.holder c.loop-turn.n c.args.payload.now.items c.loop-turn.payload.items (marked c.args.seen.now) (marked c.loop-turn.seen) =
+    subst (λ k. IsLinked (g.S.PageSource.plain c.args.source.now) taken met c.args.needed c.args.start c.args.first (k) c.loop-turn.holder c.loop-turn.n c.args.payload.now.items c.loop-turn.payload.items (marked c.args.seen.now) (marked c.loop-turn.seen)) more (c.loop-turn.invariant.on told taken met marks)
+    in
+    rw c.mark.ensures.after
+    (chain_marked_link (g.S.PageSource.plain c.args.source.now) taken met c.args.needed c.args.start c.args.first c.args.payload.now.items (marked c.args.seen.now) marks (c.args.needed - (c.loop-turn.turn + 1)) c.loop-turn.holder c.loop-turn.n c.loop-turn.payload.items (marked c.loop-turn.seen) at c.if-n-eq0.false (sym (c.if-not-is_in_range.ensures.value (g.S.PageSource.plain c.args.source.now) (sym c.pages-count.ensures))))
+
+pub returns-else-n-eq0-2-clause-marks : goal.returns-else-n-eq0-2-clause-marks
+returns-else-n-eq0-2-clause-marks g c told taken met marks =
+    chain_marked (g.S.PageSource.plain c.args.source.now) taken met c.args.needed c.args.start c.args.first c.args.payload.now.items (marked c.args.seen.now) marks (c.args.needed - c.loop-turn.turn) c.loop-turn.holder c.loop-turn.n c.loop-turn.payload.items (marked c.loop-turn.seen) (c.loop-turn.invariant.on told taken met marks)

@@ -6,12 +6,12 @@ use Rattle.btree_page.specs.declared.kind.Family.{Family}
 use Rattle.btree_model.specs.Finding.{faults}
 use Rattle.btree_model.specs.Tree.{tree_walk}
 use Rattle.btree_walk.specs.declared.error.WalkError.TheVariants.{Source}
-use Rattle.btree_walk.specs.Causes.{IsAmong}
+use Rattle.btree_walk.specs.Causes.{IsAmong, IsMarked}
 use Rattle.btree_walk.specs.Cursor.{walked_family}
 use Rattle.btree_walk.specs.Turn.{IsInside, IsNode, IsOpened}
 use Rattle.btree_walk.proofs.CauseLemmas.{given_later}
 use Rattle.btree_walk.proofs.PathLemmas.{number_is_page}
-use Rattle.btree_walk.proofs.TurnLemmas.{start_on, start_shut, start_stop}
+use Rattle.btree_walk.proofs.TurnLemmas.{start_marked, start_on, start_shut, start_stop}
 use Rattle.btree_walk.proofs.turn.begin.Goals as goal
 
 pub returns-then-not-mark-clause-on : goal.returns-then-not-mark-clause-on
@@ -62,3 +62,21 @@ returns-in-Ok-open_page-clause-on g c told taken given at =
           (subst (λ t. IsInside (g.S.PageSource.plain c.args.source.now) c.in-Ok.family c.args.cursor.now.root t [] (record { page = c.args.cursor.now.root; done = 0 } ∷ []) None None c.args.cursor.now.last_page (also (c.args.cursor.now.root ∷ []) (marked c.args.seen.now))) at.marks
           (start_on (g.S.PageSource.plain c.args.source.now) c.in-Ok.family c.args.cursor.now.root (marked c.args.seen.now) c.args.cursor.now.last_page (c.mark.ensures.fresh ∙ ap not c.if-not-mark.false) node));
     }
+
+pub returns-then-not-mark-clause-marks : goal.returns-then-not-mark-clause-marks
+returns-then-not-mark-clause-marks g c told taken given at =
+    rw c.mark.ensures.after
+    (subst (λ t. IsMarked (tree_walk (g.S.PageSource.plain c.args.source.now) (walked_family (g.S.PageSource.plain c.args.source.now) c.args.cursor.now) t c.args.cursor.now.root) t (also (c.args.cursor.now.root ∷ []) (marked c.args.seen.now))) at.marks
+    (start_marked (g.S.PageSource.plain c.args.source.now) (walked_family (g.S.PageSource.plain c.args.source.now) c.args.cursor.now) c.args.cursor.now.root (marked c.args.seen.now)))
+
+pub returns-in-Err-clause-marks : goal.returns-in-Err-clause-marks
+returns-in-Err-clause-marks g c told taken given at =
+    rw c.mark.ensures.after
+    (subst (λ t. IsMarked (tree_walk (g.S.PageSource.plain c.args.source.now) (walked_family (g.S.PageSource.plain c.args.source.now) c.args.cursor.now) t c.args.cursor.now.root) t (also (c.args.cursor.now.root ∷ []) (marked c.args.seen.now))) at.marks
+    (start_marked (g.S.PageSource.plain c.args.source.now) (walked_family (g.S.PageSource.plain c.args.source.now) c.args.cursor.now) c.args.cursor.now.root (marked c.args.seen.now)))
+
+pub returns-in-Err-open_page-clause-marks : goal.returns-in-Err-open_page-clause-marks
+returns-in-Err-open_page-clause-marks g c told taken given at =
+    rw c.mark.ensures.after
+    (subst (λ t. IsMarked (tree_walk (g.S.PageSource.plain c.args.source.now) (walked_family (g.S.PageSource.plain c.args.source.now) c.args.cursor.now) t c.args.cursor.now.root) t (also (c.args.cursor.now.root ∷ []) (marked c.args.seen.now))) at.marks
+    (start_marked (g.S.PageSource.plain c.args.source.now) (walked_family (g.S.PageSource.plain c.args.source.now) c.args.cursor.now) c.args.cursor.now.root (marked c.args.seen.now)))

@@ -3,6 +3,8 @@ use Rattle.std.proofs.lemmas.Int.{to_z-of_z}
 use Rattle.std.proofs.lemmas.List.{length-append, length-take}
 use Rattle.db_format.specs.Seen.{marked}
 use Rattle.btree_model.specs.Walk.{chain_of}
+use Rattle.btree_model.specs.Range.{is_in_range}
+use Rattle.btree_walk.specs.Causes.{IsMarked}
 use Rattle.btree_walk.specs.Chain.{IsCut, IsPaid}
 use Rattle.btree_walk.specs.Pins.{path_pins}
 use Rattle.db_format.specs.Source.{one_more}
@@ -11,7 +13,7 @@ use Rattle.btree_walk.specs.Turn.{IsEnterStop, IsEntered, IsInside, IsNode}
 use Rattle.btree_walk.proofs.CauseLemmas.{given_later}
 use Rattle.btree_walk.proofs.OrderSteps.{covered_entry, covered_key}
 use Rattle.btree_walk.proofs.PathLemmas.{inside_pop, inside_push, inside_set, inside_top, number_is_page, length_set, not_empty, pins_pop, pins_push, pins_set}
-use Rattle.btree_walk.proofs.TurnLemmas.{top_node, turn_up, turn_key, turn_late, turn_low, turn_cell, turn_cut, turn_down, turn_enter, turn_unread}
+use Rattle.btree_walk.proofs.TurnLemmas.{top_node, turn_up, turn_key, turn_late, turn_low, turn_cell, turn_cut, turn_down, turn_enter, turn_unread, turn_stays, turn_named, turn_cut_marked}
 use Rattle.btree_walk.proofs.turn.take_turn.Goals as goal
 
 pub returns-then-is_late-clause-on : goal.returns-then-is_late-clause-on
@@ -157,3 +159,30 @@ returns-in-Ok-read_payload-clause-on g c told taken given at =
     (turn_cell (g.S.PageSource.plain c.args.source.now) c.args.cursor.now.family c.args.cursor.now.root taken given c.args.cursor.now.path c.top-top.result c.args.cursor.now.floor c.args.cursor.now.last c.args.cursor.now.last_page (marked c.args.seen.now) (length c.args.cursor.now.path) refl c.requires.begun c.top-top.ensures at
     c.in-Ok-Cell.rowid (record { size = c.in-Ok-Cell.length; local = c.take_step.new.local.items; first = c.in-Ok-Cell.first }) c.read_payload.new.payload.items (marked c.read_payload.new.seen) (rw c.in-Ok-Cell.field-0-is at (c.in-Ok-Cell.ensures.value c.args.cursor.now.family node.body told node.reads)) (sym c.if-is_low.ensures)
     (λ met marks. subst (λ p. IsPaid p taken met c.top-top.result.page (record { size = c.in-Ok-Cell.length; local = c.take_step.new.local.items; first = c.in-Ok-Cell.first }) c.read_payload.new.payload.items (marked c.args.seen.now) (marked c.read_payload.new.seen)) same (c.in-Ok-read_payload.ensures.on told taken met marks)))
+
+pub returns-then-is_late-clause-marks : goal.returns-then-is_late-clause-marks
+returns-then-is_late-clause-marks g c told taken given at =
+    (turn_stays (g.S.PageSource.plain c.args.source.now) c.args.cursor.now.family c.args.cursor.now.root taken given c.args.cursor.now.path c.top-top.result c.args.cursor.now.floor c.args.cursor.now.last c.args.cursor.now.last_page (marked c.args.seen.now) (length c.args.cursor.now.path) refl c.requires.begun c.top-top.ensures at)
+
+pub returns-then-is_low-clause-marks : goal.returns-then-is_low-clause-marks
+returns-then-is_low-clause-marks g c told taken given at =
+    (turn_stays (g.S.PageSource.plain c.args.source.now) c.args.cursor.now.family c.args.cursor.now.root taken given c.args.cursor.now.path c.top-top.result c.args.cursor.now.floor c.args.cursor.now.last c.args.cursor.now.last_page (marked c.args.seen.now) (length c.args.cursor.now.path) refl c.requires.begun c.top-top.ensures at)
+
+pub returns-in-Err-clause-marks : goal.returns-in-Err-clause-marks
+returns-in-Err-clause-marks g c told taken given at =
+    (turn_stays (g.S.PageSource.plain c.args.source.now) c.args.cursor.now.family c.args.cursor.now.root taken given c.args.cursor.now.path c.top-top.result c.args.cursor.now.floor c.args.cursor.now.last c.args.cursor.now.last_page (marked c.args.seen.now) (length c.args.cursor.now.path) refl c.requires.begun c.top-top.ensures at)
+
+pub returns-in-Err-enter-clause-marks : goal.returns-in-Err-enter-clause-marks
+returns-in-Err-enter-clause-marks g c told taken given at =
+    let node : IsNode (g.S.PageSource.plain c.args.source.now) c.args.cursor.now.family c.top-top.result.page = (top_node (g.S.PageSource.plain c.args.source.now) c.args.cursor.now.family c.args.cursor.now.root taken given c.args.cursor.now.path c.top-top.result c.args.cursor.now.floor c.args.cursor.now.last c.args.cursor.now.last_page (marked c.args.seen.now) (length c.args.cursor.now.path) refl c.requires.begun c.top-top.ensures at) in
+    let same : g.S.PageSource.plain c.take_step.new.source ≡ g.S.PageSource.plain c.args.source.now = g.met.S.PageSource.same_pages c.args.source.now c.take_step.new.source c.in-Ok-Child.ensures.reads told in
+    (turn_named (g.S.PageSource.plain c.args.source.now) c.args.cursor.now.family c.args.cursor.now.root taken given c.args.cursor.now.path c.top-top.result c.args.cursor.now.floor c.args.cursor.now.last c.args.cursor.now.last_page (marked c.args.seen.now) (length c.args.cursor.now.path) refl c.requires.begun c.top-top.ensures at
+    c.in-Ok-Child.c (marked c.enter.new.seen) (rw c.in-Ok-Child.field-0-is at (c.in-Ok-Child.ensures.value c.args.cursor.now.family node.body told node.reads)) _ (ap (λ p. is_in_range p c.in-Ok-Child.c) (sym same)) c.in-Err-enter.ensures.named)
+
+pub returns-in-Err-read_payload-clause-marks : goal.returns-in-Err-read_payload-clause-marks
+returns-in-Err-read_payload-clause-marks g c told taken given at =
+    let node : IsNode (g.S.PageSource.plain c.args.source.now) c.args.cursor.now.family c.top-top.result.page = (top_node (g.S.PageSource.plain c.args.source.now) c.args.cursor.now.family c.args.cursor.now.root taken given c.args.cursor.now.path c.top-top.result c.args.cursor.now.floor c.args.cursor.now.last c.args.cursor.now.last_page (marked c.args.seen.now) (length c.args.cursor.now.path) refl c.requires.begun c.top-top.ensures at) in
+    let same : g.S.PageSource.plain c.take_step.new.source ≡ g.S.PageSource.plain c.args.source.now = g.met.S.PageSource.same_pages c.args.source.now c.take_step.new.source c.in-Ok-Cell.ensures.reads told in
+    (turn_cut_marked (g.S.PageSource.plain c.args.source.now) c.args.cursor.now.family c.args.cursor.now.root taken given c.args.cursor.now.path c.top-top.result c.args.cursor.now.floor c.args.cursor.now.last c.args.cursor.now.last_page (marked c.args.seen.now) (length c.args.cursor.now.path) refl c.requires.begun c.top-top.ensures at
+    c.in-Ok-Cell.rowid (record { size = c.in-Ok-Cell.length; local = c.take_step.new.local.items; first = c.in-Ok-Cell.first }) (marked c.read_payload.new.seen) (rw c.in-Ok-Cell.field-0-is at (c.in-Ok-Cell.ensures.value c.args.cursor.now.family node.body told node.reads)) (sym c.if-is_low.ensures)
+    (λ met marks. subst (λ p. IsMarked (chain_of p taken met c.top-top.result.page (record { size = c.in-Ok-Cell.length; local = c.take_step.new.local.items; first = c.in-Ok-Cell.first })) (marked c.args.seen.now) (marked c.read_payload.new.seen)) same (c.in-Err-read_payload.ensures.marks told taken met marks)))
