@@ -63,41 +63,61 @@ none_left : (usable : ℕ) (kind : Kind) (todos : List (List Step)) → HoldLeve
 none_left usable kind [] h = refl
 none_left usable kind (t ∷ todos) h = absurd h
 
--- no level is left
-pub root_is : (pages : Pages) (levels : List Level) (usable : ℕ) (kind : Kind) (todos : List (List Step)) (h left m : ℕ) (last : Option ℤ) (pushed : List Entry) → levels ≡ []
-    → h + left ≤ 20 → HoldLevels levels usable kind todos → Stands pages (family_of kind) last (opened h todos ++ (record { height = h; leads = child m } ∷ [])) pushed
-    → option_map (map entry_of) (tree pages (family_of kind) m) ≡ Some pushed
-root_is pages levels usable kind todos h left m last pushed none low hold st =
+-- no level is left: this is the last page
+pub last_page : (pages : Pages) (levels : List Level) (usable : ℕ) (kind own : Kind) (cells : List Cell) (todos : List (List Step)) (h below : ℕ) (last : Option ℤ) (pushed : List Entry) → levels ≡ []
+    → HoldLevels levels usable kind todos
+    → Stands pages (family_of kind) last (opened (suc h) todos ++ (at_height h (steps cells None) ++ at_height h (steps [] (right_child own below)))) pushed
+    → Stands pages (family_of kind) last (at_height h (steps cells (right_child own below))) pushed
+last_page pages levels usable kind own cells todos h below last pushed none hold st =
     let no : todos ≡ [] = none_left usable kind todos (subst (λ l. HoldLevels l usable kind todos) none hold) in
-    let st' : Stands pages (family_of kind) last (record { height = h; leads = child m } ∷ []) pushed =
-    subst (λ t. Stands pages (family_of kind) last (opened h t ++ (record { height = h; leads = child m } ∷ [])) pushed) no st
-    in
-    child_tree pages (family_of kind) last pushed h m (child_range pages (family_of kind) last pushed h m st') (omega arith) st'
+    subst (λ l. Stands pages (family_of kind) last l pushed) (with_last own cells below h)
+    (subst (λ t. Stands pages (family_of kind) last (opened (suc h) t ++ (at_height h (steps cells None) ++ at_height h (steps [] (right_child own below)))) pushed) no st)
 
--- what `end` ensures
-abbrev pub Ends : Pages → Pages → Level → List Level → List Level → Kind → ℕ → ℕ → Type 0
-Ends old new level above above' kind below m =
-    (todo : List Step) (todos : List (List Step)) (h : ℕ) (last : Option ℤ) (pushed : List Entry) → up_kind level.page.kind ≡ kind → HoldsLevel level old.usable todo
-    → HoldLevels above old.usable kind todos
-    → Stands old (family_of kind) last (opened (suc h) todos ++ (at_height h todo ++ at_height h (steps [] (right_child level.page.kind below)))) pushed
-    → AreOpen new above' old.usable kind (suc h) (record { height = suc h; leads = child m } ∷ []) last pushed
+-- the page was put at the next number
+pub closed_tree : (old new : Pages) (page : Draft) (kind : Kind) (usable right m : ℕ) (cells : List Cell) (h : ℕ) (last : Option ℤ) (pushed : List Entry)
+    → Closes old new page right m → up_kind page.kind ≡ kind → HasCells page old.usable cells → h ≤ 18
+    → Stands old (family_of kind) last (at_height h (steps cells (right_child page.kind right))) pushed
+    → Stands new (family_of kind) last (record { height = suc h; leads = child m } ∷ []) pushed
+closed_tree old new page kind usable right m cells h last pushed closes up has low st =
+    let fam : family_of page.kind ≡ family_of kind = sym (family_up page.kind) ∙ ap family_of up in
+    subst (λ f. Stands new f last (record { height = suc h; leads = child m } ∷ []) pushed) fam
+    (closes cells h [] [] last pushed has
+    (subst (λ f. Stands old f last (at_height h (steps cells (right_child page.kind right)) ++ []) pushed) (sym fam)
+    (subst (λ l. Stands old (family_of kind) last l pushed) (sym (append-nil (at_height h (steps cells (right_child page.kind right))))) st)))
 
--- the lowest level ends
-pub next_ends : (old new : Pages) (level : Level) (levels above above' : List Level) (kind : Kind) (below m : ℕ) (todos : List (List Step)) (h : ℕ) (last : Option ℤ) (pushed : List Entry)
-    → Ends old new level above above' kind below m → levels ≡ level ∷ above → is_interior kind ≡ true → HoldLevels levels old.usable kind todos
-    → Stands old (family_of kind) last (opened h todos ++ (record { height = h; leads = child below } ∷ [])) pushed
-    → AreOpen new above' old.usable kind (suc h) (record { height = suc h; leads = child m } ∷ []) last pushed
-next_ends old new level levels above above' kind below m todos h last pushed ends parts inner hold st =
-    let f = first_level level above old.usable kind todos (subst (λ l. HoldLevels l old.usable kind todos) parts hold) in
-    let one : List Open = record { height = h; leads = child below } ∷ [] in
-    ends f.0 f.1 h last pushed (ap up_kind f.3 ∙ up_same kind inner) f.4 f.5
-    (subst (λ l. Stands old (family_of kind) last l pushed)
-    (ap (λ l. opened h l ++ one) f.2 ∙ append_assoc (opened (suc h) f.1) (at_height h f.0) one
-    ∙ ap (λ r. opened (suc h) f.1 ++ (at_height h f.0 ++ at_height h (steps [] r))) (sym (right_is kind below inner) ∙ ap (λ k. right_child k below) (sym f.3)))
-    st)
+pub child_is : (new : Pages) (family : Family) (h m : ℕ) (last : Option ℤ) (pushed : List Entry) → h ≤ 18
+    → Stands new family last (record { height = suc h; leads = child m } ∷ []) pushed → option_map (map entry_of) (tree new family m) ≡ Some pushed
+child_is new family h m last pushed low st =
+    child_tree new family last pushed (suc h) m (child_range new family last pushed (suc h) m st) (omega arith) st
 
-pub one_less : (h left : ℕ) → h + left ≤ 20 → (left ≡ 0 → ⊥) → suc h + (left - 1) ≤ 20
-one_less h left low some = omega arith
+-- the next level, whose last child is the page that was put
+pub record IsNextLevel (new : Pages) (next : Level) (above : List Level) (usable : ℕ) (kind : Kind) (h m : ℕ) (last : Option ℤ) (pushed : List Entry) : Type 0 where
+  pub todo : List Step
+  pub todos : List (List Step)
+  pub is_kind : up_kind next.page.kind ≡ kind
+  pub hold : HoldsLevel next usable todo
+  pub holds : HoldLevels above usable kind todos
+  pub stands : Stands new (family_of kind) last (opened (suc h) todos ++ (at_height h todo ++ at_height h (steps [] (right_child next.page.kind m)))) pushed
+
+pub next_level : (new : Pages) (next : Level) (levels above : List Level) (usable : ℕ) (kind : Kind) (todos : List (List Step)) (h m : ℕ) (last : Option ℤ) (pushed : List Entry)
+    → levels ≡ next ∷ above → is_interior kind ≡ true → HoldLevels levels usable kind todos
+    → Stands new (family_of kind) last (opened h todos ++ (record { height = h; leads = child m } ∷ [])) pushed
+    → IsNextLevel new next above usable kind h m last pushed
+next_level new next levels above usable kind todos h m last pushed parts inner hold st =
+    let f = first_level next above usable kind todos (subst (λ l. HoldLevels l usable kind todos) parts hold) in
+    let one : List Open = record { height = h; leads = child m } ∷ [] in
+    record {
+      todo = f.0;
+      todos = f.1;
+      is_kind = ap up_kind f.3 ∙ up_same kind inner;
+      hold = f.4;
+      holds = f.5;
+      stands =
+          subst (λ l. Stands new (family_of kind) last l pushed)
+          (ap (λ l. opened h l ++ one) f.2 ∙ append_assoc (opened (suc h) f.1) (at_height h f.0) one
+          ∙ ap (λ r. opened (suc h) f.1 ++ (at_height h f.0 ++ at_height h (steps [] r))) (sym (right_is kind m inner) ∙ ap (λ k. right_child k m) (sym f.3)))
+          st;
+    }
 
 pub leaf_right : (kind : Kind) (n : ℕ) → is_interior kind ≡ false → right_child kind n ≡ None
 leaf_right TableLeaf n h = refl

@@ -5,6 +5,7 @@ pub mod DrainLemmas
 pub mod EndLemmas
 pub mod LevelLemmas
 pub mod LevelsLemmas
+pub mod MemOutLemmas
 pub mod PushLemmas
 pub mod PutLemmas
 pub mod RowLemmas

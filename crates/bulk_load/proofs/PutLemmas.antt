@@ -1,5 +1,5 @@
 -- What puts keep, one after another.
-use Rattle.std.proofs.Common.{◌≡◌, ◌≤◌, ◌<◌, ℕ, ◌+◌, Bool, true, false, List, ◌==◌, ◌&&◌, refl, ap, sym, ◌∙◌, arith}
+use Rattle.std.proofs.Common.{◌≡◌, ◌≤◌, ◌<◌, ℕ, ◌+◌, Bool, true, false, List, ◌==◌, ◌&&◌, Result, Ok, Err, OnOk, refl, ap, sym, ◌∙◌, arith}
 use Rattle.std.specs.Prelude.{nat_le, nat_lt}
 use Rattle.std.proofs.lemmas.Bool.{eqb-true}
 use Rattle.db_format.specs.Pages.{Pages}
@@ -28,60 +28,130 @@ old_one a n k is h = grind arith
 le_and : (a b c d : ℕ) → a ≤ b → c ≤ d → (nat_le a b && nat_le c d) ≡ true
 le_and a b c d h g = grind arith
 
+not_first : (first b : Bool) → b ≡ false → (first && b) ≡ false
+not_first true b h = h
+not_first false b h = refl
+
 module _ {S : Type 0} (pages : S → Pages) (limit : S → ℕ) (faults : S → Faults) (well : ℕ → S → Type 0) where
-  pub keeps_same : (a : S) → Keeps pages limit faults well a a
+  pub keeps_same : (a : S) → Keeps pages limit faults well false a a
   keeps_same a = record {
     size = refl;
     count = omega arith;
     put = λ k h. h;
-    others = λ k h. refl;
+    others = λ k free h. refl;
     page = λ start w k h. refl;
     limit_is = refl;
     disk = omega arith;
     entropy = omega arith;
   }
 
-  pub keeps_after : (a b c : S) → Follows pages limit faults well a b → Keeps pages limit faults well b c → Keeps pages limit faults well a c
-  keeps_after a b c f k = record {
+  pub keeps_after : (first : Bool) (a b c : S) → Follows pages limit faults well false a b → Keeps pages limit faults well first b c
+      → Keeps pages limit faults well first a c
+  keeps_after first a b c f k = record {
     size = k.size ∙ f.keeps.size;
     count = let one = f.keeps.count in let two = k.count in omega arith;
     put = λ n h. k.put n (f.keeps.put n h);
-    others = λ n h.
-        k.others n (new_right (pages a).count (pages b).count (pages c).count n f.keeps.count k.count h)
-        ∙ f.keeps.others n (new_left (pages a).count (pages b).count (pages c).count n f.keeps.count k.count h);
+    others = λ n free h.
+        k.others n free (new_right (pages a).count (pages b).count (pages c).count n f.keeps.count k.count h)
+        ∙ f.keeps.others n refl (new_left (pages a).count (pages b).count (pages c).count n f.keeps.count k.count h);
     page = λ start w n h. k.page start (f.told start w) n (f.keeps.put n h) ∙ f.keeps.page start w n h;
     limit_is = k.limit_is ∙ f.keeps.limit_is;
     disk = let one = f.keeps.disk in let two = k.disk in omega arith;
     entropy = let one = f.keeps.entropy in let two = k.entropy in omega arith;
   }
 
-  pub follows_same : (a : S) → Follows pages limit faults well a a
+  pub follows_same : (a : S) → Follows pages limit faults well false a a
   follows_same a = record {
     keeps = keeps_same a;
     puts = λ k h. let no : true ≡ false = sym h ∙ new_none (pages a).count k in cc;
+    puts_first = λ h. cc;
     told = λ start w. w;
   }
 
-  pub follows_all : (a b c : S) → Follows pages limit faults well a b → Follows pages limit faults well b c → Follows pages limit faults well a c
-  follows_all a b c f g = record {
-    keeps = keeps_after a b c f g.keeps;
+  pub follows_all : (first : Bool) (a b c : S) → Follows pages limit faults well false a b → Follows pages limit faults well first b c
+      → Follows pages limit faults well first a c
+  follows_all first a b c f g = record {
+    keeps = keeps_after first a b c f g.keeps;
     puts = λ n h. at_n n h (is_new (pages a) (pages b) n) refl;
+    puts_first = g.puts_first;
     told = λ start w. g.told start (f.told start w);
   }
     where
-      at_n : (n : ℕ) → is_new (pages a) (pages c) n ≡ true → (first : Bool) → is_new (pages a) (pages b) n ≡ first → (pages c).accepts n ≡ true
+      at_n : (n : ℕ) → is_new (pages a) (pages c) n ≡ true → (b' : Bool) → is_new (pages a) (pages b) n ≡ b' → (pages c).accepts n ≡ true
       at_n n h true is = g.keeps.put n (f.puts n is)
       at_n n h false is = g.puts n (new_either (pages a).count (pages b).count (pages c).count n h is)
+
+  -- page 1 may have been put besides
+  pub keeps_more : (first : Bool) (a b : S) → Keeps pages limit faults well false a b → Keeps pages limit faults well first a b
+  keeps_more first a b k = record {
+    size = k.size;
+    count = k.count;
+    put = k.put;
+    others = λ n free h. k.others n refl h;
+    page = k.page;
+    limit_is = k.limit_is;
+    disk = k.disk;
+    entropy = k.entropy;
+  }
+
+  -- page 1 is put, or was not
+  module _ (a b : S) (marks : MarksAt (pages a) (pages b) 1) (free : (pages a).accepts 1 ≡ false) where
+    other_put : (k : ℕ) → (pages a).accepts k ≡ true → (1 == k) ≡ false
+    other_put k h = by_case (1 == k) refl
+      where
+        by_case : (e : Bool) → (1 == k) ≡ e → (1 == k) ≡ false
+        by_case false is = is
+        by_case true is = let no : true ≡ false = sym h ∙ ap (pages a).accepts (sym (eqb-true 1 k is)) ∙ free in cc
+
+    pub first_keeps : ((start : ℕ) → well start a → SameBut (pages a) (pages b) 1) → limit b ≡ limit a
+        → (faults a).disk ≤ (faults b).disk → (faults a).entropy ≤ (faults b).entropy → Keeps pages limit faults well true a b
+    first_keeps told limits disk entropy =
+        let same : (pages b).count ≡ (pages a).count = marks.count in
+        record {
+          size = marks.size;
+          count = omega arith;
+          put = λ k h. marks.others k (other_put k h) ∙ h;
+          others = λ k differs h. marks.others k (flip k differs);
+          page = λ start w k h. told start w k (other_put k h);
+          limit_is = limits;
+          disk = disk;
+          entropy = entropy;
+        }
+      where
+        flip : (k : ℕ) → (true && k == 1) ≡ false → (1 == k) ≡ false
+        flip k h = grind arith
+
+    -- no number was taken
+    pub first_puts : (k : ℕ) → is_new (pages a) (pages b) k ≡ true → (pages b).accepts k ≡ true
+    first_puts k h =
+        let no : true ≡ false = sym h ∙ ap (λ m. nat_lt (pages a).count k && nat_le k m) marks.count ∙ new_none (pages a).count k in cc
+
+    pub first_put : SameBut (pages a) (pages b) 1 → (pages b).accepts 1 ≡ true → IsPut (pages a) (pages b) 1
+    first_put told put = record {
+      fresh = free;
+      put = put;
+      size = marks.size;
+      range = λ n h. ap (λ m. nat_le 2 n && nat_le n m) marks.count ∙ h;
+      stays = told;
+      stays_put = marks.others;
+    }
+
+  -- page 1 is as it was
+  pub still_free : (a b : S) → 1 ≤ (pages a).count → Keeps pages limit faults well false a b → (pages a).accepts 1 ≡ false → (pages b).accepts 1 ≡ false
+  still_free a b some k free = k.others 1 refl (not_new (pages a).count (pages b).count some) ∙ free
+    where
+      not_new : (m p : ℕ) → 1 ≤ m → (nat_lt m 1 && nat_le 1 p) ≡ false
+      not_new m p h = grind arith
 
   -- no number was given
   pub refused_keeps : (a b : S) → SameNumbers (pages a) (pages b)
       → ((start : ℕ) → well start a → (k : ℕ) → (pages b).page k ≡ (pages a).page k) → limit b ≡ limit a
-      → (faults a).disk ≤ (faults b).disk → (faults a).entropy ≤ (faults b).entropy → Keeps pages limit faults well a b
+      → (faults a).disk ≤ (faults b).disk → (faults a).entropy ≤ (faults b).entropy → Keeps pages limit faults well false a b
   refused_keeps a b same told limits disk entropy = record {
     size = same.size;
     count = let is : (pages b).count ≡ (pages a).count = same.count in omega arith;
     put = λ k h. same.accepts k ∙ h;
-    others = λ k h. same.accepts k;
+    others = λ k free h. same.accepts k;
     page = λ start w k h. told start w k;
     limit_is = limits;
     disk = disk;
@@ -101,7 +171,7 @@ module _ {S : Type 0} (pages : S → Pages) (limit : S → ℕ) (faults : S → 
             let no : true ≡ false = sym h ∙ sym (taken.accepts k) ∙ ap (pages b).accepts (sym (eqb-true n k is)) ∙ taken.free in cc
 
     pub next_keeps : limit b ≡ limit a → limit c ≡ limit b → (faults a).disk ≤ (faults b).disk → (faults b).disk ≤ (faults c).disk
-        → (faults a).entropy ≤ (faults b).entropy → (faults b).entropy ≤ (faults c).entropy → Keeps pages limit faults well a c
+        → (faults a).entropy ≤ (faults b).entropy → (faults b).entropy ≤ (faults c).entropy → Keeps pages limit faults well false a c
     next_keeps limits limits' disk disk' entropy entropy' =
         let one = taken.count in
         let same = marks.count in
@@ -110,7 +180,7 @@ module _ {S : Type 0} (pages : S → Pages) (limit : S → ℕ) (faults : S → 
           size = marks.size ∙ taken.size;
           count = omega arith;
           put = λ k h. marks.others k (differs k h) ∙ taken.accepts k ∙ h;
-          others = λ k h.
+          others = λ k free h.
               marks.others k (old_one (pages a).count n k (is ∙ one) (ap (λ m. nat_lt (pages a).count k && nat_le k m) (sym (same ∙ one)) ∙ h)) ∙ taken.accepts k;
           page = λ start w k h. told start (well_taken start w) k (differs k h) ∙ told_taken start w k;
           limit_is = limits' ∙ limits;
@@ -145,3 +215,7 @@ module _ {S : Type 0} (pages : S → Pages) (limit : S → ℕ) (faults : S → 
       where
         wider : (k m p : ℕ) → m ≤ p → (nat_le 2 k && nat_le k m) ≡ true → (nat_le 2 k && nat_le k p) ≡ true
         wider k m p g h = grind arith
+
+pub on_ok_both : {T E A B C : Type 0} (r : Result T E) → (A → B → C) → OnOk r A → OnOk r B → OnOk r C
+on_ok_both (Ok x) f a b = f a b
+on_ok_both (Err e) f a b = tt

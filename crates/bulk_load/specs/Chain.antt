@@ -46,5 +46,5 @@ pub record IsPutting {S : Type 0} (pages : S → Pages) (limit : S → ℕ) (fau
   pub small : left < size
   pub part : (left ≡ 0) ⊎ (end ≡ length rest)
   pub begun : ((next ≡ 0) × (end ≡ length rest)) ⊎ ((2 ≤ next) × (end < length rest))
-  pub follows : Follows pages limit faults well old new
+  pub follows : Follows pages limit faults well false old new
   pub fresh : only old new

@@ -5,5 +5,6 @@ pub mod Leaf
 pub mod Level
 pub mod Levels
 pub mod Loader
+pub mod MemOut
 pub mod Out
 pub mod Settle

@@ -44,22 +44,23 @@ SameBut old new n = (k : ℕ) → (n == k) ≡ false → new.page k ≡ old.page
 abbrev pub is_new : Pages → Pages → ℕ → Bool
 is_new old new k = nat_lt old.count k && nat_le k new.count
 
--- Whatever was answered: each page that was put before is put still, and only numbers that were taken in between were put. Where
--- the pages are told, those that were put before read as they did.
-pub record Keeps {S : Type 0} (pages : S → Pages) (limit : S → ℕ) (faults : S → Faults) (well : ℕ → S → Type 0) (old new : S) : Type 0 where
+-- Whatever was answered: each page that was put before is put still, and only numbers that were taken in between were put, with
+-- `first` also page 1. Where the pages are told, those that were put before read as they did.
+pub record Keeps {S : Type 0} (pages : S → Pages) (limit : S → ℕ) (faults : S → Faults) (well : ℕ → S → Type 0) (first : Bool) (old new : S) : Type 0 where
   pub size : (pages new).usable ≡ (pages old).usable
   pub count : (pages old).count ≤ (pages new).count
   pub put : (k : ℕ) → (pages old).accepts k ≡ true → (pages new).accepts k ≡ true
-  pub others : (k : ℕ) → is_new (pages old) (pages new) k ≡ false → (pages new).accepts k ≡ (pages old).accepts k
+  pub others : (k : ℕ) → (first && k == 1) ≡ false → is_new (pages old) (pages new) k ≡ false → (pages new).accepts k ≡ (pages old).accepts k
   pub page : (start : ℕ) → well start old → (k : ℕ) → (pages old).accepts k ≡ true → (pages new).page k ≡ (pages old).page k
   pub limit_is : limit new ≡ limit old
   pub disk : (faults old).disk ≤ (faults new).disk
   pub entropy : (faults old).entropy ≤ (faults new).entropy
 
--- After Ok besides: each number that was taken in between was put, and the pages are still told.
-pub record Follows {S : Type 0} (pages : S → Pages) (limit : S → ℕ) (faults : S → Faults) (well : ℕ → S → Type 0) (old new : S) : Type 0 where
-  pub keeps : Keeps pages limit faults well old new
+-- After Ok besides: each number that was taken in between was put, with `first` also page 1, and the pages are still told.
+pub record Follows {S : Type 0} (pages : S → Pages) (limit : S → ℕ) (faults : S → Faults) (well : ℕ → S → Type 0) (first : Bool) (old new : S) : Type 0 where
+  pub keeps : Keeps pages limit faults well first old new
   pub puts : (k : ℕ) → is_new (pages old) (pages new) k ≡ true → (pages new).accepts k ≡ true
+  pub puts_first : first ≡ true → (pages new).accepts 1 ≡ true
   pub told : (start : ℕ) → well start old → well start new
 
 -- why no page was taken or put: all numbers were given, or a count of failures rose

@@ -1,5 +1,5 @@
 // Overflow pages, section 1.7. A chain is put from its end, so each page names one that was put.
-ghost use Rattle.std.specs.Prelude.{◌≡◌, ℕ, ◌+◌, ◌≤◌, ◌<◌, length, IfOk, IfErr, OnOk};
+ghost use Rattle.std.specs.Prelude.{◌≡◌, ℕ, ◌+◌, ◌≤◌, ◌<◌, length, IfOk, IfErr, OnOk, false};
 ghost use Rattle.bulk_load.specs.Chain.{IsLink, IsPutChain};
 ghost use Rattle.bulk_load.specs.Out.{Follows, HasCause, Keeps};
 
@@ -20,8 +20,8 @@ fn put_link<P: PageOut>(
     ensures link { (start : ℕ) → P.well start out.old → IfOk result (λ n. IsLink (P.pages out.old) (P.pages out.new) n next piece.now) }
     ensures low { IfOk result (λ n. 2 ≤ n) }
     ensures one { OnOk result ((P.pages out.new).count ≡ (P.pages out.old).count + 1) }
-    ensures keeps { Keeps P.pages P.limit P.faults P.well out.old out.new }
-    ensures follows { OnOk result (Follows P.pages P.limit P.faults P.well out.old out.new) }
+    ensures keeps { Keeps P.pages P.limit P.faults P.well false out.old out.new }
+    ensures follows { OnOk result (Follows P.pages P.limit P.faults P.well false out.old out.new) }
     ensures cause { IfErr result (HasCause P.pages P.limit P.faults out.old out.new) }
     ensures fresh { P.only_fresh out.old out.new }
 {
@@ -38,8 +38,8 @@ pub fn put_chain<P: PageOut>(out: &mut P, page: &mut Vec<u8>, rest: &[u8]) -> Re
     ensures chain { (start : ℕ) → P.well start out.old → IfOk result (λ n. IsPutChain (P.pages out.old) (P.pages out.new) n rest.now) }
     ensures none { length rest.now ≡ 0 → IfOk result (λ n. n ≡ 0) }
     ensures some { 0 < length rest.now → IfOk result (λ n. 2 ≤ n) }
-    ensures keeps { Keeps P.pages P.limit P.faults P.well out.old out.new }
-    ensures follows { OnOk result (Follows P.pages P.limit P.faults P.well out.old out.new) }
+    ensures keeps { Keeps P.pages P.limit P.faults P.well false out.old out.new }
+    ensures follows { OnOk result (Follows P.pages P.limit P.faults P.well false out.old out.new) }
     ensures cause { IfErr result (HasCause P.pages P.limit P.faults out.old out.new) }
     ensures fresh { P.only_fresh out.old out.new }
 {

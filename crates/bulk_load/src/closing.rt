@@ -1,5 +1,5 @@
 // A page that is full is put.
-ghost use Rattle.std.specs.Prelude.{◌≡◌, ℕ, suc, ℤ, ◌+◌, List, [], ◌∷◌, ◌++◌, Option, IfOk, IfErr, OnOk};
+ghost use Rattle.std.specs.Prelude.{◌≡◌, ℕ, suc, ℤ, ◌+◌, List, [], ◌∷◌, ◌++◌, Option, IfOk, IfErr, OnOk, false};
 ghost use Rattle.btree_page.specs.Cell.{Cell};
 ghost use Rattle.btree_page.specs.Kind.{family_of};
 ghost use Rattle.btree_page.specs.Step.{steps, child};
@@ -24,8 +24,8 @@ pub fn close<P: PageOut>(page: &mut PageBuilder, out: &mut P, right: u32) -> Res
         → Stands (P.pages out.old) (family_of page.old.kind) last (front ++ (at_height h (steps cells (right_child page.old.kind right)) ++ back)) pushed
         → IfOk result (λ m. Stands (P.pages out.new) (family_of page.old.kind) last (front ++ (record { height = suc h; leads = child m } ∷ back)) pushed) }
     ensures one { OnOk result ((P.pages out.new).count ≡ (P.pages out.old).count + 1) }
-    ensures keeps { Keeps P.pages P.limit P.faults P.well out.old out.new }
-    ensures follows { OnOk result (Follows P.pages P.limit P.faults P.well out.old out.new) }
+    ensures keeps { Keeps P.pages P.limit P.faults P.well false out.old out.new }
+    ensures follows { OnOk result (Follows P.pages P.limit P.faults P.well false out.old out.new) }
     ensures cause { IfErr result (HasCause P.pages P.limit P.faults out.old out.new) }
     ensures fresh { P.only_fresh out.old out.new }
 {

@@ -1,5 +1,5 @@
 // The open leaf of a table.
-ghost use Rattle.std.specs.Prelude.{◌≡◌, ℕ, ℤ, ◌+◌, ◌≤◌, max, List, [], ◌∷◌, ◌++◌, Some, None, IfOk, IfErr, OnOk};
+ghost use Rattle.std.specs.Prelude.{◌≡◌, ℕ, ℤ, ◌+◌, ◌≤◌, max, List, [], ◌∷◌, ◌++◌, Some, None, IfOk, IfErr, OnOk, false};
 ghost use Rattle.btree_page.specs.declared.kind.Family.TheVariants.{Table};
 ghost use Rattle.btree_page.specs.declared.kind.Kind.TheVariants.{TableLeaf};
 ghost use Rattle.btree_page.specs.Cell.{Cell};
@@ -34,8 +34,8 @@ pub fn make_room<P: PageOut>(
         → HasCells leaf.old (P.pages out.old).usable cells
         → Stands (P.pages out.old) Table (Some k) (front ++ at_height 0 (steps cells None)) pushed
         → IfOk result (HasRoom (P.pages out.new) leaf.new (P.pages out.old).usable k cells front pushed) }
-    ensures keeps { Keeps P.pages P.limit P.faults P.well out.old out.new }
-    ensures follows { OnOk result (Follows P.pages P.limit P.faults P.well out.old out.new) }
+    ensures keeps { Keeps P.pages P.limit P.faults P.well false out.old out.new }
+    ensures follows { OnOk result (Follows P.pages P.limit P.faults P.well false out.old out.new) }
     ensures cause { IfErr result (HasCause P.pages P.limit P.faults out.old out.new) }
     ensures fresh { P.only_fresh out.old out.new }
 {

@@ -1,5 +1,5 @@
 // The open page of one level, and what waits to be put on it.
-ghost use Rattle.std.specs.Prelude.{◌≡◌, ℕ, suc, ℤ, ◌+◌, ◌≤◌, List, [], ◌∷◌, ◌++◌, length, drop, Option, None, IfOk, IfErr, OnOk, vec_len};
+ghost use Rattle.std.specs.Prelude.{◌≡◌, ℕ, suc, ℤ, ◌+◌, ◌≤◌, List, [], ◌∷◌, ◌++◌, length, drop, Option, None, IfOk, IfErr, OnOk, vec_len, false};
 ghost use Rattle.std.specs.Option.{option_to_list};
 ghost use Rattle.db_format.specs.Pages.{IsUsable};
 ghost use Rattle.btree_page.specs.Kind.{family_of};
@@ -60,8 +60,8 @@ impl Level {
             → IsPair pair self.old.page.kind (P.pages out.old).usable s
             → Stands (P.pages out.old) (family_of self.old.page.kind) last (front ++ (at_height h todo ++ (at_height h (on self.old.page.kind pair.child s) ++ back))) pushed
             → IfOk result (IsEntered (P.pages out.new) self.new (P.pages out.old).usable self.old.page.kind h front back last pushed) }
-        ensures keeps { Keeps P.pages P.limit P.faults P.well out.old out.new }
-        ensures follows { OnOk result (Follows P.pages P.limit P.faults P.well out.old out.new) }
+        ensures keeps { Keeps P.pages P.limit P.faults P.well false out.old out.new }
+        ensures follows { OnOk result (Follows P.pages P.limit P.faults P.well false out.old out.new) }
         ensures cause { IfErr result (HasLoadCause P.pages P.limit P.faults out.old out.new) }
         ensures fresh { P.only_fresh out.old out.new }
     {

@@ -1,20 +1,16 @@
 // The levels of interior pages, from the lowest up.
-ghost use Rattle.std.specs.Prelude.{◌≡◌, ℕ, suc, ℤ, ◌+◌, ◌≤◌, true, List, [], ◌∷◌, ◌++◌, length, Option, Some, None, map, IfOk, IfErr, OnOk, MatchOption};
-ghost use Rattle.std.specs.Option.{option_map};
+ghost use Rattle.std.specs.Prelude.{◌≡◌, ℕ, suc, ℤ, ◌+◌, ◌≤◌, true, List, [], ◌∷◌, ◌++◌, length, Option, Some, None, map, IfOk, IfErr, OnOk, MatchOption, false};
 ghost use Rattle.db_format.specs.Pages.{IsUsable};
 ghost use Rattle.btree_page.specs.Kind.{family_of, is_interior};
 ghost use Rattle.btree_page.specs.Step.{Step, steps, child};
-ghost use Rattle.btree_model.specs.Content.{Entry, entry_of};
-ghost use Rattle.btree_model.specs.Tree.{tree};
+ghost use Rattle.btree_model.specs.Content.{Entry};
 ghost use Rattle.load_model.specs.Open.{Open, at_height};
 ghost use Rattle.load_model.specs.Stands.{Stands};
-ghost use Rattle.page_build.specs.Written.{right_child};
 ghost use Rattle.bulk_load.specs.Level.{IsReady, HoldsLevel};
 ghost use Rattle.bulk_load.specs.Levels.{AreReady, HoldLevels, opened, AreOpen, IsDrained};
 ghost use Rattle.bulk_load.specs.Out.{Follows, HasLoadCause, Keeps};
 ghost use Rattle.bulk_load.specs.Settle.{IsPair, two, up_kind};
 
-use crate::closing::close;
 use crate::error::LoadError;
 use crate::level::Level;
 use crate::out::PageOut;
@@ -39,7 +35,7 @@ fn over(alloc: Global, usable: usize, kind: Kind, pair: Pair) -> Result<Level, L
 }
 
 // The lowest of these levels, if there is one.
-fn take_lowest(levels: &mut Vec<Level>) -> Option<Level>
+pub fn take_lowest(levels: &mut Vec<Level>) -> Option<Level>
     ensures { MatchOption result ((levels.old.items ≡ []) × (levels.new.items ≡ [])) (λ level. levels.old.items ≡ level ∷ levels.new.items) }
 {
     if levels.is_empty() {
@@ -87,8 +83,8 @@ pub fn climb<P: PageOut>(
         → IsPair pair kind (P.pages out.old).usable s
         → Stands (P.pages out.old) (family_of kind) last (opened h todos ++ (two h pair.child s ++ back)) pushed
         → OnOk result (AreOpen (P.pages out.new) levels.new.items (P.pages out.old).usable kind h back last pushed) }
-    ensures keeps { Keeps P.pages P.limit P.faults P.well out.old out.new }
-    ensures follows { OnOk result (Follows P.pages P.limit P.faults P.well out.old out.new) }
+    ensures keeps { Keeps P.pages P.limit P.faults P.well false out.old out.new }
+    ensures follows { OnOk result (Follows P.pages P.limit P.faults P.well false out.old out.new) }
     ensures cause { IfErr result (HasLoadCause P.pages P.limit P.faults out.old out.new) }
     ensures fresh { P.only_fresh out.old out.new }
 {
@@ -133,8 +129,8 @@ pub fn drain<P: PageOut>(
         → HoldLevels above.old.items (P.pages out.old).usable kind todos
         → Stands (P.pages out.old) (family_of kind) last (opened (suc h) todos ++ (at_height h todo ++ back)) pushed
         → OnOk result (IsDrained (P.pages out.new) level.new above.new.items (P.pages out.old).usable kind h back last pushed) }
-    ensures keeps { Keeps P.pages P.limit P.faults P.well out.old out.new }
-    ensures follows { OnOk result (Follows P.pages P.limit P.faults P.well out.old out.new) }
+    ensures keeps { Keeps P.pages P.limit P.faults P.well false out.old out.new }
+    ensures follows { OnOk result (Follows P.pages P.limit P.faults P.well false out.old out.new) }
     ensures cause { IfErr result (HasLoadCause P.pages P.limit P.faults out.old out.new) }
     ensures fresh { P.only_fresh out.old out.new }
 {
@@ -150,65 +146,4 @@ pub fn drain<P: PageOut>(
             drain(level, above, out, kind)
         }
     }
-}
-
-/// The end of a level: all that waits is put, and the page is closed with this last child, if the level has children.
-#[tactic(auto, using(crate::proofs::PutLemmas::keeps_after, crate::proofs::PutLemmas::keeps_same, crate::proofs::PutLemmas::follows_same, crate::proofs::PutLemmas::follows_all))]
-pub fn end<P: PageOut>(
-    level: &mut Level,
-    above: &mut Vec<Level>,
-    out: &mut P,
-    kind: Kind,
-    below: u32,
-) -> Result<u32, LoadError>
-    requires ready { IsReady level.old (P.pages out.old).usable }
-    requires ready_above { AreReady above.old.items (P.pages out.old).usable }
-    ensures ready_above { OnOk result (AreReady above.new.items (P.pages out.old).usable) }
-    ensures ended { (start : ℕ) → P.well start out.old → (todo : List Step) (todos : List (List Step)) (h : ℕ) (last : Option ℤ) (pushed : List Entry)
-        → up_kind level.old.page.kind ≡ kind
-        → HoldsLevel level.old (P.pages out.old).usable todo
-        → HoldLevels above.old.items (P.pages out.old).usable kind todos
-        → Stands (P.pages out.old) (family_of kind) last (opened (suc h) todos ++ (at_height h todo ++ at_height h (steps [] (right_child level.old.page.kind below)))) pushed
-        → IfOk result (λ m. AreOpen (P.pages out.new) above.new.items (P.pages out.old).usable kind (suc h) (record { height = suc h; leads = child m } ∷ []) last pushed) }
-    ensures keeps { Keeps P.pages P.limit P.faults P.well out.old out.new }
-    ensures follows { OnOk result (Follows P.pages P.limit P.faults P.well out.old out.new) }
-    ensures cause { IfErr result (HasLoadCause P.pages P.limit P.faults out.old out.new) }
-    ensures fresh { P.only_fresh out.old out.new }
-{
-    drain(level, above, out, kind)?;
-    match close(&mut level.page, out, below) {
-        Ok(m) => Ok(m),
-        Err(error) => Err(LoadError::Out(error)),
-    }
-}
-
-/// The end of these levels: the root of the tree. `left` is how many pages a path may have more.
-#[tactic(auto, using(crate::proofs::PutLemmas::keeps_after, crate::proofs::PutLemmas::keeps_same, crate::proofs::PutLemmas::follows_same, crate::proofs::PutLemmas::follows_all))]
-pub fn end_all<P: PageOut>(
-    levels: &mut Vec<Level>,
-    out: &mut P,
-    kind: Kind,
-    below: u32,
-    left: usize,
-) -> Result<u32, LoadError>
-    requires ready { AreReady levels.old.items (P.pages out.old).usable }
-    ensures tree { (start : ℕ) → P.well start out.old → (todos : List (List Step)) (h : ℕ) (last : Option ℤ) (pushed : List Entry)
-        → is_interior kind ≡ true
-        → h + left ≤ 20
-        → HoldLevels levels.old.items (P.pages out.old).usable kind todos
-        → Stands (P.pages out.old) (family_of kind) last (opened h todos ++ (record { height = h; leads = child below } ∷ [])) pushed
-        → IfOk result (λ root. option_map (map entry_of) (tree (P.pages out.new) (family_of kind) root) ≡ Some pushed) }
-    ensures keeps { Keeps P.pages P.limit P.faults P.well out.old out.new }
-    ensures follows { OnOk result (Follows P.pages P.limit P.faults P.well out.old out.new) }
-    ensures cause { IfErr result (HasLoadCause P.pages P.limit P.faults out.old out.new) }
-    ensures fresh { P.only_fresh out.old out.new }
-{
-    let Some(mut level) = take_lowest(levels) else {
-        return Ok(below);
-    };
-    if left == 0 {
-        return Err(LoadError::TooDeep);
-    }
-    let m = end(&mut level, levels, out, kind, below)?;
-    end_all(levels, out, kind, m, left - 1)
 }

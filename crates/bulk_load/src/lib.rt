@@ -6,15 +6,21 @@
 mod cells;
 mod chain;
 mod closing;
+mod ending;
 mod error;
 mod leaf;
 mod level;
 mod levels;
 mod loader;
+mod mem_out;
 mod out;
 mod pair;
 mod putting;
+mod root;
+#[cfg(test)]
+mod tests;
 
 pub use error::LoadError;
 pub use loader::Loader;
+pub use mem_out::MemOut;
 pub use out::{OutError, PageOut};

@@ -17,10 +17,11 @@ ghost use Rattle.bulk_load.specs.Settle.{up_kind};
 
 use crate::cells::{entry_pair, key_pair, row_len, write_row};
 use crate::chain::put_chain;
+use crate::ending::end_levels;
 use crate::error::LoadError;
 use crate::leaf::make_room;
 use crate::level::Level;
-use crate::levels::{climb, end, end_all};
+use crate::levels::climb;
 use crate::out::{OutError, PageOut};
 use btree_page::{Kind, local_len};
 use std::alloc::Global;
@@ -38,6 +39,8 @@ pub struct Loader {
     cell: Vec<u8>,
     // the last rowid
     last: Option<i64>,
+    // whether the root goes to page 1
+    at_one: bool,
 }
 
 // The kind of the page above.
@@ -58,8 +61,8 @@ fn chain_of<P: PageOut>(out: &mut P, page: &mut Vec<u8>, rest: &[u8]) -> Result<
     ensures chain { (start : ℕ) → P.well start out.old → IfOk result (λ n. IsPutChain (P.pages out.old) (P.pages out.new) n rest.now) }
     ensures none { length rest.now ≡ 0 → IfOk result (λ n. n ≡ 0) }
     ensures some { 1 ≤ length rest.now → IfOk result (λ n. 2 ≤ n) }
-    ensures keeps { Keeps P.pages P.limit P.faults P.well out.old out.new }
-    ensures follows { OnOk result (Follows P.pages P.limit P.faults P.well out.old out.new) }
+    ensures keeps { Keeps P.pages P.limit P.faults P.well false out.old out.new }
+    ensures follows { OnOk result (Follows P.pages P.limit P.faults P.well false out.old out.new) }
     ensures cause { IfErr result (HasLoadCause P.pages P.limit P.faults out.old out.new) }
     ensures fresh { P.only_fresh out.old out.new }
 {
@@ -82,16 +85,18 @@ fn is_at_most(last: Option<i64>, rowid: i64) -> bool
 impl Loader {
     ghost use Rattle.bulk_load.specs.Loader.{IsLoader, Loaded, family_of_loader, is_for, is_late};
 
-    /// A loader of an empty table. The usable size is that of its pages, in bytes.
-    pub fn table(alloc: Global, usable: usize) -> Result<Loader, LoadError>
+    /// A loader of an empty table. The usable size is that of its pages, in bytes. With `at_one` its root goes to page 1, whose first
+    /// 100 bytes are left as zeros.
+    pub fn table(alloc: Global, usable: usize, at_one: bool) -> Result<Loader, LoadError>
         requires { IsUsable usable }
         ensures ready { IfOk result (λ loader. IsLoader loader usable) }
         ensures family { IfOk result (λ loader. family_of_loader loader ≡ Table) }
+        ensures at_one { IfOk result (λ loader. loader.at_one ≡ at_one) }
         ensures last { IfOk result (λ loader. loader.last ≡ None) }
         ensures empty { (pages : Pages) → pages.usable ≡ usable → IfOk result (λ loader. Loaded pages loader []) }
         ensures cause { IfErr result (λ error. error ≡ LoadError.OutOfMemory) }
     {
-        Loader::new(alloc, usable, Kind::TableLeaf)
+        Loader::new(alloc, usable, Kind::TableLeaf, at_one)
     }
 
     /// A loader of an empty index.
@@ -99,19 +104,21 @@ impl Loader {
         requires { IsUsable usable }
         ensures ready { IfOk result (λ loader. IsLoader loader usable) }
         ensures family { IfOk result (λ loader. family_of_loader loader ≡ Index) }
+        ensures at_one { IfOk result (λ loader. loader.at_one ≡ false) }
         ensures last { IfOk result (λ loader. loader.last ≡ None) }
         ensures empty { (pages : Pages) → pages.usable ≡ usable → IfOk result (λ loader. Loaded pages loader []) }
         ensures cause { IfErr result (λ error. error ≡ LoadError.OutOfMemory) }
     {
-        Loader::new(alloc, usable, Kind::IndexLeaf)
+        Loader::new(alloc, usable, Kind::IndexLeaf, false)
     }
 
     // A loader with an empty leaf of this kind.
-    fn new(alloc: Global, usable: usize, kind: Kind) -> Result<Loader, LoadError>
+    fn new(alloc: Global, usable: usize, kind: Kind, at_one: bool) -> Result<Loader, LoadError>
         requires usable { IsUsable usable }
         requires leaf { is_interior kind ≡ false }
         ensures ready { IfOk result (λ loader. IsLoader loader usable) }
         ensures kind { IfOk result (λ loader. loader.leaf.page.kind ≡ kind) }
+        ensures at_one { IfOk result (λ loader. loader.at_one ≡ at_one) }
         ensures last { IfOk result (λ loader. loader.last ≡ None) }
         ensures empty { (pages : Pages) → pages.usable ≡ usable → IfOk result (λ loader. Loaded pages loader []) }
         ensures cause { IfErr result (λ error. error ≡ LoadError.OutOfMemory) }
@@ -126,6 +133,7 @@ impl Loader {
             spare,
             cell: Vec::new(alloc),
             last: None,
+            at_one,
         })
     }
 
@@ -144,16 +152,17 @@ impl Loader {
         // the entry stands behind those that were pushed before
         ensures loaded { (start : ℕ) → P.well start out.old → (pushed : List Entry) → Loaded (P.pages out.old) self.old pushed
             → OnOk result (Loaded (P.pages out.new) self.new (pushed ++ record { rowid = rowid; payload = payload.now } ∷ [])) }
-        ensures ready { OnOk result (IsLoader self.new (P.pages out.old).usable) }
+        ensures ready { OnOk result (IsLoader self.new (P.pages out.new).usable) }
         ensures family { OnOk result (family_of_loader self.new ≡ family_of_loader self.old) }
+        ensures at_one { OnOk result (self.new.at_one ≡ self.old.at_one) }
         ensures last { OnOk result (self.new.last ≡ last_after self.old.last rowid) }
         // a rowid that is not above the last is refused, and nothing changes
         ensures order { (result ≡ Err LoadError.RowidOrder) ↔ (is_late self.old rowid ≡ true) }
         ensures unchanged { result ≡ Err LoadError.RowidOrder → (self.new ≡ self.old) × (out.new ≡ out.old) }
         // what other answers there are, and what all of them leave
         ensures cause { (why : OutError) → result ≡ Err (LoadError.Out why) → HasCause P.pages P.limit P.faults out.old out.new why }
-        ensures keeps { Keeps P.pages P.limit P.faults P.well out.old out.new }
-        ensures follows { OnOk result (Follows P.pages P.limit P.faults P.well out.old out.new) }
+        ensures keeps { Keeps P.pages P.limit P.faults P.well false out.old out.new }
+        ensures follows { OnOk result (Follows P.pages P.limit P.faults P.well false out.old out.new) }
         ensures fresh { P.only_fresh out.old out.new }
     {
         match rowid {
@@ -167,21 +176,31 @@ impl Loader {
         }
     }
 
-    /// The end: all open pages are put, and the root of the tree is answered.
-    #[tactic(auto, using(crate::proofs::PutLemmas::keeps_after, crate::proofs::PutLemmas::follows_all))]
+    /// The end: all open pages are put, and the root of the tree is answered. With `at_one` page 1 must not have been put.
     pub fn finish<P: PageOut>(mut self, out: &mut P) -> Result<u32, LoadError>
         requires ready { IsLoader self (P.pages out.old).usable }
+        requires free { self.at_one ≡ true → (P.pages out.old).accepts 1 ≡ false }
         // the tree from the root is the pushed list
         ensures tree { (start : ℕ) → P.well start out.old → (pushed : List Entry) → Loaded (P.pages out.old) self pushed
             → IfOk result (λ root. option_map (map entry_of) (tree (P.pages out.new) (family_of_loader self) root) ≡ Some pushed) }
+        ensures one { self.at_one ≡ true → IfOk result (λ root. root ≡ 1) }
         ensures cause { IfErr result (HasLoadCause P.pages P.limit P.faults out.old out.new) }
-        ensures keeps { Keeps P.pages P.limit P.faults P.well out.old out.new }
-        ensures follows { OnOk result (Follows P.pages P.limit P.faults P.well out.old out.new) }
+        ensures keeps { Keeps P.pages P.limit P.faults P.well self.at_one out.old out.new }
+        ensures follows { OnOk result (Follows P.pages P.limit P.faults P.well self.at_one out.old out.new) }
         ensures fresh { P.only_fresh out.old out.new }
     {
         let kind = above(self.leaf.page.kind());
-        let m = end(&mut self.leaf, &mut self.levels, out, kind, 0)?;
-        end_all(&mut self.levels, out, kind, m, 19)
+        let alloc = *self.levels.allocator();
+        end_levels(
+            alloc,
+            &mut self.leaf,
+            &mut self.levels,
+            out,
+            kind,
+            0,
+            18,
+            self.at_one,
+        )
     }
 
     // One entry more of an index.
@@ -192,12 +211,13 @@ impl Loader {
         requires short { length payload.now ≤ max_payload }
         ensures ready { OnOk result (IsLoader self.new (P.pages out.old).usable) }
         ensures kind { OnOk result (self.new.leaf.page.kind ≡ self.old.leaf.page.kind) }
+        ensures at_one { OnOk result (self.new.at_one ≡ self.old.at_one) }
         ensures last { OnOk result (self.new.last ≡ self.old.last) }
         ensures loaded { (start : ℕ) → P.well start out.old → (pushed : List Entry) → Loaded (P.pages out.old) self.old pushed
             → OnOk result (Loaded (P.pages out.new) self.new (pushed ++ record { rowid = None; payload = payload.now } ∷ [])) }
         ensures cause { IfErr result (HasLoadCause P.pages P.limit P.faults out.old out.new) }
-        ensures keeps { Keeps P.pages P.limit P.faults P.well out.old out.new }
-        ensures follows { OnOk result (Follows P.pages P.limit P.faults P.well out.old out.new) }
+        ensures keeps { Keeps P.pages P.limit P.faults P.well false out.old out.new }
+        ensures follows { OnOk result (Follows P.pages P.limit P.faults P.well false out.old out.new) }
         ensures fresh { P.only_fresh out.old out.new }
     {
         let usable = out.usable();
@@ -227,12 +247,13 @@ impl Loader {
         requires above { is_at_most self.old.last rowid ≡ false }
         ensures ready { OnOk result (IsLoader self.new (P.pages out.old).usable) }
         ensures kind { OnOk result (self.new.leaf.page.kind ≡ self.old.leaf.page.kind) }
+        ensures at_one { OnOk result (self.new.at_one ≡ self.old.at_one) }
         ensures last { OnOk result (self.new.last ≡ Some rowid) }
         ensures loaded { (start : ℕ) → P.well start out.old → (pushed : List Entry) → Loaded (P.pages out.old) self.old pushed
             → OnOk result (Loaded (P.pages out.new) self.new (pushed ++ record { rowid = Some rowid; payload = payload.now } ∷ [])) }
         ensures cause { IfErr result (HasLoadCause P.pages P.limit P.faults out.old out.new) }
-        ensures keeps { Keeps P.pages P.limit P.faults P.well out.old out.new }
-        ensures follows { OnOk result (Follows P.pages P.limit P.faults P.well out.old out.new) }
+        ensures keeps { Keeps P.pages P.limit P.faults P.well false out.old out.new }
+        ensures follows { OnOk result (Follows P.pages P.limit P.faults P.well false out.old out.new) }
         ensures fresh { P.only_fresh out.old out.new }
     {
         let usable = out.usable();
@@ -251,13 +272,14 @@ impl Loader {
         requires fits { len + 17 ≤ (P.pages out.old).usable }
         ensures ready { OnOk result (IsLoader self.new (P.pages out.old).usable) }
         ensures kind { OnOk result (self.new.leaf.page.kind ≡ self.old.leaf.page.kind) }
+        ensures at_one { OnOk result (self.new.at_one ≡ self.old.at_one) }
         ensures last { OnOk result (self.new.last ≡ self.old.last) }
         ensures fits { OnOk result (max 4 len + 2 ≤ room_of self.new.leaf.page) }
         ensures loaded { (start : ℕ) → P.well start out.old → (pushed : List Entry) → Loaded (P.pages out.old) self.old pushed
             → OnOk result (Loaded (P.pages out.new) self.new pushed) }
         ensures cause { IfErr result (HasLoadCause P.pages P.limit P.faults out.old out.new) }
-        ensures keeps { Keeps P.pages P.limit P.faults P.well out.old out.new }
-        ensures follows { OnOk result (Follows P.pages P.limit P.faults P.well out.old out.new) }
+        ensures keeps { Keeps P.pages P.limit P.faults P.well false out.old out.new }
+        ensures follows { OnOk result (Follows P.pages P.limit P.faults P.well false out.old out.new) }
         ensures fresh { P.only_fresh out.old out.new }
     {
         let Some(last) = self.last else {
@@ -292,12 +314,13 @@ impl Loader {
         requires fits { max 4 (row_len (length payload.now) rowid local) + 2 ≤ room_of self.old.leaf.page }
         ensures ready { OnOk result (IsLoader self.new (P.pages out.old).usable) }
         ensures kind { OnOk result (self.new.leaf.page.kind ≡ self.old.leaf.page.kind) }
+        ensures at_one { OnOk result (self.new.at_one ≡ self.old.at_one) }
         ensures last { OnOk result (self.new.last ≡ Some rowid) }
         ensures loaded { (start : ℕ) → P.well start out.old → (pushed : List Entry) → Loaded (P.pages out.old) self.old pushed
             → OnOk result (Loaded (P.pages out.new) self.new (pushed ++ record { rowid = Some rowid; payload = payload.now } ∷ [])) }
         ensures cause { IfErr result (HasLoadCause P.pages P.limit P.faults out.old out.new) }
-        ensures keeps { Keeps P.pages P.limit P.faults P.well out.old out.new }
-        ensures follows { OnOk result (Follows P.pages P.limit P.faults P.well out.old out.new) }
+        ensures keeps { Keeps P.pages P.limit P.faults P.well false out.old out.new }
+        ensures follows { OnOk result (Follows P.pages P.limit P.faults P.well false out.old out.new) }
         ensures fresh { P.only_fresh out.old out.new }
     {
         let first = chain_of(out, &mut self.spare, &payload[local..])?;

@@ -68,6 +68,8 @@ pub trait PageOut {
         ensures entropy { (faults self.old).entropy ≤ (faults self.new).entropy }
         ensures fresh { only_fresh self.old self.new };
 
+    ghost counted: { (s : Self) → 1 ≤ (pages s).count };
+
     ghost stays: { (s : Self) → only_fresh s s };
 
     ghost joins: { (a b c : Self) → only_fresh a b → only_fresh b c → only_fresh a c };

@@ -1,5 +1,5 @@
 // A child of an open page, with what stands behind it; or an entry on its way to a leaf.
-ghost use Rattle.std.specs.Prelude.{◌≡◌, ℕ, suc, ℤ, ◌+◌, ◌≤◌, max, true, List, [], ◌∷◌, ◌++◌, length, drop, Option, None, IfOk, IfErr, OnOk};
+ghost use Rattle.std.specs.Prelude.{◌≡◌, ℕ, suc, ℤ, ◌+◌, ◌≤◌, max, true, List, [], ◌∷◌, ◌++◌, length, drop, Option, None, IfOk, IfErr, OnOk, false};
 ghost use Rattle.btree_page.specs.Cell.{Cell};
 ghost use Rattle.btree_page.specs.Kind.{family_of};
 ghost use Rattle.btree_page.specs.Step.{Step, steps};
@@ -76,8 +76,8 @@ pub fn settle<P: PageOut>(
         → IsPair pair.old page.old.kind (P.pages out.old).usable s
         → Stands (P.pages out.old) (family_of page.old.kind) last (front ++ (at_height h (steps cells None) ++ (at_height h (on page.old.kind pair.old.child s) ++ back))) pushed
         → IfOk result (IsSettled (P.pages out.new) page.new pair.new (P.pages out.old).usable page.old.kind pair.old.child cells s h front back last pushed) }
-    ensures keeps { Keeps P.pages P.limit P.faults P.well out.old out.new }
-    ensures follows { OnOk result (Follows P.pages P.limit P.faults P.well out.old out.new) }
+    ensures keeps { Keeps P.pages P.limit P.faults P.well false out.old out.new }
+    ensures follows { OnOk result (Follows P.pages P.limit P.faults P.well false out.old out.new) }
     ensures cause { IfErr result (HasCause P.pages P.limit P.faults out.old out.new) }
     ensures fresh { P.only_fresh out.old out.new }
 {

@@ -1,5 +1,5 @@
 // A page at the next number.
-ghost use Rattle.std.specs.Prelude.{◌≡◌, ◌≤◌, ◌+◌, ℕ, length, IfOk, IfErr, OnOk};
+ghost use Rattle.std.specs.Prelude.{◌≡◌, ◌≤◌, ◌+◌, ℕ, length, IfOk, IfErr, OnOk, false};
 ghost use Rattle.bulk_load.specs.Out.{Follows, HasCause, IsPutAs, Keeps};
 
 use crate::out::{OutError, PageOut};
@@ -10,8 +10,8 @@ pub fn put_next<P: PageOut>(out: &mut P, plain: &[u8]) -> Result<u32, OutError>
     ensures put { (start : ℕ) → P.well start out.old → IfOk result (λ n. IsPutAs (P.pages out.old) (P.pages out.new) n plain.now) }
     ensures low { IfOk result (λ n. 2 ≤ n) }
     ensures one { OnOk result ((P.pages out.new).count ≡ (P.pages out.old).count + 1) }
-    ensures keeps { Keeps P.pages P.limit P.faults P.well out.old out.new }
-    ensures follows { OnOk result (Follows P.pages P.limit P.faults P.well out.old out.new) }
+    ensures keeps { Keeps P.pages P.limit P.faults P.well false out.old out.new }
+    ensures follows { OnOk result (Follows P.pages P.limit P.faults P.well false out.old out.new) }
     ensures cause { IfErr result (HasCause P.pages P.limit P.faults out.old out.new) }
     ensures fresh { P.only_fresh out.old out.new }
 {

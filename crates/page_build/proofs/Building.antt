@@ -331,3 +331,88 @@ module _ (page new : List ℕ) (kind : Kind) (header count start right : ℕ) (c
       let fits : used (length (zeros_of header)) kind cells ≤ length page = subst (λ h. used h kind cells ≤ length page) (sym (length-replicate header 0)) built.fits in
       ap (read_node (family_of kind) n) headed_page
       ∙ node_back (length page) (zeros_of header) kind right cells n shown (length-replicate header 0 ∙ placed) written built.long fits
+
+-- ---- the page header moves behind the first 100 bytes
+
+module _ (page new : List ℕ) (kind : Kind) (count start end : ℕ) (cells : List (List ℕ)) (built : IsBuilt page kind 0 count start cells)
+    (room : 100 ≤ length page - used 0 kind cells) (ends : end ≡ header_len kind + 2 * count)
+    (is_new : new ≡ zeros_of 100 ++ (take end page ++ drop (100 + end) page)) where
+  abbrev own_head : List ℕ
+  own_head = take (header_len kind) (drop 0 page)
+
+  abbrev less : ℕ
+  less = length page - used 0 kind cells - 100
+
+  abbrev front : List ℕ
+  front = own_head ++ offsets (length page) cells
+
+  front_long : length front ≡ end
+  front_long =
+      let head : length own_head ≡ header_len kind = head_long page kind 0 count start cells built in
+      let order : length (offsets (length page) cells) ≡ 2 * length cells = length-offsets (length page) cells in
+      let both : length front ≡ length own_head + length (offsets (length page) cells) = length-append own_head (offsets (length page) cells) in
+      let counted = built.count_is in
+      omega arith
+
+  parted : page ≡ front ++ (zeros_of 100 ++ (zeros_of less ++ content cells))
+  parted =
+      let all : length page - used 0 kind cells ≡ 100 + less = omega arith in
+      built.bytes
+      ∙ ap (λ l. own_head ++ (offsets (length page) cells ++ (l ++ content cells))) (ap zeros_of all ∙ zeros-append 100 less)
+      ∙ simp append_assoc refl
+
+  taken_front : take end page ≡ front
+  taken_front = ap (take end) parted ∙ ap (λ n. take n (front ++ (zeros_of 100 ++ (zeros_of less ++ content cells)))) (sym front_long)
+      ∙ take_front front (zeros_of 100 ++ (zeros_of less ++ content cells))
+
+  left_behind : drop (100 + end) page ≡ zeros_of less ++ content cells
+  left_behind =
+      let place : 100 + end ≡ length (front ++ zeros_of 100) =
+      let both : length (front ++ zeros_of 100) ≡ length front + length (zeros_of 100) = length-append front (zeros_of 100) in
+      let many : length (zeros_of 100) ≡ 100 = length-replicate {A = ℕ} 100 0 in
+      let long = front_long in omega arith in
+      ap (drop (100 + end)) (parted ∙ sym (append_assoc front (zeros_of 100) (zeros_of less ++ content cells)))
+      ∙ ap (λ n. drop n ((front ++ zeros_of 100) ++ (zeros_of less ++ content cells))) place
+      ∙ drop-append_seam (front ++ zeros_of 100) (zeros_of less ++ content cells)
+
+  moved : new ≡ zeros_of 100 ++ (own_head ++ (offsets (length page) cells ++ (zeros_of less ++ content cells)))
+  moved =
+      is_new ∙ ap (λ l. zeros_of 100 ++ (l ++ drop (100 + end) page)) taken_front ∙ ap (λ l. zeros_of 100 ++ (front ++ l)) left_behind
+      ∙ ap (λ l. zeros_of 100 ++ l) (append_assoc own_head (offsets (length page) cells) (zeros_of less ++ content cells))
+
+  first_size : length new ≡ length page
+  first_size =
+      let counted = built.count_is in
+      let many : length (zeros_of 100) ≡ 100 = length-replicate {A = ℕ} 100 0 in
+      let a : length (take end page) ≡ end = ap length taken_front ∙ front_long in
+      let b : length (drop (100 + end) page) ≡ length page - (100 + end) = length-drop (100 + end) page in
+      let c : length (take end page ++ drop (100 + end) page) ≡ length (take end page) + length (drop (100 + end) page) = length-append (take end page) (drop (100 + end) page) in
+      let d : length new ≡ length (zeros_of 100) + length (take end page ++ drop (100 + end) page) =
+      ap length is_new ∙ length-append (zeros_of 100) (take end page ++ drop (100 + end) page) in
+      omega arith
+
+  pub first_built : IsBuilt new kind 100 count start cells
+  first_built =
+      let size = first_size in
+      let lies = built.start_is in
+      let fits = built.fits in
+      let gone : less ≡ length page - used 100 kind cells = omega arith in
+      record {
+        usable = subst IsUsable (sym size) built.usable;
+        first = omega arith;
+        bytes =
+            subst (λ u. new ≡ zeros_of 100 ++ (take (header_len kind) (drop 100 new) ++ (offsets u cells ++ (zeros_of (u - used 100 kind cells) ++ content cells))))
+            (sym size)
+            (with_head new kind 100 own_head (offsets (length page) cells ++ (zeros_of (length page - used 100 kind cells) ++ content cells))
+            (moved ∙ ap (λ n. zeros_of 100 ++ (own_head ++ (offsets (length page) cells ++ (zeros_of n ++ content cells)))) gone)
+            (head_long page kind 0 count start cells built));
+        count_is = built.count_is;
+        start_is = omega arith;
+        fits = omega arith;
+        long = built.long;
+      }
+
+  pub first_draft : draft_of new kind 100 count ≡ record { usable = length page; header = 100; kind = kind; cells = cells }
+  first_draft =
+      ap (λ l. record { usable = length new; header = 100; kind = kind; cells = l }) (cells_are new kind 100 count start cells first_built)
+      ∙ ap (λ u. record { usable = u; header = 100; kind = kind; cells = cells }) first_size

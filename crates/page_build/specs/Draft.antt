@@ -26,6 +26,10 @@ with_cell draft cell = record draft { cells = draft.cells ++ padded cell ∷ [] 
 abbrev pub without_cells : Draft → Draft
 without_cells draft = record draft { cells = [] }
 
+-- the same as the first page
+abbrev pub as_first : Draft → Draft
+as_first draft = record draft { header = 100 }
+
 -- how many bytes are left for cells and their offsets
 abbrev pub room_of : Draft → ℕ
 room_of draft = draft.usable - used draft.header draft.kind draft.cells

@@ -1,10 +1,10 @@
 // The cells of one page: their bytes from the page's end, their offsets from its front.
-ghost use Rattle.std.specs.Prelude.{◌≡◌, ℕ, ◌+◌, ◌≤◌, ◌<◌, ◌↔◌, max, List, length, Ok, IfOk, IsTrue, if◌then◌else◌};
+ghost use Rattle.std.specs.Prelude.{◌≡◌, ℕ, ◌+◌, ◌≤◌, ◌<◌, ◌↔◌, ◌++◌, max, List, length, replicate, take, drop, Ok, IfOk, IsTrue, if◌then◌else◌};
 ghost use Rattle.db_format.specs.Pages.{IsUsable};
 ghost use Rattle.btree_page.specs.Cell.{Cell};
 ghost use Rattle.btree_page.specs.Kind.{family_of, header_at};
 ghost use Rattle.btree_page.specs.Page.{header_len, read_node, read_page};
-ghost use Rattle.page_build.specs.Draft.{blank, finished, laid, room_of, with_cell, without_cells};
+ghost use Rattle.page_build.specs.Draft.{as_first, blank, finished, laid, room_of, with_cell, without_cells};
 ghost use Rattle.page_build.specs.Written.{AreWritten, kind_byte, page_head, right_child};
 
 use crate::bytes::{four_bytes, lay, two_bytes};
@@ -79,6 +79,15 @@ fn write_head(page: &mut Vec<u8>, kind: Kind, header: usize, count: usize, start
     if kind.is_interior() {
         lay(page, header + 8, &four_bytes(right));
     }
+}
+
+// Moves so many bytes from the front behind 100 zeros.
+fn move_head(page: &mut Vec<u8>, end: usize)
+    requires { 100 + end ≤ length page.old.items }
+    ensures { page.new.items ≡ replicate 100 0 ++ (take end page.old.items ++ drop (100 + end) page.old.items) }
+{
+    page.copy_within(0..end, 100);
+    lay(page, 0, &[0; 100]);
 }
 
 impl PageBuilder {
@@ -167,6 +176,17 @@ impl PageBuilder {
             right,
         );
         &self.page
+    }
+
+    /// Makes it the first page of a database, which keeps 100 bytes in front.
+    pub fn make_first(&mut self)
+        requires plain { self.old.header ≡ 0 }
+        requires room { 100 ≤ room_of self.old }
+        ensures { self.new ≡ as_first self.old }
+    {
+        let end = header_len(self.kind) + 2 * self.count;
+        move_head(&mut self.page, end);
+        self.header = 100;
     }
 
     /// No cell any more.

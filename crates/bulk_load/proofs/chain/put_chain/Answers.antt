@@ -1,4 +1,4 @@
-use Rattle.std.proofs.Common.{rules, ◌≡◌, ℕ, ◌+◌, ◌*◌, ◌-◌, ◌<◌, ◌≤◌, inl, inr, List, [], ◌++◌, length, take, drop, refl, ap, sym, subst, ◌∙◌, arith, ◌/◌}
+use Rattle.std.proofs.Common.{rules, ◌≡◌, ℕ, ◌+◌, ◌*◌, ◌-◌, ◌<◌, ◌≤◌, inl, inr, false, List, [], ◌++◌, length, take, drop, refl, ap, sym, subst, ◌∙◌, arith, ◌/◌}
 use Rattle.std.proofs.Math.Seq.{drop-length}
 use Rattle.std.proofs.lemmas.List.{length-replicate}
 use Rattle.db_format.specs.Pages.{Pages}
@@ -52,8 +52,8 @@ loop-end-preserved g c =
     let begun : 0 < end = omega arith in
     let multiple : end ≡ i.whole * size + left = i.multiple in
     let page_size : length c.put_link.new.page.items ≡ old.usable = c.in_ok-next.ensures.size ∙ i.page_size in
-    let follows : Follows p.pages p.limit p.faults p.well c.args.out.now c.put_link.new.out =
-    follows_all p.pages p.limit p.faults p.well c.args.out.now c.loop-end.out c.put_link.new.out i.follows c.in_ok-next.ensures.follows in
+    let follows : Follows p.pages p.limit p.faults p.well false c.args.out.now c.put_link.new.out =
+    follows_all p.pages p.limit p.faults p.well false c.args.out.now c.loop-end.out c.put_link.new.out i.follows c.in_ok-next.ensures.follows in
     let fresh : p.only_fresh c.args.out.now c.put_link.new.out = search rules in
     elim c.if-left-eq0.branch [
       | then-left-eq0 w ↦

@@ -19,21 +19,15 @@ use Rattle.bulk_load.proofs.loader.Loader.finish.Goals as goal
 pub returns-clause-tree : goal.returns-clause-tree
 returns-clause-tree g c start well pushed l =
     let old : Pages = g.P.PageOut.pages c.args.out.now in
-    let mid : Pages = g.P.PageOut.pages c.end.new.out in
-    let new : Pages = g.P.PageOut.pages c.end_all.new.out in
+    let new : Pages = g.P.PageOut.pages c.end_levels.new.out in
     let own : Kind = c.args.self.leaf.page.kind in
     let last : Option ℤ = c.args.self.last in
     let up : Kind = c.above-kind.result in
     let is_up : up ≡ up_kind own = c.above-kind.ensures ∙ ap up_kind c.kind.ensures in
     let fam : family_of up ≡ family_of own = ap family_of is_up ∙ family_up own in
     let none : at_height 0 (steps [] (right_child own 0)) ≡ [] = ap (λ r. at_height 0 (steps [] r)) (leaf_right own 0 c.requires.ready.leaf_kind) in
-    let o : AreOpen mid c.end.new.above.items old.usable up 1 (record { height = 1; leads = child c.in_ok-m.m } ∷ []) last pushed =
-    c.in_ok-m.ensures.ended start well l.todo l.todos 0 last pushed (sym is_up) l.hold (subst (λ k. HoldLevels c.args.self.levels.items old.usable k l.todos) (sym is_up) l.above)
+    subst (λ f. IfOk c.end_levels.result (λ root. option_map (map entry_of) (tree new f root) ≡ Some pushed)) fam
+    (c.end_levels.ensures.tree start well l.todo l.todos 0 last pushed (omega arith) (sym is_up) l.hold
+    (subst (λ k. HoldLevels c.args.self.levels.items old.usable k l.todos) (sym is_up) l.above)
     (subst (λ f. Stands old f last (opened 1 l.todos ++ (at_height 0 l.todo ++ at_height 0 (steps [] (right_child own 0)))) pushed) (sym fam)
-    (subst (λ e. Stands old (family_of own) last (opened 1 l.todos ++ (at_height 0 l.todo ++ e)) pushed) (sym none) l.stands))
-    in
-    let inner : is_interior up ≡ true = ap is_interior is_up ∙ up_interior own in
-    let low : 1 + 19 ≤ 20 = omega arith in
-    subst (λ f. IfOk c.end_all.result (λ root. option_map (map entry_of) (tree new f root) ≡ Some pushed)) fam
-    (c.end_all.ensures.tree start (c.in_ok-m.ensures.follows.told start well) o.todos 1 last pushed inner low
-    (subst (λ u. HoldLevels c.end.new.above.items u up o.todos) (sym c.in_ok-m.ensures.keeps.size) o.hold) o.stands)
+    (subst (λ e. Stands old (family_of own) last (opened 1 l.todos ++ (at_height 0 l.todo ++ e)) pushed) (sym none) l.stands)))

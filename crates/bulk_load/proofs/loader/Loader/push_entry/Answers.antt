@@ -1,4 +1,4 @@
-use Rattle.std.proofs.Common.{◌≡◌, ◌≤◌, ◌-◌, ℕ, List, [], ◌∷◌, ◌++◌, None, length, take, drop, ap, sym, subst, ◌∙◌, arith}
+use Rattle.std.proofs.Common.{◌≡◌, ◌≤◌, ◌-◌, ℕ, List, [], ◌∷◌, ◌++◌, None, false, length, take, drop, ap, sym, subst, ◌∙◌, arith}
 use Rattle.std.proofs.lemmas.Slice.{between_to_end}
 use Rattle.db_format.specs.Pages.{Pages}
 use Rattle.btree_page.specs.declared.kind.Family.TheVariants.{Index}
@@ -91,16 +91,16 @@ returns-in_ok-climb-in-Some-clause-loaded g c start well pushed loaded =
 pub returns-in-None-clause-follows : goal.returns-in-None-clause-follows
 returns-in-None-clause-follows g c =
     let p = g.P.PageOut in
-    follows_all p.pages p.limit p.faults p.well c.args.out.now c.chain_of.new.out c.enter.new.out c.in_ok-first.ensures.follows c.in_ok-enter.ensures.follows
+    follows_all p.pages p.limit p.faults p.well false c.args.out.now c.chain_of.new.out c.enter.new.out c.in_ok-first.ensures.follows c.in_ok-enter.ensures.follows
 
 pub returns-in_ok-climb-in-Some-clause-keeps : goal.returns-in_ok-climb-in-Some-clause-keeps
 returns-in_ok-climb-in-Some-clause-keeps g c =
     let p = g.P.PageOut in
-    keeps_after p.pages p.limit p.faults p.well c.args.out.now c.chain_of.new.out c.climb.new.out c.in_ok-first.ensures.follows
-    (keeps_after p.pages p.limit p.faults p.well c.chain_of.new.out c.enter.new.out c.climb.new.out c.in_ok-enter.ensures.follows c.in_ok-climb-in-Some.ensures.keeps)
+    keeps_after p.pages p.limit p.faults p.well false c.args.out.now c.chain_of.new.out c.climb.new.out c.in_ok-first.ensures.follows
+    (keeps_after p.pages p.limit p.faults p.well false c.chain_of.new.out c.enter.new.out c.climb.new.out c.in_ok-enter.ensures.follows c.in_ok-climb-in-Some.ensures.keeps)
 
 pub returns-in_ok-climb-in-Some-clause-follows : goal.returns-in_ok-climb-in-Some-clause-follows
 returns-in_ok-climb-in-Some-clause-follows g c =
     let p = g.P.PageOut in
-    follows_all p.pages p.limit p.faults p.well c.args.out.now c.chain_of.new.out c.climb.new.out c.in_ok-first.ensures.follows
-    (follows_all p.pages p.limit p.faults p.well c.chain_of.new.out c.enter.new.out c.climb.new.out c.in_ok-enter.ensures.follows c.in_ok-climb-in-Some.ensures.follows)
+    follows_all p.pages p.limit p.faults p.well false c.args.out.now c.chain_of.new.out c.climb.new.out c.in_ok-first.ensures.follows
+    (follows_all p.pages p.limit p.faults p.well false c.chain_of.new.out c.enter.new.out c.climb.new.out c.in_ok-enter.ensures.follows c.in_ok-climb-in-Some.ensures.follows)

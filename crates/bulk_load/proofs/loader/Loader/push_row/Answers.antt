@@ -1,4 +1,4 @@
-use Rattle.std.proofs.Common.{◌≡◌, ◌-◌, ◌≤◌, ◌+◌, ℕ, ℤ, length, arith, sym, rules}
+use Rattle.std.proofs.Common.{◌≡◌, ◌-◌, ◌≤◌, ◌+◌, ℕ, ℤ, length, false, arith, sym, rules}
 use Rattle.std.specs.Int.{w64, cast_signed, cast_unsigned}
 use Rattle.db_format.specs.Pages.{Pages}
 use Rattle.bulk_load.specs.Cells.{row_len}
@@ -19,9 +19,14 @@ leaf_for-requires-clause-fits g c =
 pub returns-clause-keeps : goal.returns-clause-keeps
 returns-clause-keeps g c =
     let p = g.P.PageOut in
-    keeps_after p.pages p.limit p.faults p.well c.args.out.now c.leaf_for.new.out c.add_row.new.out c.in_ok-leaf_for.ensures.follows c.in_ok-add_row.ensures.keeps
+    keeps_after p.pages p.limit p.faults p.well false c.args.out.now c.leaf_for.new.out c.add_row.new.out c.in_ok-leaf_for.ensures.follows c.in_ok-add_row.ensures.keeps
 
 pub returns-clause-follows : goal.returns-clause-follows
 returns-clause-follows g c =
     let p = g.P.PageOut in
-    follows_all p.pages p.limit p.faults p.well c.args.out.now c.leaf_for.new.out c.add_row.new.out c.in_ok-leaf_for.ensures.follows c.in_ok-add_row.ensures.follows
+    follows_all p.pages p.limit p.faults p.well false c.args.out.now c.leaf_for.new.out c.add_row.new.out c.in_ok-leaf_for.ensures.follows c.in_ok-add_row.ensures.follows
+
+pub returns-in_err-add_row-clause-keeps : goal.returns-in_err-add_row-clause-keeps
+returns-in_err-add_row-clause-keeps g c =
+    let p = g.P.PageOut in
+    keeps_after p.pages p.limit p.faults p.well false c.args.out.now c.leaf_for.new.out c.add_row.new.out c.in_ok-leaf_for.ensures.follows c.add_row.ensures.keeps

@@ -1,0 +1,78 @@
+use Rattle.std.proofs.Common.{◌≡◌, ◌≤◌, ◌+◌, ◌-◌, ℕ, suc, true, List, [], ◌∷◌, ◌++◌, ap, sym, subst, ◌∙◌, arith}
+use Rattle.std.proofs.lemmas.Result.{on_ok_weaker}
+use Rattle.db_format.specs.Pages.{Pages}
+use Rattle.btree_page.specs.declared.kind.Kind.{Kind}
+use Rattle.btree_page.specs.Kind.{family_of, is_interior}
+use Rattle.btree_page.specs.Step.{child, steps}
+use Rattle.load_model.specs.Open.{at_height}
+use Rattle.load_model.specs.Stands.{Stands}
+use Rattle.page_build.specs.Written.{right_child}
+use Rattle.bulk_load.specs.declared.level.Level.{Level}
+use Rattle.bulk_load.specs.Close.{HasCells}
+use Rattle.bulk_load.specs.Level.{HoldsLevel}
+use Rattle.bulk_load.specs.Levels.{HoldLevels, IsDrained, opened}
+use Rattle.bulk_load.specs.Settle.{up_kind}
+use Rattle.bulk_load.proofs.EndLemmas.{IsNextLevel, end_is, last_page, next_level}
+use Rattle.bulk_load.proofs.PutLemmas.{follows_all, keeps_after}
+use Rattle.bulk_load.proofs.SettleLemmas.{up_interior}
+use Rattle.bulk_load.proofs.ending.+end_levels.Goals as goal
+
+pub returns-in_default-clause-tree : goal.returns-in_default-clause-tree
+returns-in_default-clause-tree g t c start well todo todos h last pushed low up hold holds st =
+    let old : Pages = g.P.PageOut.pages c.args.out.now in
+    let mid : Pages = g.P.PageOut.pages c.drain.new.out in
+    let own : Kind = c.args.level.now.page.kind in
+    let kind : Kind = c.args.kind in
+    let level : Level = c.drain.new.level in
+    let same : level.page.kind ≡ own = c.in_ok-drain.ensures.kind in
+    let d : IsDrained mid level c.drain.new.above.items old.usable kind h (at_height h (steps [] (right_child own c.args.below))) last pushed =
+    c.in_ok-drain.ensures.drained start well todo todos h (at_height h (steps [] (right_child own c.args.below))) last pushed up hold holds st in
+    let ready : Stands mid (family_of kind) last (at_height h (steps d.cells (right_child own c.args.below))) pushed =
+    last_page mid c.drain.new.above.items old.usable kind own d.cells d.rest.todos h c.args.below last pushed c.in_default.ensures.0 d.rest.hold d.rest.stands in
+    c.put_root.ensures.tree start (c.in_ok-drain.ensures.follows.told start well) d.cells h last pushed (omega arith) (ap up_kind same ∙ up)
+    (subst (λ u. HasCells level.page u d.cells) (sym c.in_ok-drain.ensures.keeps.size) d.has)
+    (subst (λ k. Stands mid (family_of kind) last (at_height h (steps d.cells (right_child k c.args.below))) pushed) (sym same) ready)
+
+pub returns-in_default-clause-follows : goal.returns-in_default-clause-follows
+returns-in_default-clause-follows g t c =
+    let p = g.P.PageOut in
+    on_ok_weaker c.put_root.result
+    (follows_all p.pages p.limit p.faults p.well c.args.at_one c.args.out.now c.drain.new.out c.put_root.new.out c.in_ok-drain.ensures.follows)
+    c.put_root.ensures.follows
+
+pub returns-clause-tree : goal.returns-clause-tree
+returns-clause-tree g t c start well todo todos h last pushed low up hold holds st =
+    let old : Pages = g.P.PageOut.pages c.args.out.now in
+    let mid : Pages = g.P.PageOut.pages c.drain.new.out in
+    let new : Pages = g.P.PageOut.pages c.close.new.out in
+    let own : Kind = c.args.level.now.page.kind in
+    let kind : Kind = c.args.kind in
+    let level : Level = c.drain.new.level in
+    let m : ℕ = c.in-Ok.m in
+    let inner : is_interior kind ≡ true = subst (λ k. is_interior k ≡ true) up (up_interior own) in
+    let d : IsDrained mid level c.drain.new.above.items old.usable kind h (at_height h (steps [] (right_child own c.args.below))) last pushed =
+    c.in_ok-drain.ensures.drained start well todo todos h (at_height h (steps [] (right_child own c.args.below))) last pushed up hold holds st in
+    let told = c.in_ok-drain.ensures.follows.told start well in
+    let closed : Stands new (family_of kind) last (opened (suc h) d.rest.todos ++ (record { height = suc h; leads = child m } ∷ [])) pushed =
+    end_is mid new level.page own kind old.usable c.args.below m d.cells (opened (suc h) d.rest.todos) h last pushed (c.in-Ok.ensures.closed start told)
+    c.in_ok-drain.ensures.kind up c.in_ok-drain.ensures.keeps.size d.has d.rest.stands in
+    let n : IsNextLevel new c.in-Some.next c.take_lowest.new.levels.items old.usable kind (suc h) m last pushed =
+    next_level new c.in-Some.next c.drain.new.above.items c.take_lowest.new.levels.items old.usable kind d.rest.todos (suc h) m last pushed c.in-Some.ensures inner d.rest.hold closed in
+    let size : new.usable ≡ old.usable = c.in-Ok.ensures.keeps.size ∙ c.in_ok-drain.ensures.keeps.size in
+    let less : suc h + (c.args.left - 1) ≤ 18 = omega (arith, c.if-left-eq0.false) in
+    c.end_levels.ensures.tree start (c.in-Ok.ensures.follows.told start told) n.todo n.todos (suc h) last pushed less n.is_kind
+    (subst (λ u. HoldsLevel c.in-Some.next u n.todo) (sym size) n.hold) (subst (λ u. HoldLevels c.take_lowest.new.levels.items u kind n.todos) (sym size) n.holds) n.stands
+
+pub returns-clause-keeps : goal.returns-clause-keeps
+returns-clause-keeps g t c =
+    let p = g.P.PageOut in
+    keeps_after p.pages p.limit p.faults p.well c.args.at_one c.args.out.now c.drain.new.out c.end_levels.new.out c.in_ok-drain.ensures.follows
+    (keeps_after p.pages p.limit p.faults p.well c.args.at_one c.drain.new.out c.close.new.out c.end_levels.new.out c.in-Ok.ensures.follows c.end_levels.ensures.keeps)
+
+pub returns-clause-follows : goal.returns-clause-follows
+returns-clause-follows g t c =
+    let p = g.P.PageOut in
+    on_ok_weaker c.end_levels.result
+    (λ f. follows_all p.pages p.limit p.faults p.well c.args.at_one c.args.out.now c.drain.new.out c.end_levels.new.out c.in_ok-drain.ensures.follows
+    (follows_all p.pages p.limit p.faults p.well c.args.at_one c.drain.new.out c.close.new.out c.end_levels.new.out c.in-Ok.ensures.follows f))
+    c.end_levels.ensures.follows
