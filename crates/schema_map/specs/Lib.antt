@@ -1,0 +1,6 @@
+pub mod Root
+pub mod Part
+pub mod Schema
+pub mod Parts
+pub mod Started
+pub mod Census
