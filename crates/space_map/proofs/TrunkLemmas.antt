@@ -17,8 +17,8 @@ use Rattle.btree_walk.proofs.ChainLemmas.{differ, sound_faults}
 use Rattle.btree_model.proofs.FindingLemmas.{faults-append, refusals-append, places-append, sound_both, also-append}
 use Rattle.btree_walk.specs.declared.error.WalkError.{WalkError}
 use Rattle.btree_walk.specs.declared.error.WalkError.TheVariants.{Defect as Found, Source, OutOfMemory}
-use Rattle.space_map.specs.Marks.{AddsOnly, KeepsMarks}
-use Rattle.btree_walk.specs.Causes.{IsRefused}
+use Rattle.space_map.specs.Marks.{KeepsMarks}
+use Rattle.btree_walk.specs.Causes.{IsMarked, IsRefused}
 use Rattle.db_format.specs.Seen.{marked, open_count}
 use Rattle.space_map.specs.declared.trunk.Trunk.{Trunk}
 use Rattle.space_map.specs.Walk.{IsAt, IsInside, IsTrunk, IsDone, IsNumber, IsFirst, IsStopped, IsLeafTwice, first_fault}
@@ -119,10 +119,8 @@ also_front xs ys taken n h = ap (λ t. t n) (also-append xs ys taken) ∙ or_las
 pub keeps_also : (ns : List ℕ) (old new : Test) → new ≡ also ns old → KeepsMarks old new
 keeps_also ns old new is n h = ap (λ t. t n) is ∙ or_last (list_any (λ m. m == n) ns) (old n) h
 
-pub adds_met : (all met left : List Finding) (taken seen : Test) → all ≡ met ++ left → seen ≡ also (places met) taken → AddsOnly (places all) taken seen
-adds_met all met left taken seen whole is n h =
-    subst (λ ns. also ns taken n ≡ true) (sym (ap places whole ∙ places-append met left))
-    (also_front (places met) (places left) taken n (sym (ap (λ t. t n) is) ∙ h))
+pub marked_met : (all met left : List Finding) (taken seen : Test) → all ≡ met ++ left → seen ≡ also (places met) taken → IsMarked all taken seen
+marked_met all met left taken seen whole is = record { found = met; more = left; whole = whole; marks = is }
 
 -- one place more
 pub marks_on : (met : List Finding) (f : Finding) (n : ℕ) (taken seen : Test) → places (f ∷ []) ≡ n ∷ [] → seen ≡ also (places met) taken
@@ -164,7 +162,7 @@ module _ (pages : Pages) (all : List Finding) (taken : Test) (fuel : ℕ) where
       record {
         first = first_after all at.met _ at.whole at.sound ∙ rw old refl;
         marks =
-            adds_met all (at.met ++ leaf n ∷ []) _ taken (also (n ∷ []) seen) (at.whole ∙ sym (append_assoc at.met (leaf n ∷ []) _))
+            marked_met all (at.met ++ leaf n ∷ []) _ taken (also (n ∷ []) seen) (at.whole ∙ sym (append_assoc at.met (leaf n ∷ []) _))
             (marks_on at.met (leaf n) n taken seen refl at.marks);
       }
 
@@ -207,9 +205,9 @@ module _ (pages : Pages) (all : List Finding) (taken : Test) (fuel : ℕ) where
           listed = trunk_barred fresh;
         }
 
-    pub trunk_marks : AddsOnly (places all) taken (also (n ∷ []) seen)
+    pub trunk_marks : IsMarked all taken (also (n ∷ []) seen)
     trunk_marks =
-        adds_met all (at.met ++ place n ∷ []) _ taken (also (n ∷ []) seen) (visited ∙ sym (append_assoc at.met (place n ∷ []) _))
+        marked_met all (at.met ++ place n ∷ []) _ taken (also (n ∷ []) seen) (visited ∙ sym (append_assoc at.met (place n ∷ []) _))
         (marks_on at.met (place n) n taken seen refl at.marks)
 
     pub trunk_twice : seen n ≡ true → first_fault all ≡ Some (PageTwice n)
@@ -295,7 +293,7 @@ module _ (pages : Pages) (all : List Finding) (taken : Test) where
       let named : (n == 0) ≡ false = differ n 0 some in
       record {
         first = first_after all at.met _ at.whole at.sound ∙ rw named refl;
-        marks = adds_met all at.met _ taken seen at.whole at.marks;
+        marks = marked_met all at.met _ taken seen at.whole at.marks;
       }
 
 -- what holds of the first findings holds of all
@@ -319,9 +317,14 @@ module _ {R : Type 0} (refuses : Pages → ℕ → R → Type 0) (pages : Pages)
       }
   first_for OutOfMemory h = tt
 
-pub adds_joined : (xs ys : List Finding) (taken seen : Test) → AddsOnly (places xs) taken seen → AddsOnly (places (xs ++ ys)) taken seen
-adds_joined xs ys taken seen h n marked =
-    subst (λ ns. also ns taken n ≡ true) (sym (places-append xs ys)) (also_front (places xs) (places ys) taken n (h n marked))
+pub marked_joined : (xs ys : List Finding) (taken seen : Test) → IsMarked xs taken seen → IsMarked (xs ++ ys) taken seen
+marked_joined xs ys taken seen is =
+    record {
+      found = is.found;
+      more = is.more ++ ys;
+      whole = ap (λ l. l ++ ys) is.whole ∙ append_assoc is.found is.more ys;
+      marks = is.marks;
+    }
 
 -- marks: no more pages are open than there are marks
 pub open_most : (marks : List Bool) → open_count marks ≤ length marks

@@ -6,10 +6,9 @@ use Rattle.db_format.specs.declared.defect.Defect.{Defect as Fault}
 use Rattle.db_format.specs.declared.defect.Defect.TheVariants.{PageTwice}
 use Rattle.btree_model.specs.Finding.{Finding, places, leaves, faults, is_sound}
 use Rattle.btree_model.specs.Freelist.{is_trunk, next_trunk, leaves_of, trunks}
-use Rattle.btree_walk.specs.Causes.{IsRefused}
+use Rattle.btree_walk.specs.Causes.{IsMarked, IsRefused}
 use Rattle.btree_walk.specs.declared.error.WalkError.{WalkError}
 use Rattle.btree_walk.specs.declared.error.WalkError.TheVariants.{Defect, Source, OutOfMemory}
-use Rattle.space_map.specs.Marks.{AddsOnly}
 use Rattle.space_map.specs.declared.trunk.Trunk.{Trunk}
 
 -- 0, or the number of a page that another may name
@@ -55,15 +54,15 @@ IsFirst refuses pages all (Defect defect) = first_fault all ≡ Some defect
 IsFirst refuses pages all (Source refusal) = IsRefused refuses pages all refusal
 IsFirst refuses pages all OutOfMemory = ⊤
 
--- why the walk stopped; only its places were marked
+-- why the walk stopped; only places of it were marked
 pub record IsStopped {R : Type 0} (refuses : Pages → ℕ → R → Type 0) (pages : Pages) (all : List Finding) (taken seen : Test) (why : WalkError R) : Type 0 where
   pub first : IsFirst refuses pages all why
-  pub marks : AddsOnly (places all) taken seen
+  pub marks : IsMarked all taken seen
 
 -- the leaf n has a mark
 pub record IsLeafTwice (all : List Finding) (taken seen : Test) (n : ℕ) : Type 0 where
   pub first : first_fault all ≡ Some (PageTwice n)
-  pub marks : AddsOnly (places all) taken seen
+  pub marks : IsMarked all taken seen
 
 abbrev pub IsTaken : Pages → List Finding → Test → ℕ → ℕ → ℕ → Test → Test → Result Unit ℕ → Type 0
 IsTaken pages all taken fuel next found seen free (Ok done) = IsAt pages all taken fuel next found seen free

@@ -2,10 +2,9 @@
 ghost use Rattle.std.specs.Prelude.{◌≡◌, ◌+◌, length, IfErr, IsTrue};
 ghost use Rattle.db_format.specs.Seen.{marked};
 ghost use Rattle.db_format.specs.Source.{Rose};
-ghost use Rattle.btree_model.specs.Finding.{places};
 ghost use Rattle.btree_model.specs.Freelist.{first_trunk, free_field, freelist_walk};
-ghost use Rattle.btree_walk.specs.Causes.{IsGivenBy, is_failure};
-ghost use Rattle.space_map.specs.Marks.{AddsOnly, KeepsMarks};
+ghost use Rattle.btree_walk.specs.Causes.{IsGivenBy, IsMarked, is_failure};
+ghost use Rattle.space_map.specs.Marks.{KeepsMarks};
 ghost use Rattle.space_map.specs.FreeMap.{IsFreelist};
 
 use crate::trunk::is_number;
@@ -64,8 +63,8 @@ pub fn freelist<S: PageSource>(
     ensures fault { IfErr result (λ error. IsTrue (is_failure S.is_fault error) → Rose (S.faults source.old) (S.faults source.new)) }
     // marks, whatever it answers
     ensures kept { KeepsMarks (marked seen.old) (marked seen.new) }
-    ensures only { IsTrue S.tells
-        → AddsOnly (places (freelist_walk (S.plain source.old) (marked seen.old))) (marked seen.old) (marked seen.new) }
+    ensures marked { IsTrue S.tells
+        → IsMarked (freelist_walk (S.plain source.old) (marked seen.old)) (marked seen.old) (marked seen.new) }
     ensures length { length seen.new ≡ length seen.old }
     // what stays as it was
     ensures pins { S.pins source.new ≡ S.pins source.old }

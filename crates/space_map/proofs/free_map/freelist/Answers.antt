@@ -3,7 +3,7 @@ use Rattle.db_format.specs.Pages.{Pages, Test}
 use Rattle.db_format.specs.Seen.{marked}
 use Rattle.btree_model.specs.Freelist.{lists_of, freelist_walk}
 use Rattle.space_map.specs.Walk.{IsAt, IsDone, IsStopped}
-use Rattle.space_map.proofs.TrunkLemmas.{lists_at, lists_out, freelist_done, freelist_miscounted, first_for, adds_joined, adds_met}
+use Rattle.space_map.proofs.TrunkLemmas.{lists_at, lists_out, freelist_done, freelist_miscounted, first_for, marked_joined, marked_met}
 use Rattle.space_map.proofs.free_map.freelist.Goals as goal
 
 pub walk_trunks-requires-clause-first : goal.walk_trunks-requires-clause-first
@@ -27,8 +27,8 @@ returns-in-Err-walk_trunks-clause-found g c told =
     in
     first_for g.S.PageSource.refuses pages (lists_of pages taken) _ c.in-Err-walk_trunks.stop stopped.first
 
-pub returns-in-Err-walk_trunks-clause-only : goal.returns-in-Err-walk_trunks-clause-only
-returns-in-Err-walk_trunks-clause-only g c told =
+pub returns-in-Err-walk_trunks-clause-marked : goal.returns-in-Err-walk_trunks-clause-marked
+returns-in-Err-walk_trunks-clause-marked g c told =
     let pages : Pages = g.S.PageSource.plain c.args.source.now in
     let taken : Test = marked c.args.seen.now in
     let at : IsAt pages (lists_of pages taken) taken pages.count c.args.header.now.first_trunk 0 taken (marked c.in-Ok.leaves) =
@@ -37,10 +37,10 @@ returns-in-Err-walk_trunks-clause-only g c told =
     let stopped : IsStopped g.S.PageSource.refuses pages (lists_of pages taken) taken (marked c.walk_trunks.new.seen) c.in-Err-walk_trunks.stop =
     c.in-Err-walk_trunks.ensures.on told (lists_of pages taken) taken at
     in
-    adds_joined (lists_of pages taken) _ taken (marked c.walk_trunks.new.seen) stopped.marks
+    marked_joined (lists_of pages taken) _ taken (marked c.walk_trunks.new.seen) stopped.marks
 
-pub returns-then-found-header-clause-only : goal.returns-then-found-header-clause-only
-returns-then-found-header-clause-only g c told =
+pub returns-then-found-header-clause-marked : goal.returns-then-found-header-clause-marked
+returns-then-found-header-clause-marked g c told =
     let pages : Pages = g.S.PageSource.plain c.args.source.now in
     let taken : Test = marked c.args.seen.now in
     let at : IsAt pages (lists_of pages taken) taken pages.count c.args.header.now.first_trunk 0 taken (marked c.in-Ok.leaves) =
@@ -49,10 +49,10 @@ returns-then-found-header-clause-only g c told =
     let done : IsDone (lists_of pages taken) taken c.in-Ok-walk_trunks.found (marked c.walk_trunks.new.seen) (marked c.walk_trunks.new.free) =
     c.in-Ok-walk_trunks.ensures.on told (lists_of pages taken) taken at
     in
-    adds_met (freelist_walk pages taken) (lists_of pages taken) _ taken (marked c.walk_trunks.new.seen) refl done.marks
+    marked_met (freelist_walk pages taken) (lists_of pages taken) _ taken (marked c.walk_trunks.new.seen) refl done.marks
 
-pub returns-else-found-header-clause-only : goal.returns-else-found-header-clause-only
-returns-else-found-header-clause-only g c told =
+pub returns-else-found-header-clause-marked : goal.returns-else-found-header-clause-marked
+returns-else-found-header-clause-marked g c told =
     let pages : Pages = g.S.PageSource.plain c.args.source.now in
     let taken : Test = marked c.args.seen.now in
     let at : IsAt pages (lists_of pages taken) taken pages.count c.args.header.now.first_trunk 0 taken (marked c.in-Ok.leaves) =
@@ -61,7 +61,7 @@ returns-else-found-header-clause-only g c told =
     let done : IsDone (lists_of pages taken) taken c.in-Ok-walk_trunks.found (marked c.walk_trunks.new.seen) (marked c.walk_trunks.new.free) =
     c.in-Ok-walk_trunks.ensures.on told (lists_of pages taken) taken at
     in
-    adds_met (freelist_walk pages taken) (lists_of pages taken) _ taken (marked c.walk_trunks.new.seen) refl done.marks
+    marked_met (freelist_walk pages taken) (lists_of pages taken) _ taken (marked c.walk_trunks.new.seen) refl done.marks
 
 pub returns-then-found-header-clause-found : goal.returns-then-found-header-clause-found
 returns-then-found-header-clause-found g c told =

@@ -2,8 +2,7 @@ use Rattle.std.proofs.Common.{◌≡◌, ℕ, List, ◌+◌, ◌≤◌, not, [],
 use Rattle.db_format.specs.Pages.{Pages}
 use Rattle.db_format.specs.Seen.{marked}
 use Rattle.btree_model.specs.Freelist.{numbers_at}
-use Rattle.btree_model.specs.Finding.{places}
-use Rattle.space_map.specs.Marks.{AddsOnly}
+use Rattle.btree_walk.specs.Causes.{IsMarked}
 use Rattle.space_map.specs.Walk.{IsInside, IsTrunk, IsLeafTwice}
 use Rattle.space_map.proofs.TrunkLemmas.{trunk_refused, trunk_marks, trunk_twice, trunk_open, trunk_closed, trunk_room, leaf_marked, leaf_low, keeps_also, zero_on, page_in}
 use Rattle.space_map.proofs.walk.visit_trunk.Goals as goal
@@ -12,7 +11,7 @@ pub returns-then-not-mark-clause-on : goal.returns-then-not-mark-clause-on
 returns-then-not-mark-clause-on g c told all taken fuel found at =
     record {
       first = trunk_twice _ all taken fuel c.args.n found (marked c.args.seen.now) (marked c.args.free.now) at c.requires.low (c.mark.ensures.fresh ∙ ap not c.if-not-mark.true);
-      marks = subst (λ t. AddsOnly (places all) taken t) (sym c.mark.ensures.after) (trunk_marks _ all taken fuel c.args.n found (marked c.args.seen.now) (marked c.args.free.now) at c.requires.low);
+      marks = subst (λ t. IsMarked all taken t) (sym c.mark.ensures.after) (trunk_marks _ all taken fuel c.args.n found (marked c.args.seen.now) (marked c.args.free.now) at c.requires.low);
     }
 
 pub returns-then-not-mark-clause-kept : goal.returns-then-not-mark-clause-kept
@@ -26,7 +25,7 @@ returns-in-Err-clause-on g c told all taken fuel found at =
     record {
       first = trunk_refused (g.S.PageSource.plain c.args.source.now) all taken fuel c.args.n found (marked c.args.seen.now) (marked c.args.free.now) at c.requires.low
           g.S.PageSource.refuses c.in-Err.refusal c.requires.high c.in-Err.ensures.refused (c.mark.ensures.fresh ∙ ap not c.if-not-mark.false);
-      marks = subst (λ t. AddsOnly (places all) taken t) (sym c.mark.ensures.after) (trunk_marks _ all taken fuel c.args.n found (marked c.args.seen.now) (marked c.args.free.now) at c.requires.low);
+      marks = subst (λ t. IsMarked all taken t) (sym c.mark.ensures.after) (trunk_marks _ all taken fuel c.args.n found (marked c.args.seen.now) (marked c.args.free.now) at c.requires.low);
     }
 
 pub returns-in-Err-clause-given : goal.returns-in-Err-clause-given
@@ -75,7 +74,7 @@ returns-in-None-clause-on g c told all taken fuel found at =
     record {
       first = trunk_closed pages all taken fuel c.args.n found (marked c.args.seen.now) (marked c.args.free.now) at c.requires.low bytes (c.loaded-bytes.ensures ∙ c.in-Ok.ensures.told told)
           (c.in-None.ensures pages (sym c.pages-count.ensures) whole) (c.mark.ensures.fresh ∙ ap not c.if-not-mark.false) (c.in-Ok.ensures.accepted told);
-      marks = subst (λ t. AddsOnly (places all) taken t) (sym c.mark.ensures.after) (trunk_marks _ all taken fuel c.args.n found (marked c.args.seen.now) (marked c.args.free.now) at c.requires.low);
+      marks = subst (λ t. IsMarked all taken t) (sym c.mark.ensures.after) (trunk_marks _ all taken fuel c.args.n found (marked c.args.seen.now) (marked c.args.free.now) at c.requires.low);
     }
 
 pub returns-in-None-clause-kept : goal.returns-in-None-clause-kept
