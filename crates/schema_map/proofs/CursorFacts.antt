@@ -11,8 +11,9 @@ use Rattle.btree_walk.specs.declared.cursor.Stage.{Stage}
 use Rattle.btree_walk.specs.declared.cursor.Stage.TheVariants.{New, Inside, Stopped}
 use Rattle.btree_walk.specs.Cursor.{IsMade, IsAt, IsAtStage, family_or, walked}
 use Rattle.btree_walk.specs.Turn.{work}
-use Rattle.space_map.specs.Marks.{AddsOnly}
-use Rattle.space_map.proofs.TrunkLemmas.{adds_met}
+use Rattle.btree_walk.specs.Causes.{IsMarked}
+use Rattle.btree_model.proofs.FindingLemmas.{places-append}
+use Rattle.space_map.proofs.TrunkLemmas.{also_front, marked_met}
 
 pub work_made : (seen : List Bool) (root : ℕ) (asked : Option Family) (cursor : Cursor) → IsMade root asked cursor → work seen cursor.path ≡ 2 ^ 21 * open_count seen
 work_made seen root asked cursor made = ap (work seen) made.path ∙ (omega arith)
@@ -24,18 +25,17 @@ walked_is pages taken cursor root asked same_root same_asked =
     ap (λ n. tree_walk pages (family_or cursor.asked (root_family n (pages.page n))) taken n) same_root
     ∙ ap (λ a. tree_walk pages (family_or a (root_family root (pages.page root))) taken root) same_asked
 
--- the pages that are marked, where the cursor met no defect
-within_by : (stage : Stage) (pages : Pages) (taken : Test) (given : List Row) (cursor : Cursor) (seen : Test) → IsAtStage stage pages taken given cursor seen
-    → ((d : _) → stage ≡ Stopped d → ⊥) → AddsOnly (places (walked pages taken cursor)) taken seen
-within_by New pages taken given cursor seen at sound n h = adds_met (walked pages taken cursor) [] _ taken seen refl at.marks n h
-within_by Inside pages taken given cursor seen at sound n h =
-    adds_met (walked pages taken cursor) at.walking.met _ taken seen
-    (ap (λ family. tree_walk pages family taken cursor.root) (sym at.family) ∙ at.walking.stands.whole taken at.walking.unmarked) at.walking.marks n h
-within_by (Stopped d) pages taken given cursor seen at sound n h = absurd (sound d refl)
+-- the pages that are marked
+marked_by : (stage : Stage) (pages : Pages) (taken : Test) (given : List Row) (cursor : Cursor) (seen : Test) → IsAtStage stage pages taken given cursor seen
+    → IsMarked (walked pages taken cursor) taken seen
+marked_by New pages taken given cursor seen at = record { found = []; more = walked pages taken cursor; whole = refl; marks = at.marks }
+marked_by Inside pages taken given cursor seen at =
+    marked_met (walked pages taken cursor) at.walking.met _ taken seen
+    (ap (λ family. tree_walk pages family taken cursor.root) (sym at.family) ∙ at.walking.stands.whole taken at.walking.unmarked) at.walking.marks
+marked_by (Stopped d) pages taken given cursor seen at = at.1
 
-pub at_within : (pages : Pages) (taken : Test) (given : List Row) (cursor : Cursor) (seen : Test) → IsAt pages taken given cursor seen
-    → ((d : _) → cursor.stage ≡ Stopped d → ⊥) → AddsOnly (places (walked pages taken cursor)) taken seen
-at_within pages taken given cursor seen at sound = within_by cursor.stage pages taken given cursor seen at sound
+pub at_marked : (pages : Pages) (taken : Test) (given : List Row) (cursor : Cursor) (seen : Test) → IsAt pages taken given cursor seen → IsMarked (walked pages taken cursor) taken seen
+at_marked pages taken given cursor seen at = marked_by cursor.stage pages taken given cursor seen at
 
 -- marks that stay: no more pages are open
 pub open_falls : (old new : List Bool) → length new ≡ length old → ((n : ℕ) → marked old n ≡ true → marked new n ≡ true) → open_count new ≤ open_count old
@@ -56,10 +56,12 @@ open_falls (false ∷ old) (false ∷ new) same kept =
 
 -- the last step of a walk opens no page again
 pub passed_on : (pages : Pages) (taken : Test) (given : List Row) (cursor : Cursor) (seen later : List Bool) → IsAt pages taken given cursor (marked seen)
-    → ((d : _) → cursor.stage ≡ Stopped d → ⊥) → marked later ≡ also (places (walked pages taken cursor)) taken → length later ≡ length seen
-    → open_count later ≤ open_count seen
-passed_on pages taken given cursor seen later at sound marks same =
-    open_falls seen later same (λ n h. ap (λ t. t n) marks ∙ at_within pages taken given cursor (marked seen) at sound n h)
+    → marked later ≡ also (places (walked pages taken cursor)) taken → length later ≡ length seen → open_count later ≤ open_count seen
+passed_on pages taken given cursor seen later at marks same =
+    let is : IsMarked (walked pages taken cursor) taken (marked seen) = at_marked pages taken given cursor (marked seen) at in
+    open_falls seen later same (λ n h.
+    ap (λ t. t n) (marks ∙ ap (λ l. also l taken) (ap places is.whole ∙ places-append is.found is.more))
+    ∙ also_front (places is.found) (places is.more) taken n (sym (ap (λ t. t n) is.marks) ∙ h))
 
 pub first_falls : (b c : Bool) → (b ≡ true → c ≡ true) → (if c then 0 else 1) ≤ (if b then 0 else 1)
 first_falls true true kept = omega arith

@@ -7,7 +7,7 @@ ghost use Rattle.db_format.specs.Source.{Rose, no_pins};
 ghost use Rattle.btree_page.specs.Payload.{max_payload};
 ghost use Rattle.btree_model.specs.Finding.{Row};
 ghost use Rattle.btree_model.specs.Schema.{rowid_or_0, schema_part};
-ghost use Rattle.btree_walk.specs.Causes.{IsGivenBy, is_failure};
+ghost use Rattle.btree_walk.specs.Causes.{IsGivenBy, IsMarked, is_failure};
 ghost use Rattle.schema_map.specs.Schema.{IsRowRead, IsSchemaRead};
 
 use crate::root::{RootPage, root_page};
@@ -89,6 +89,7 @@ pub fn read_schema<S: PageSource>(
         → IsSchemaRead S.refuses (S.plain source.old) (schema_part (S.plain source.old) (marked seen.old)) seen.old seen.new result }
     ensures given { IfErr result (IsGivenBy S.only_read S.plain S.refuses source.old) }
     ensures fault { IfErr result (λ error. IsTrue (is_failure S.is_fault error) → Rose (S.faults source.old) (S.faults source.new)) }
+    ensures marked { IsTrue S.tells → IsMarked (schema_part (S.plain source.old) (marked seen.old)) (marked seen.old) (marked seen.new) }
     // whether pages are told or not
     ensures roots { IfOk result (All (λ row. row.root ≤ (S.plain source.old).count)) }
     ensures length { length seen.new ≡ length seen.old }

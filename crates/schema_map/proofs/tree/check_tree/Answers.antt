@@ -1,4 +1,4 @@
-use Rattle.std.proofs.Common.{◌≡◌, ◌+◌, ◌*◌, ◌^◌, ◌<◌, ◌≤◌, false, List, [], ◌∷◌, ◌++◌, length, Some, None, Ok, Err, arith, refl, ap, sym, subst, ◌∙◌}
+use Rattle.std.proofs.Common.{◌≡◌, ◌+◌, ◌*◌, ◌^◌, ◌<◌, ◌≤◌, List, [], ◌∷◌, ◌++◌, length, Some, None, Ok, arith, refl, ap, sym, subst, ◌∙◌}
 use Rattle.std.proofs.lemmas.List.{length-append}
 use Rattle.std.specs.List.{Contains}
 use Rattle.db_format.specs.declared.defect.Defect.TheVariants.{RecordFault}
@@ -11,7 +11,6 @@ use Rattle.btree_model.specs.Tree.{root_family, tree_walk}
 use Rattle.btree_walk.specs.Causes.{IsAmong}
 use Rattle.btree_walk.specs.Cursor.{IsAt, IsAdvanced, IsNext, IsEnd, row_of, walked}
 use Rattle.btree_walk.specs.Turn.{work}
-use Rattle.btree_walk.specs.declared.error.WalkError.TheVariants.{Defect as Found}
 use Rattle.btree_walk.proofs.CauseLemmas.{given_later}
 use Rattle.space_map.proofs.TrunkLemmas.{open_most}
 use Rattle.btree_walk.proofs.CursorLemmas.{ready_made, at_made}
@@ -123,7 +122,7 @@ returns-in-Ok-false-clause-on g c told =
     in
     let before : walked pages taken c.entries.cursor ≡ found = walked_is pages taken c.entries.cursor c.args.root None c.entries.invariant.root c.entries.invariant.asked in
     let fewer : open_count c.advance.new.seen ≤ open_count c.entries.seen =
-    passed_on pages taken at.0 c.entries.cursor c.entries.seen c.advance.new.seen at.1 (λ d stopped. let no : Ok false ≡ Err (Found d) = ap Ok (sym c.in-Ok-false.field-0-test) ∙ c.in-Ok-false.ensures.again d stopped in cc)
+    passed_on pages taken at.0 c.entries.cursor c.entries.seen c.advance.new.seen at.1
     (end.marks ∙ ap (λ l. also (places l) taken) (whole ∙ sym before)) (c.in-Ok-false.ensures.ready.marks ∙ ap (λ k. k + 1) (g.met.S.PageSource.same_count c.entries.source c.advance.new.source c.in-Ok-false.ensures.reads) ∙ sym c.entries.invariant.ready.marks)
     in
     part_done found at.0 c.args.seen.now c.advance.new.seen c.entries.rows (ap is_sound (sym whole) ∙ end.sound) (ap entries (sym whole) ∙ end.whole) at.2
