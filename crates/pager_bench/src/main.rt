@@ -1,0 +1,78 @@
+//! Reads pages through a pager, to be timed.
+//!
+//! `pager_bench FILE P scan TIMES`: every page of FILE, which is of profile P, so many times in order, each read from the file and
+//! opened. `pager_bench FILE P held TIMES`: so many pages that are held, in order. The key is the raw key of the bytes 0 to 31. It
+//! prints how many pages were lent. Without words it prints 0.
+#![tactic(auto)]
+
+mod read_file;
+
+use crate::read_file::ReadFile;
+use cipher_profile::{Secret, profile_of};
+use edge_model::{Entropy, MemEntropy};
+use page_codec::Codec;
+use pager::{PageSource, Pager, codec_of, served_length};
+use std::fs::File;
+use std::{env, io};
+
+const FRAMES: u32 = 64;
+
+// The codec of the file under the key of the bytes 0 to 31.
+fn codec_for(file: &mut ReadFile, word: &str) -> Option<Codec> {
+    let profile = profile_of(word)?;
+    let mut key = [0u8; 32];
+    for i in 0..32 {
+        key[i] = i as u8;
+    }
+    served_length(file, &profile).ok()?;
+    let (codec, fits) = codec_of(file, profile, &Secret::Raw(key)).ok()?;
+    if fits { Some(codec) } else { None }
+}
+
+// How many of the first pages are lent, so many times in order.
+fn lend<E: Entropy>(pager: &mut Pager<'_, ReadFile, E>, count: u32, times: u64) -> u64 {
+    let mut lent = 0u64;
+    for _ in 0..times {
+        for n in 0..count {
+            if pager.load(n.wrapping_add(1)).is_ok() && !pager.loaded().is_empty() {
+                lent = lent.wrapping_add(1);
+            }
+        }
+    }
+    lent
+}
+
+fn read_pages(rt: &HostRuntime, words: &Vec<String>) -> io::Result<u64> {
+    let (Some(path), Some(profile), Some(what), Some(times)) = (
+        words.get(1),
+        words.get(2),
+        words.get(3),
+        words.get(4),
+    ) else {
+        return Ok(0);
+    };
+    let times = times.as_str().parse::<u64>().unwrap_or(1);
+    let mut file = ReadFile::new(File::open(rt, path.as_str())?);
+    let Some(codec) = codec_for(&mut file, profile.as_str()) else {
+        return Err(io::ErrorKind::InvalidData.into());
+    };
+    let Ok(mut entropy) = MemEntropy::new(rt.alloc(), &[], &[]) else {
+        return Err(io::ErrorKind::OutOfMemory.into());
+    };
+    let Ok(mut pager) = Pager::open(rt.alloc(), &mut file, &mut entropy, codec, FRAMES) else {
+        return Err(io::ErrorKind::InvalidData.into());
+    };
+    let pages = pager.pages();
+    let count = if what.as_str() == "held" {
+        pages.min(FRAMES)
+    } else {
+        pages
+    };
+    Ok(lend(&mut pager, count, times))
+}
+
+fn main(rt: HostRuntime) -> io::Result<()> {
+    let words: Vec<String> = env::args(&rt)?.collect(rt.alloc())?;
+    let lent = read_pages(&rt, &words)?;
+    println!(rt; "{lent}")
+}
