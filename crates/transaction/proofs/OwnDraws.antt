@@ -16,7 +16,7 @@ draw_last reserve drawn more long =
     ap (λ (l : List ℕ). take reserve l) (drop-append-le (length drawn) drawn more (omega arith) ∙ ap (λ (l : List ℕ). l ++ more) (drop_all (length drawn) drawn (omega arith)))
     ∙ take_all reserve more (omega (arith, long))
 
-same_or : (n m : ℕ) → (n ≡ m) ⊎ (n ≢ m)
+pub same_or : (n m : ℕ) → (n ≡ m) ⊎ (n ≢ m)
 same_or n m = go (either (n == m))
   where
     go : ((n == m) ≡ true) ⊎ ((n == m) ≡ false) → (n ≡ m) ⊎ (n ≢ m)

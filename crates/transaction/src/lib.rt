@@ -24,14 +24,16 @@
 //! 9. Fresh is left alone (`fresh` of each step).
 //! 10. No call but `PageMarks::new` takes memory: none has an allocator.
 //!
-//! What a pager keeps beside its frames stands here too: which pages are marked, with their count (`PageMarks`), what Main
-//! reads as while pages are changed (`HasChanges`), and that each page is sealed with bytes of its own (`OwnDraws`).
+//! What a pager keeps beside its frames stands here too: which pages are marked, with their count (`PageMarks`); that the marked
+//! pages are those that have a record, which gives room and freshness of the next one (`keep_marked`, with `AreRecorded`); what
+//! Main reads as while pages are changed (`HasChanges`); and that each page is sealed with bytes of its own (`OwnDraws`).
 #![tactic(auto)]
 
 mod changes;
 mod committing;
 mod journal;
 mod marks;
+mod recording;
 mod spilling;
 mod steps;
 #[cfg(test)]
@@ -41,6 +43,7 @@ mod writer;
 pub use changes::{Changes, DrawFailed};
 pub use committing::{CommitFault, commit, keep_all, prepare, write_all, write_one, write_rest};
 pub use marks::PageMarks;
+pub use recording::keep_marked;
 pub use rollback_journal::Stage;
 pub use spilling::spill;
 pub use steps::{abandon, close, finish, keep_old, next, open, read_page, start, write_page};
