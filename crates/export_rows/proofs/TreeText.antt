@@ -48,7 +48,6 @@ text_more given row values is =
 
 module _ (pages : Pages) (root : ℕ) (cursor : Cursor) (seen : Test) (rows : ℕ) (told : Bool) (before waiting after left : List ℕ)
     (so : IsSoFar pages root cursor seen rows told before waiting after left) where
-
   -- a failure before the next entry
   pub so_far_stopped : IsTrue told → MovesPart (flat_map row_text (tree_rows pages root)) before waiting after
   so_far_stopped t =
@@ -85,9 +84,9 @@ module _ (pages : Pages) (root : ℕ) (cursor : Cursor) (seen : Test) (rows : �
         → IsTrue told → MovesPart (flat_map row_text (tree_rows pages root)) before waiting after'
     so_far_failed is after' part t =
         restated_part (
-          ap (λ l. l ++ flat_map row_text gives.more) (text_more so.given row values is)
-          ∙ sym (flat_map-append row_text (so.given ++ row ∷ []) gives.more)
-          ∙ ap (flat_map row_text) (append_assoc so.given (row ∷ []) gives.more ∙ sym row_order)
+        ap (λ l. l ++ flat_map row_text gives.more) (text_more so.given row values is)
+        ∙ sym (flat_map-append row_text (so.given ++ row ∷ []) gives.more)
+        ∙ ap (flat_map row_text) (append_assoc so.given (row ∷ []) gives.more ∙ sym row_order)
         ) (cut (flat_map row_text gives.more) (then_part (so.moved t) (part t)))
 
 -- nothing was put

@@ -30,8 +30,8 @@ returns-in-Err-tree_family-clause-causes g c told =
     let pages : Pages = g.S.PageSource.plain c.args.source.now in (
       c.if-root-eq0.false,
       among_joined g.S.PageSource.refuses pages (tree_walk pages (root_family c.args.root (pages.page c.args.root)) nothing c.args.root) _ (Source c.in-Err-tree_family.refusal)
-      (start_shut pages (root_family c.args.root (pages.page c.args.root)) c.args.root nothing g.S.PageSource.refuses (Source c.in-Err-tree_family.refusal) refl
-      (number_is_page pages c.args.root (let low : 1 ≤ c.args.root = omega (arith, c.if-root-eq0.false) in low) c.requires.high) c.in-Err-tree_family.ensures.refused),
+          (start_shut pages (root_family c.args.root (pages.page c.args.root)) c.args.root nothing g.S.PageSource.refuses (Source c.in-Err-tree_family.refusal) refl
+          (number_is_page pages c.args.root (let low : 1 ≤ c.args.root = omega (arith, c.if-root-eq0.false) in low) c.requires.high) c.in-Err-tree_family.ensures.refused),
     )
 
 pub returns-in-Err-put_schema_row-2-clause-part : goal.returns-in-Err-put_schema_row-2-clause-part

@@ -126,20 +126,20 @@ entries-preserved g c =
           omega arith;
       later = search rules;
       on = λ told.
-    let pages : Pages = g.S.PageSource.plain c.args.source.now in
-    let same : g.S.PageSource.plain c.entries.source ≡ pages = g.met.S.PageSource.same_pages c.args.source.now c.entries.source c.entries.invariant.read told in
-    let so = c.entries.invariant.on told in
-    let at : IsAt (g.S.PageSource.plain c.entries.source) nothing so.given c.entries.cursor (marked c.entries.seen) =
-    subst (λ p. IsAt p nothing so.given c.entries.cursor (marked c.entries.seen)) (sym same) so.at in
-    let next : IsNext pages nothing so.given c.advance.new.self (marked c.advance.new.seen) (row_of c.advance.new.self) =
-    subst (λ p. IsNext p nothing so.given c.advance.new.self (marked c.advance.new.seen) (row_of c.advance.new.self)) same
-    (subst (λ m. IsAdvanced g.S.PageSource.refuses (g.S.PageSource.plain c.entries.source) nothing so.given c.advance.new.self (marked c.advance.new.seen) (Ok m)) c.in-Ok-true.field-0-test
-    (c.in-Ok-true.ensures.on told nothing so.given at)) in
-    let walk = walked_is pages nothing c.advance.new.self c.args.root None (c.in-Ok-true.ensures.same.root ∙ c.entries.invariant.root) (c.in-Ok-true.ensures.same.asked ∙ c.entries.invariant.asked) in
-    let values : columns (row_of c.advance.new.self).payload ≡ Some c.in-Ok-read.row =
-    ap (λ (row : Row). columns row.payload) (sym c.entry-entry.ensures) ∙ c.in-Ok-read.ensures.read in
-    let named : entry_line c.entry-entry.result.rowid c.in-Ok-read.row ≡ entry_line (row_of c.advance.new.self).rowid c.in-Ok-read.row =
-    ap (λ (row : Row). entry_line row.rowid c.in-Ok-read.row) c.entry-entry.ensures in
+          let pages : Pages = g.S.PageSource.plain c.args.source.now in
+          let same : g.S.PageSource.plain c.entries.source ≡ pages = g.met.S.PageSource.same_pages c.args.source.now c.entries.source c.entries.invariant.read told in
+          let so = c.entries.invariant.on told in
+          let at : IsAt (g.S.PageSource.plain c.entries.source) nothing so.given c.entries.cursor (marked c.entries.seen) =
+          subst (λ p. IsAt p nothing so.given c.entries.cursor (marked c.entries.seen)) (sym same) so.at in
+          let next : IsNext pages nothing so.given c.advance.new.self (marked c.advance.new.seen) (row_of c.advance.new.self) =
+          subst (λ p. IsNext p nothing so.given c.advance.new.self (marked c.advance.new.seen) (row_of c.advance.new.self)) same
+          (subst (λ m. IsAdvanced g.S.PageSource.refuses (g.S.PageSource.plain c.entries.source) nothing so.given c.advance.new.self (marked c.advance.new.seen) (Ok m)) c.in-Ok-true.field-0-test
+          (c.in-Ok-true.ensures.on told nothing so.given at)) in
+          let walk = walked_is pages nothing c.advance.new.self c.args.root None (c.in-Ok-true.ensures.same.root ∙ c.entries.invariant.root) (c.in-Ok-true.ensures.same.asked ∙ c.entries.invariant.asked) in
+          let values : columns (row_of c.advance.new.self).payload ≡ Some c.in-Ok-read.row =
+          ap (λ (row : Row). columns row.payload) (sym c.entry-entry.ensures) ∙ c.in-Ok-read.ensures.read in
+          let named : entry_line c.entry-entry.result.rowid c.in-Ok-read.row ≡ entry_line (row_of c.advance.new.self).rowid c.in-Ok-read.row =
+          ap (λ (row : Row). entry_line row.rowid c.in-Ok-read.row) c.entry-entry.ensures in
           so_far_on pages c.args.root c.entries.cursor (marked c.entries.seen) c.entries.rows g.K.Sink.tells (g.K.Sink.taken c.args.out.now) c.args.line.now (g.K.Sink.taken c.entries.out) c.entries.line so c.advance.new.self (marked c.advance.new.seen) (row_of c.advance.new.self) c.in-Ok-read.row next walk
           values (g.K.Sink.taken c.put_entry.new.out) c.put_entry.new.line (λ t. restated named (c.in-Ok-put_entry.ensures.done t));
     }
