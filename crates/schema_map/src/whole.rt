@@ -1,5 +1,6 @@
 // The whole of a database.
 ghost use Rattle.std.specs.Prelude.{◌≡◌, ◌+◌, ◌≤◌, length, IfOk, IfErr, OnOk, IsTrue};
+ghost use Rattle.std.specs.List.{All};
 ghost use Rattle.db_format.specs.Seen.{marked};
 ghost use Rattle.db_format.specs.Source.{Rose, no_pins};
 ghost use Rattle.btree_model.specs.Freelist.{first_trunk, free_field};
@@ -76,6 +77,7 @@ impl Started {
         ensures found { IsTrue S.tells → IsCensus S.refuses (S.plain source.old) result }
         ensures given { IfErr result (IsGivenBy S.only_read S.plain S.refuses source.old) }
         ensures fault { IfErr result (λ error. IsTrue (is_failure S.is_fault error) → Rose (S.faults source.old) (S.faults source.new)) }
+        ensures roots { IfOk result (λ census. All (λ row. row.root ≤ (S.plain source.old).count) census.schema) }
         ensures unpinned { OnOk result (S.pins source.new ≡ no_pins) }
         ensures reads { S.only_read source.old source.new }
     {
@@ -114,6 +116,7 @@ pub fn census<S: PageSource>(
     ensures found { IsTrue S.tells → IsCensus S.refuses (S.plain source.old) result }
     ensures given { IfErr result (IsGivenBy S.only_read S.plain S.refuses source.old) }
     ensures fault { IfErr result (λ error. IsTrue (is_failure S.is_fault error) → Rose (S.faults source.old) (S.faults source.new)) }
+    ensures roots { IfOk result (λ census. All (λ row. row.root ≤ (S.plain source.old).count) census.schema) }
     ensures unpinned { OnOk result (S.pins source.new ≡ no_pins) }
     ensures reads { S.only_read source.old source.new }
 {

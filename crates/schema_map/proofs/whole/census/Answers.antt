@@ -1,6 +1,10 @@
-use Rattle.std.proofs.Common.{sym, subst}
+use Rattle.std.proofs.Common.{ℕ, ◌≤◌, sym, subst}
+use Rattle.std.specs.Prelude.{IfOk}
+use Rattle.std.specs.List.{All}
 use Rattle.btree_walk.proofs.CauseLemmas.{if_given_later}
 use Rattle.schema_map.specs.Census.{IsBegun, IsCensus}
+use Rattle.schema_map.specs.declared.counts.Census.{Census}
+use Rattle.schema_map.specs.declared.schema.SchemaRow.{SchemaRow}
 use Rattle.schema_map.proofs.WholeLemmas.{free_stop}
 use Rattle.schema_map.proofs.whole.census.Goals as goal
 
@@ -20,3 +24,8 @@ pub returns-in-Ok-clause-given : goal.returns-in-Ok-clause-given
 returns-in-Ok-clause-given g c =
     if_given_later g.S.PageSource.only_read g.S.PageSource.plain g.S.PageSource.refuses c.args.source.now c.start.new.source c.finish.result g.met.S.PageSource.transitive
     (g.met.S.PageSource.same_count c.args.source.now c.start.new.source c.in-Ok.ensures.reads) c.in-Ok.ensures.reads c.finish.ensures.given
+
+pub returns-in-Ok-clause-roots : goal.returns-in-Ok-clause-roots
+returns-in-Ok-clause-roots g c =
+    subst (λ (count : ℕ). IfOk c.finish.result (λ (census : Census). All (λ (row : SchemaRow). row.root ≤ count) census.schema))
+    (g.met.S.PageSource.same_count c.args.source.now c.start.new.source c.in-Ok.ensures.reads) c.finish.ensures.roots
