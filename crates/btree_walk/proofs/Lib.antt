@@ -4,3 +4,4 @@ pub mod CursorLemmas
 pub mod OrderSteps
 pub mod PathLemmas
 pub mod TurnLemmas
+pub mod MarkLemmas

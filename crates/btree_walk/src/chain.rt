@@ -8,6 +8,7 @@ ghost use Rattle.btree_model.specs.Finding.{Finding, places};
 ghost use Rattle.btree_model.specs.Walk.{chain, chain_of};
 ghost use Rattle.btree_walk.specs.Causes.{IsGivenBy, IsMarked, is_failure};
 ghost use Rattle.btree_walk.specs.Chain.{IsCellRead, IsChained};
+ghost use Rattle.btree_walk.specs.Marks.{KeepsMarks};
 
 use crate::{WalkError, is_in_range};
 use db_format::{Defect, PageSource, Seen, u32_at};
@@ -26,6 +27,7 @@ fn read_chain<S: PageSource>(
     ensures pins { S.pins source.new ≡ S.pins source.old }
     ensures reads { S.only_read source.old source.new }
     ensures seen_length { length seen.new ≡ length seen.old }
+    ensures kept { KeepsMarks (marked seen.old) (marked seen.new) }
     ensures fewer { OnOk result (open_count seen.new ≤ open_count seen.old) }
     ensures given { IfErr result (IsGivenBy S.only_read S.plain S.refuses source.old) }
     ensures fault { IfErr result (λ error. IsTrue (is_failure S.is_fault error) → Rose (S.faults source.old) (S.faults source.new)) }
@@ -81,6 +83,7 @@ pub(crate) fn read_payload<S: PageSource>(
     ensures pins { S.pins source.new ≡ S.pins source.old }
     ensures reads { S.only_read source.old source.new }
     ensures seen_length { length seen.new ≡ length seen.old }
+    ensures kept { KeepsMarks (marked seen.old) (marked seen.new) }
     ensures fewer { OnOk result (open_count seen.new ≤ open_count seen.old) }
     ensures given { IfErr result (IsGivenBy S.only_read S.plain S.refuses source.old) }
     ensures fault { IfErr result (λ error. IsTrue (is_failure S.is_fault error) → Rose (S.faults source.old) (S.faults source.new)) }

@@ -8,6 +8,7 @@ ghost use Rattle.btree_walk.specs.Causes.{IsGivenBy, IsMarked, is_failure};
 ghost use Rattle.btree_walk.specs.Cursor.{IsReady, GivesNext, IsAdvanced, IsAt, IsGivenAfter, IsMade, IsSameTree, KeepsDefect, gives, row_of, row_shown, walked};
 ghost use Rattle.btree_walk.specs.Order.{IsAfter};
 ghost use Rattle.btree_walk.specs.Turn.{work};
+ghost use Rattle.btree_walk.specs.Marks.{KeepsMarks};
 ghost use Rattle.btree_page.specs.Payload.{max_payload};
 
 use crate::WalkError;
@@ -133,6 +134,7 @@ impl Cursor {
         ensures ready { IsReady (S.plain source.new).count (S.pins source.new) seen.new self.new }
         ensures same { IsSameTree self.old self.new }
         ensures reads { S.only_read source.old source.new }
+        ensures kept { KeepsMarks (marked seen.old) (marked seen.new) }
         // the entry, where pages are told or not
         ensures less { IfOk result (λ more. IsTrue more → work seen.new self.new.path < work seen.old self.old.path) }
         ensures rising { IfOk result (IsGivenAfter self.old self.new) }
@@ -169,6 +171,7 @@ impl Cursor {
         ensures ready { IsReady (S.plain source.old).count (S.pins source.new) seen.new self.new }
         ensures same { IsSameTree self.old self.new }
         ensures reads { S.only_read source.old source.new }
+        ensures kept { KeepsMarks (marked seen.old) (marked seen.new) }
         ensures less { IfOk result (λ more. IsTrue more → work seen.new self.new.path < work seen.old self.old.path) }
         ensures rising { IfOk result (IsGivenAfter self.old self.new) }
         ensures count { self.new.given ≡ self.old.given }

@@ -9,6 +9,7 @@ ghost use Rattle.btree_model.specs.Tree.{tree_walk};
 ghost use Rattle.btree_walk.specs.Causes.{IsAmong, IsGivenBy, IsMarked, is_failure};
 ghost use Rattle.btree_walk.specs.Cursor.{IsReady, IsBegun, IsGivenAfter, IsNew, IsRising, IsSameTree, IsSameWalk, IsWalking, given_then, row_of, walked};
 ghost use Rattle.btree_walk.specs.Turn.{IsEntered, IsEnterStop, given_by, work};
+ghost use Rattle.btree_walk.specs.Marks.{KeepsMarks};
 
 use crate::chain::read_payload;
 use crate::cursor::{Cursor, Stage};
@@ -42,6 +43,7 @@ fn enter<S: PageSource>(
     ensures pins { S.pins source.new ≡ (if is_ok result then one_more c (S.pins source.old) else S.pins source.old) }
     ensures reads { S.only_read source.old source.new }
     ensures seen_length { length seen.new ≡ length seen.old }
+    ensures kept { KeepsMarks (marked seen.old) (marked seen.new) }
     ensures shallow { OnOk result (depth < 20) }
     ensures low { OnOk result (1 ≤ c) }
     ensures high { OnOk result (c ≤ (S.plain source.old).count) }
@@ -77,6 +79,7 @@ fn take_turn<S: PageSource>(
     ensures ready { IsReady (S.plain source.old).count (S.pins source.new) seen.new cursor.new }
     ensures same { IsSameWalk cursor.old cursor.new }
     ensures reads { S.only_read source.old source.new }
+    ensures kept { KeepsMarks (marked seen.old) (marked seen.new) }
     ensures less { OnOk result (work seen.new cursor.new.path < work seen.old cursor.old.path) }
     ensures rising { IfOk result (IsRising cursor.old cursor.new) }
     ensures given { IfErr result (IsGivenBy S.only_read S.plain S.refuses source.old) }
@@ -152,6 +155,7 @@ pub(crate) fn walk_on<S: PageSource>(
     ensures ready { IsReady (S.plain source.old).count (S.pins source.new) seen.new cursor.new }
     ensures same { IsSameWalk cursor.old cursor.new }
     ensures reads { S.only_read source.old source.new }
+    ensures kept { KeepsMarks (marked seen.old) (marked seen.new) }
     ensures less { IfOk result (λ more. IsTrue more → work seen.new cursor.new.path < work seen.old cursor.old.path) }
     ensures end { IfOk result (λ more. more ≡ false → cursor.new.path ≡ []) }
     ensures rising { IfOk result (IsGivenAfter cursor.old cursor.new) }
@@ -189,6 +193,7 @@ pub(crate) fn begin<S: PageSource>(
     ensures last { cursor.new.last ≡ cursor.old.last }
     ensures count { cursor.new.given ≡ cursor.old.given }
     ensures reads { S.only_read source.old source.new }
+    ensures kept { KeepsMarks (marked seen.old) (marked seen.new) }
     ensures less { OnOk result (work seen.new cursor.new.path < work seen.old cursor.old.path) }
     ensures given { IfErr result (IsGivenBy S.only_read S.plain S.refuses source.old) }
     ensures fault { IfErr result (λ error. IsTrue (is_failure S.is_fault error) → Rose (S.faults source.old) (S.faults source.new)) }

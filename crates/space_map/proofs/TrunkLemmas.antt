@@ -17,7 +17,6 @@ use Rattle.btree_walk.proofs.ChainLemmas.{differ, sound_faults}
 use Rattle.btree_model.proofs.FindingLemmas.{faults-append, refusals-append, places-append, sound_both, also-append}
 use Rattle.btree_walk.specs.declared.error.WalkError.{WalkError}
 use Rattle.btree_walk.specs.declared.error.WalkError.TheVariants.{Defect as Found, Source, OutOfMemory}
-use Rattle.space_map.specs.Marks.{KeepsMarks}
 use Rattle.btree_walk.specs.Causes.{IsMarked, IsRefused}
 use Rattle.db_format.specs.Seen.{marked, open_count}
 use Rattle.space_map.specs.declared.trunk.Trunk.{Trunk}
@@ -115,9 +114,6 @@ or_last false b h = h
 -- a page of the first places is one of all
 pub also_front : (xs ys : List ℕ) (taken : Test) (n : ℕ) → also xs taken n ≡ true → also (xs ++ ys) taken n ≡ true
 also_front xs ys taken n h = ap (λ t. t n) (also-append xs ys taken) ∙ or_last (list_any (λ m. m == n) ys) (also xs taken n) h
-
-pub keeps_also : (ns : List ℕ) (old new : Test) → new ≡ also ns old → KeepsMarks old new
-keeps_also ns old new is n h = ap (λ t. t n) is ∙ or_last (list_any (λ m. m == n) ns) (old n) h
 
 pub marked_met : (all met left : List Finding) (taken seen : Test) → all ≡ met ++ left → seen ≡ also (places met) taken → IsMarked all taken seen
 marked_met all met left taken seen whole is = record { found = met; more = left; whole = whole; marks = is }

@@ -4,7 +4,7 @@ ghost use Rattle.db_format.specs.Seen.{marked};
 ghost use Rattle.db_format.specs.Source.{Rose};
 ghost use Rattle.btree_model.specs.Freelist.{first_trunk, free_field, freelist_walk};
 ghost use Rattle.btree_walk.specs.Causes.{IsGivenBy, IsMarked, is_failure};
-ghost use Rattle.space_map.specs.Marks.{KeepsMarks};
+ghost use Rattle.btree_walk.specs.Marks.{KeepsMarks};
 ghost use Rattle.space_map.specs.FreeMap.{IsFreelist};
 
 use crate::trunk::is_number;

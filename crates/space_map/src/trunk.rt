@@ -6,7 +6,7 @@ ghost use Rattle.db_format.specs.Seen.{marked, open_count};
 ghost use Rattle.btree_model.specs.Finding.{Finding};
 ghost use Rattle.btree_model.specs.Freelist.{numbers_at};
 ghost use Rattle.btree_model.specs.Range.{is_in_range};
-ghost use Rattle.space_map.specs.Marks.{KeepsMarks};
+ghost use Rattle.btree_walk.specs.Marks.{KeepsMarks};
 ghost use Rattle.space_map.specs.Walk.{IsInside, IsNumber, IsTaken, IsTrunkRead};
 
 use btree_walk::is_in_range;

@@ -5,7 +5,7 @@ ghost use Rattle.db_format.specs.Seen.{marked, open_count};
 ghost use Rattle.db_format.specs.Source.{Rose};
 ghost use Rattle.btree_model.specs.Finding.{Finding};
 ghost use Rattle.btree_walk.specs.Causes.{IsGivenBy, is_failure};
-ghost use Rattle.space_map.specs.Marks.{KeepsMarks};
+ghost use Rattle.btree_walk.specs.Marks.{KeepsMarks};
 ghost use Rattle.space_map.specs.Walk.{IsAt, IsNumber, IsVisited, IsWalked};
 
 use crate::trunk::{Trunk, read_trunk, take_leaves};

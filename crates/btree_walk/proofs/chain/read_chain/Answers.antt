@@ -1,9 +1,10 @@
-use Rattle.std.proofs.Common.{◌≡◌, ◌+◌, ◌-◌, suc, not, true, drop, ◌++◌, ap, sym, subst, ◌∙◌, arith, refl}
+use Rattle.std.proofs.Common.{◌≡◌, ◌+◌, ◌-◌, suc, not, true, drop, ◌++◌, ◌∷◌, [], ap, sym, subst, ◌∙◌, arith, refl}
 use Rattle.db_format.specs.Bytes.{u32_at}
 use Rattle.db_format.specs.Seen.{marked, open_count}
 use Rattle.btree_walk.specs.Chain.{IsLinked}
 use Rattle.btree_walk.proofs.ChainLemmas.{cut_all, chain_start, chain_done, chain_long, chain_short, chain_out, chain_twice, chain_placed, chain_refused, chain_on, chain_marked, chain_marked_link}
 use Rattle.btree_walk.proofs.CauseLemmas.{named_is_page}
+use Rattle.btree_walk.proofs.MarkLemmas.{keeps_also}
 use Rattle.btree_model.specs.Range.{is_in_range}
 use Rattle.btree_walk.proofs.chain.read_chain.Goals as goal
 
@@ -11,6 +12,7 @@ pub loop-turn-init : goal.loop-turn-init
 loop-turn-init g c =
     record {
       reads = g.met.S.PageSource.reflexive c.args.source.now;
+      kept = λ n marks. marks;
       pins = refl;
       seen_length = refl;
       fewer = omega arith;
@@ -73,6 +75,7 @@ pub loop-turn-preserved : goal.loop-turn-preserved
 loop-turn-preserved g c =
     record {
       reads = g.met.S.PageSource.transitive c.args.source.now c.loop-turn.source c.load.new.self c.loop-turn.invariant.reads c.in-Ok.ensures.reads;
+      kept = λ n was. keeps_also (c.loop-turn.n ∷ []) (marked c.loop-turn.seen) (marked c.mark.new.self) c.mark.ensures.after n (c.loop-turn.invariant.kept n was);
       pins = c.in-Ok.ensures.pins ∙ c.loop-turn.invariant.pins;
       seen_length = c.mark.ensures.length ∙ c.loop-turn.invariant.seen_length;
       fewer = let one : open_count c.mark.new.self + 1 ≡ open_count c.loop-turn.seen = c.mark.ensures.count c.if-not-mark.false in let before = c.loop-turn.invariant.fewer in omega arith;
@@ -152,3 +155,12 @@ returns-in-Err-extend_from_slice-clause-marks g c told taken met marks =
 pub returns-else-n-eq0-2-clause-marks : goal.returns-else-n-eq0-2-clause-marks
 returns-else-n-eq0-2-clause-marks g c told taken met marks =
     chain_marked (g.S.PageSource.plain c.args.source.now) taken met c.args.needed c.args.start c.args.first c.args.payload.now.items (marked c.args.seen.now) marks (c.args.needed - c.loop-turn.turn) c.loop-turn.holder c.loop-turn.n c.loop-turn.payload.items (marked c.loop-turn.seen) (c.loop-turn.invariant.on told taken met marks)
+
+pub returns-then-not-mark-clause-kept : goal.returns-then-not-mark-clause-kept
+returns-then-not-mark-clause-kept g c = λ n was. keeps_also (c.loop-turn.n ∷ []) (marked c.loop-turn.seen) (marked c.mark.new.self) c.mark.ensures.after n (c.loop-turn.invariant.kept n was)
+
+pub returns-in-Err-clause-kept : goal.returns-in-Err-clause-kept
+returns-in-Err-clause-kept g c = λ n was. keeps_also (c.loop-turn.n ∷ []) (marked c.loop-turn.seen) (marked c.mark.new.self) c.mark.ensures.after n (c.loop-turn.invariant.kept n was)
+
+pub returns-in-Err-extend_from_slice-clause-kept : goal.returns-in-Err-extend_from_slice-clause-kept
+returns-in-Err-extend_from_slice-clause-kept g c = λ n was. keeps_also (c.loop-turn.n ∷ []) (marked c.loop-turn.seen) (marked c.mark.new.self) c.mark.ensures.after n (c.loop-turn.invariant.kept n was)

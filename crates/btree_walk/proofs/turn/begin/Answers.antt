@@ -12,6 +12,7 @@ use Rattle.btree_walk.specs.Turn.{IsInside, IsNode, IsOpened}
 use Rattle.btree_walk.proofs.CauseLemmas.{given_later}
 use Rattle.btree_walk.proofs.PathLemmas.{number_is_page}
 use Rattle.btree_walk.proofs.TurnLemmas.{start_marked, start_on, start_shut, start_stop}
+use Rattle.btree_walk.proofs.MarkLemmas.{keeps_also}
 use Rattle.btree_walk.proofs.turn.begin.Goals as goal
 
 pub returns-then-not-mark-clause-on : goal.returns-then-not-mark-clause-on
@@ -80,3 +81,15 @@ returns-in-Err-open_page-clause-marks g c told taken given at =
     rw c.mark.ensures.after
     (subst (λ t. IsMarked (tree_walk (g.S.PageSource.plain c.args.source.now) (walked_family (g.S.PageSource.plain c.args.source.now) c.args.cursor.now) t c.args.cursor.now.root) t (also (c.args.cursor.now.root ∷ []) (marked c.args.seen.now))) at.marks
     (start_marked (g.S.PageSource.plain c.args.source.now) (walked_family (g.S.PageSource.plain c.args.source.now) c.args.cursor.now) c.args.cursor.now.root (marked c.args.seen.now)))
+
+pub returns-then-not-mark-clause-kept : goal.returns-then-not-mark-clause-kept
+returns-then-not-mark-clause-kept g c = keeps_also (c.args.cursor.now.root ∷ []) (marked c.args.seen.now) (marked c.mark.new.self) c.mark.ensures.after
+
+pub returns-in-Err-clause-kept : goal.returns-in-Err-clause-kept
+returns-in-Err-clause-kept g c = keeps_also (c.args.cursor.now.root ∷ []) (marked c.args.seen.now) (marked c.mark.new.self) c.mark.ensures.after
+
+pub returns-in-Err-open_page-clause-kept : goal.returns-in-Err-open_page-clause-kept
+returns-in-Err-open_page-clause-kept g c = keeps_also (c.args.cursor.now.root ∷ []) (marked c.args.seen.now) (marked c.mark.new.self) c.mark.ensures.after
+
+pub returns-in-Ok-open_page-clause-kept : goal.returns-in-Ok-open_page-clause-kept
+returns-in-Ok-open_page-clause-kept g c = keeps_also (c.args.cursor.now.root ∷ []) (marked c.args.seen.now) (marked c.mark.new.self) c.mark.ensures.after

@@ -2,7 +2,8 @@ use Rattle.std.proofs.Common.{◌≡◌, ◌+◌, ◌-◌, ◌*◌, ◌≤◌, n
 use Rattle.db_format.specs.Seen.{marked, open_count}
 use Rattle.btree_model.specs.Freelist.{numbers_at}
 use Rattle.space_map.specs.Walk.{IsAt, IsInside, IsLeafTwice}
-use Rattle.space_map.proofs.TrunkLemmas.{from_step, leaf_on, leaf_twice, leaves_done, keeps_also, zero_on}
+use Rattle.btree_walk.proofs.MarkLemmas.{keeps_also}
+use Rattle.space_map.proofs.TrunkLemmas.{from_step, leaf_on, leaf_twice, leaves_done, zero_on}
 use Rattle.space_map.proofs.trunk.take_leaves.Goals as goal
 
 pub returns-then-not-mark-clause-on : goal.returns-then-not-mark-clause-on

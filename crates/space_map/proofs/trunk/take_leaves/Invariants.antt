@@ -3,7 +3,7 @@ use Rattle.db_format.specs.Pages.{Pages, Test}
 use Rattle.db_format.specs.Seen.{marked, open_count}
 use Rattle.btree_model.specs.Finding.{Finding}
 use Rattle.btree_model.specs.Freelist.{numbers_at}
-use Rattle.space_map.specs.Marks.{KeepsMarks}
+use Rattle.btree_walk.specs.Marks.{KeepsMarks}
 use Rattle.space_map.specs.Walk.{IsInside}
 use Rattle.space_map.proofs.trunk.take_leaves.Given as goal
 

@@ -4,7 +4,8 @@ use Rattle.db_format.specs.Seen.{marked}
 use Rattle.btree_model.specs.Freelist.{numbers_at}
 use Rattle.btree_walk.specs.Causes.{IsMarked}
 use Rattle.space_map.specs.Walk.{IsInside, IsTrunk, IsLeafTwice}
-use Rattle.space_map.proofs.TrunkLemmas.{trunk_refused, trunk_marks, trunk_twice, trunk_open, trunk_closed, trunk_room, leaf_marked, leaf_low, keeps_also, zero_on, page_in}
+use Rattle.btree_walk.proofs.MarkLemmas.{keeps_also}
+use Rattle.space_map.proofs.TrunkLemmas.{trunk_refused, trunk_marks, trunk_twice, trunk_open, trunk_closed, trunk_room, leaf_marked, leaf_low, zero_on, page_in}
 use Rattle.space_map.proofs.walk.visit_trunk.Goals as goal
 
 pub returns-then-not-mark-clause-on : goal.returns-then-not-mark-clause-on

@@ -3,7 +3,7 @@ use Rattle.std.specs.Prelude.{IsTrue}
 use Rattle.db_format.specs.Pages.{Test}
 use Rattle.db_format.specs.Seen.{marked, open_count}
 use Rattle.btree_model.specs.Finding.{Finding}
-use Rattle.space_map.specs.Marks.{KeepsMarks}
+use Rattle.btree_walk.specs.Marks.{KeepsMarks}
 use Rattle.space_map.specs.Walk.{IsAt, IsNumber}
 use Rattle.space_map.proofs.walk.walk_trunks.Given as goal
 
