@@ -1,0 +1,3 @@
+pub mod OnlyFresh
+pub mod Published
+pub mod Torn
