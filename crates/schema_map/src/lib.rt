@@ -7,6 +7,8 @@
 mod counts;
 mod root;
 mod schema;
+#[cfg(test)]
+mod tests;
 mod tree;
 mod trees;
 mod unused;
