@@ -1,10 +1,9 @@
 -- The lines of a schema row and of its tree.
-use Rattle.std.proofs.Common.{◌≡◌, ◌≢◌, ℕ, zero, suc, Bool, true, false, List, [], ◌∷◌, ◌++◌, Option, Some, None, length, unwrap_or, map, refl, sym, ap, ◌∙◌}
-use Rattle.std.specs.Prelude.{ℤ, pos, negsuc, is_some}
+use Rattle.std.proofs.Common.{◌≡◌, ℕ, zero, suc, List, [], ◌∷◌, ◌++◌, Some, None, length, unwrap_or, map, refl, sym, ap, ◌∙◌}
+use Rattle.std.specs.Prelude.{ℤ, pos, negsuc}
 use Rattle.std.specs.List.{flat_map}
 use Rattle.std.proofs.lemmas.List.{length-map}
-use Rattle.btree_page.specs.declared.kind.Family.{Family}
-use Rattle.db_format.specs.Pages.{Pages, nothing}
+use Rattle.db_format.specs.Pages.{Pages}
 use Rattle.db_format.specs.Record.{columns}
 use Rattle.db_format.specs.Value.{Datum}
 use Rattle.db_format.specs.Value.Datum.{null, int, float, text, blob}
@@ -13,7 +12,8 @@ use Rattle.btree_model.specs.Finding.{Row}
 use Rattle.btree_model.specs.Schema.{Root, no_column, no_tree, at_page, root_of, root_of_value, rowid_or_0}
 use Rattle.btree_model.specs.Tree.{root_family}
 use Rattle.export_rows.specs.Lines.{schema_line}
-use Rattle.export_rows.specs.Report.{entry_text, item_at, item_count, item_text, number_of, root_number, row_text, tree_rows}
+use Rattle.export_rows.specs.Report.{entry_text, item_at, item_count, item_text, row_text, tree_rows}
+use Rattle.schema_map.specs.Root.{number_of, root_number}
 
 -- no row has its root at page 0
 value_root : (value : Datum) → root_of_value value ≡ at_page (pos 0) → ⊥

@@ -5,5 +5,8 @@ pub mod Handing
 pub mod ItemText
 pub mod Moving
 pub mod PartSteps
+pub mod SchemaText
+pub mod SoundParts
 pub mod TreeText
 pub mod ValueSteps
+pub mod Zeros

@@ -1,5 +1,5 @@
 -- The lines of a tree, entry by entry.
-use Rattle.std.proofs.Common.{◌≡◌, ℕ, ◌+◌, Bool, List, [], ◌∷◌, ◌++◌, Option, Some, None, length, unwrap_or, refl, sym, ap, subst, ◌∙◌, append_assoc}
+use Rattle.std.proofs.Common.{◌≡◌, ℕ, ◌+◌, Bool, List, [], ◌∷◌, ◌++◌, Some, None, length, unwrap_or, refl, sym, ap, subst, ◌∙◌, append_assoc}
 use Rattle.std.specs.Prelude.{IsTrue}
 use Rattle.std.specs.List.{flat_map}
 use Rattle.std.proofs.lemmas.List.{append-nil, length-append}
@@ -7,10 +7,10 @@ use Rattle.std.proofs.lemmas.List.Concat.{flat_map-append}
 use Rattle.db_format.specs.Pages.{Pages, Test, nothing}
 use Rattle.db_format.specs.Record.{columns}
 use Rattle.db_format.specs.Value.{Datum}
-use Rattle.btree_model.specs.Finding.{Row, Finding, entries}
+use Rattle.btree_model.specs.Finding.{Row, entries}
 use Rattle.btree_model.specs.Tree.{root_family, tree_walk}
 use Rattle.btree_walk.specs.declared.cursor.Cursor.{Cursor}
-use Rattle.btree_walk.specs.Cursor.{IsAt, IsEnd, IsMade, IsNext, walked}
+use Rattle.btree_walk.specs.Cursor.{IsAt, IsMade, IsNext, walked}
 use Rattle.btree_walk.proofs.CursorLemmas.{at_made}
 use Rattle.export_rows.specs.Lines.{entry_line}
 use Rattle.export_rows.specs.Out.{Moves, MovesPart}

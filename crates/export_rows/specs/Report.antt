@@ -1,13 +1,11 @@
 -- The text of a content: the line of the database, then each schema row with the entries of its tree, and last `end`.
-use Rattle.std.specs.Prelude.{ℕ, ℤ, pos, negsuc, List, [], ◌++◌, length, Option, Some, None, unwrap_or, sum_by}
+use Rattle.std.specs.Prelude.{ℕ, ℤ, List, [], ◌++◌, length, Some, None, unwrap_or, sum_by}
 use Rattle.std.specs.List.{flat_map}
 use Rattle.db_format.specs.Pages.{Pages, nothing}
 use Rattle.db_format.specs.Record.{columns}
-use Rattle.db_format.specs.Value.{Datum}
 use Rattle.btree_model.specs.Finding.{Row, entries}
 use Rattle.btree_model.specs.Tree.{root_family, tree_walk}
 use Rattle.btree_model.specs.Content.{Content, Entry, SchemaItem, with_tree, alone, entry_of, item_of, without_fourth}
-use Rattle.btree_model.specs.Schema.{Root, root_of, no_column, no_tree, at_page}
 use Rattle.export_rows.specs.Lines.{database_line, end_line, entry_line, schema_line}
 
 abbrev pub entry_text : Entry → List ℕ
@@ -42,14 +40,3 @@ row_text row = entry_text (entry_of row)
 -- the schema row with this rowid and payload, as a part of the content
 abbrev pub item_at : Pages → ℤ → List ℕ → SchemaItem
 item_at pages rowid payload = item_of pages (record { rowid = Some rowid; payload = payload; page = 0 }) (columns payload)
-
--- the number of its root page, 0 where it has no tree
-abbrev pub root_number : Root → ℕ
-root_number no_column = 0
-root_number no_tree = 0
-root_number (at_page (pos n)) = n
-root_number (at_page (negsuc n)) = 0
-
-abbrev pub number_of : Option (List Datum) → ℕ
-number_of None = 0
-number_of (Some values) = root_number (root_of values)

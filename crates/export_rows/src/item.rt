@@ -9,7 +9,8 @@ ghost use Rattle.btree_model.specs.Tree.{root_family};
 ghost use Rattle.btree_walk.specs.Causes.{IsAmong, IsGivenBy, is_failure};
 ghost use Rattle.export_rows.specs.Causes.{IfWalk};
 ghost use Rattle.export_rows.specs.Out.{Moves, MovesPart};
-ghost use Rattle.export_rows.specs.Report.{item_at, item_count, item_text, number_of};
+ghost use Rattle.schema_map.specs.Root.{number_of};
+ghost use Rattle.export_rows.specs.Report.{item_at, item_count, item_text};
 
 use crate::error::ExportError;
 use crate::line_out::LineOut;

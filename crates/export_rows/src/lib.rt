@@ -10,6 +10,7 @@
 //! | bytes | `x'`, hex digits, `'` |
 #![tactic(auto)]
 
+mod content;
 mod error;
 mod item;
 mod line_out;
@@ -20,6 +21,7 @@ mod tests;
 mod tree;
 mod values;
 
+pub use content::export;
 pub use error::ExportError;
 pub use line_out::LineOut;
 pub use lines::{put_database, put_end, put_entry, put_schema_row};

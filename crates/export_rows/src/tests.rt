@@ -1,7 +1,12 @@
 // The text of values and lines, by hand.
-use crate::{LineOut, put_database, put_end, put_entry, put_schema_row, put_value};
-use db_format::{Header, RecordView, Value};
-use edge_model::MemSink;
+ghost use Rattle.std.specs.Prelude.{◌≡◌};
+ghost use Rattle.db_format.specs.Source.{no_pins};
+
+use crate::{
+    ExportError, LineOut, export, put_database, put_end, put_entry, put_schema_row, put_value,
+};
+use db_format::{Header, MemPages, PageSource, RecordView, Value, read_header};
+use edge_model::{MemSink, Sink};
 use std::alloc::{AllocError, Global};
 use std::test::Fail;
 
@@ -108,5 +113,90 @@ fn a_failing_sink_has_whole_pieces_of_the_text(rt: HostRuntime) -> Result<(), Fa
         assert!(rt; len as u64 >= (call - 1) * 64_512, "call {call}");
     }
     assert_eq!(rt; put_long(rt.alloc(), 8)?, (true, 400_003));
+    Ok(())
+}
+
+// A database of two pages of 512 bytes: the schema, a leaf with one cell, and a table, a leaf with two.
+fn two_pages() -> [u8; 1024] {
+    let pieces: [(usize, &[u8]); 13] = [
+        (0, b"SQLite format 3\0"),
+        (16, &[2, 0, 1, 1, 0, 64, 32, 32]),
+        (27, &[1]),
+        (31, &[2]),
+        (43, &[1]),
+        (47, &[4]),
+        (59, &[1]),
+        (95, &[1, 0, 0x2e, 0x76, 0x88]),
+        (100, &[13, 0, 0, 0, 1, 1, 0xdd, 0, 1, 0xdd]),
+        (477, &[33, 1, 6, 23, 15, 15, 1, 51]),
+        (485, b"tablett\x02CREATE TABLE t(a,b)"),
+        (512, &[13, 0, 0, 0, 2, 1, 0xf3, 0, 1, 0xfa, 1, 0xf3]),
+        (1011, &[5, 2, 3, 15, 14, b'x', 0, 4, 1, 3, 0, 1, 7]),
+    ];
+    let mut pages = [0u8; 1024];
+    for (at, piece) in pieces {
+        if at <= 1024 && piece.len() <= 1024 - at {
+            pages[at..at + piece.len()].copy_from_slice(piece);
+        }
+    }
+    pages
+}
+
+// Exports a source, with the header of its first page. A page that is refused, or is no first page, stands as a failure of the sink.
+fn export_from<S: PageSource, K: Sink>(
+    alloc: Global,
+    source: &mut S,
+    out: &mut K,
+) -> Result<u64, ExportError<S::Refusal>>
+where
+    S::Refusal: Drop,
+    requires { S.pins source.old ≡ no_pins }
+{
+    let Ok(()) = source.load(1) else {
+        return Err(ExportError::OutputFault);
+    };
+    let Ok(header) = read_header(source.loaded(), 512, 0) else {
+        return Err(ExportError::OutputFault);
+    };
+    export(alloc, source, &header, out)
+}
+
+// What an export of these pages puts, and what it answers: how many entries, or whether the sink failed.
+fn exported(
+    alloc: Global,
+    pages: &[u8; 1024],
+    failing: &[u64],
+) -> Result<(Result<u64, bool>, MemSink), AllocError> {
+    let mut source = MemPages::new(alloc, 512, pages).map_err(|_| AllocError)?;
+    let mut sink = MemSink::new(alloc, failing).map_err(|_| AllocError)?;
+    let answer = match export_from(alloc, &mut source, &mut sink) {
+        Ok(entries) => Ok(entries),
+        Err(ExportError::OutputFault) => Err(true),
+        Err(ExportError::Walk(_)) => Err(false),
+    };
+    Ok((answer, sink))
+}
+
+#[test]
+fn pages_in_memory_are_exported(rt: HostRuntime) -> Result<(), Fail> {
+    let lines =
+        b"database cookie 1 format 4 cache 0 encoding 1 user-version 0 application-id 0 sqlite 3045000
+schema 1 'table' 't' 't' table 'CREATE TABLE t(a,b)'
+row 1 null 7
+row 2 'x' x'00'
+end
+";
+    let mut pages = two_pages();
+    let (answer, sink) = exported(rt.alloc(), &pages, &[])?;
+    assert_eq!(rt; answer, Ok(2));
+    assert_eq!(rt; sink.bytes(), lines.as_slice());
+    let (answer, sink) = exported(rt.alloc(), &pages, &[1])?;
+    assert_eq!(rt; answer, Err(true));
+    assert_eq!(rt; sink.bytes(), [].as_slice());
+    // The root of the table is no page of a tree: no line is put.
+    pages[512] = 9;
+    let (answer, sink) = exported(rt.alloc(), &pages, &[])?;
+    assert_eq!(rt; answer, Err(false));
+    assert_eq!(rt; sink.bytes(), [].as_slice());
     Ok(())
 }

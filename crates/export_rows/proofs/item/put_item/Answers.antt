@@ -1,4 +1,4 @@
-use Rattle.std.proofs.Common.{◌≡◌, ◌++◌, ◌∙◌, ◌≤◌, Some, length, refl, arith, rules, ap, sym, subst}
+use Rattle.std.proofs.Common.{◌≡◌, ◌∙◌, ◌≤◌, Some, length, refl, arith, ap, sym}
 use Rattle.std.specs.List.{flat_map}
 use Rattle.std.specs.Prelude.{IsTrue, ℤ}
 use Rattle.std.specs.Int.{w64}
@@ -12,7 +12,6 @@ use Rattle.btree_walk.specs.declared.error.WalkError.TheVariants.{Source}
 use Rattle.btree_walk.proofs.PathLemmas.{number_is_page}
 use Rattle.btree_walk.proofs.TurnLemmas.{start_shut}
 use Rattle.export_rows.specs.Lines.{schema_line}
-use Rattle.export_rows.specs.Out.{Moves, MovesPart}
 use Rattle.export_rows.specs.Report.{item_at, item_text, item_count, row_text, tree_rows}
 use Rattle.export_rows.proofs.Handing.{if_among_later, if_given_later}
 use Rattle.export_rows.proofs.ItemText.{tree_count, tree_text}

@@ -1,10 +1,10 @@
-use Rattle.std.proofs.Common.{◌≡◌, ◌+◌, ◌^◌, ◌<◌, ◌≤◌, ◌++◌, ◌∷◌, List, [], Bool, true, false, Some, None, Ok, arith, rules, ap, sym, subst, ◌∙◌}
+use Rattle.std.proofs.Common.{◌≡◌, ◌+◌, ◌^◌, ◌<◌, ◌≤◌, [], Some, None, Ok, arith, rules, ap, sym, subst, ◌∙◌}
 use Rattle.std.specs.List.{flat_map, Contains}
 use Rattle.db_format.specs.declared.defect.Defect.TheVariants.{RecordFault}
 use Rattle.db_format.specs.Pages.{Pages, nothing}
 use Rattle.db_format.specs.Record.{columns}
 use Rattle.db_format.specs.Seen.{marked}
-use Rattle.btree_model.specs.Finding.{Row, Finding, entries, faults, is_sound}
+use Rattle.btree_model.specs.Finding.{Row, entries, faults}
 use Rattle.btree_model.specs.Records.{tree_part}
 use Rattle.btree_model.specs.Tree.{root_family, tree_walk}
 use Rattle.btree_walk.specs.Causes.{IsAmong}

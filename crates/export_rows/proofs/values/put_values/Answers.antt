@@ -1,9 +1,9 @@
-use Rattle.std.proofs.Common.{◌≡◌, ◌-◌, ◌+◌, ◌++◌, suc, ℕ, List, take, arith, rules}
+use Rattle.std.proofs.Common.{◌≡◌, ◌-◌, ◌+◌, ◌++◌, suc, take, arith, rules}
 use Rattle.std.specs.Prelude.{codes}
-use Rattle.db_format.specs.Value.{Datum, datum_of}
+use Rattle.db_format.specs.Value.{datum_of}
 use Rattle.db_format.specs.Values.{values_left}
 use Rattle.export_rows.specs.Text.{spaced, value_text}
-use Rattle.export_rows.proofs.Moving.{at_exit, completes_more, completes_part, cut, then, then_part, restated_part}
+use Rattle.export_rows.proofs.Moving.{at_exit, completes_more, completes_part, cut, then, then_part}
 use Rattle.export_rows.proofs.ValueSteps.{next_left, none_left, values_more}
 use Rattle.export_rows.proofs.values.put_values.Goals as goal
 

@@ -1,6 +1,6 @@
 use Rattle.std.proofs.Common.{◌≡◌, ◌++◌, ◌≤◌, List, ℕ, [], length, take, drop, sym, ap, ◌∙◌}
 use Rattle.std.proofs.lemmas.List.{take-append-drop, append-nil}
-use Rattle.export_rows.specs.Out.{Moves, MovesPart}
+use Rattle.export_rows.specs.Out.{MovesPart}
 use Rattle.export_rows.proofs.Moving.{at_exit}
 use Rattle.export_rows.proofs.line_out.LineOut.flush.Goals as goal
 

@@ -1,6 +1,4 @@
 use Rattle.std.proofs.Common.{◌≤◌, IsTrue, length}
-use Rattle.hex.specs.Hex.{encode_lower}
-use Rattle.export_rows.specs.Text.{escaped}
 use Rattle.export_rows.proofs.Moving.{Completes}
 use Rattle.export_rows.proofs.line_out.LineOut.write.Given as goal
 

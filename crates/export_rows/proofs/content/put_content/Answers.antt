@@ -1,0 +1,44 @@
+use Rattle.std.proofs.Common.{◌≡◌, ◌++◌, List, [], ℕ, sym, ap, subst, ◌∙◌}
+use Rattle.std.proofs.lemmas.List.{append-nil}
+use Rattle.export_rows.specs.Lines.{database_line, end_line, kept_of}
+use Rattle.export_rows.specs.Out.{Moves, MovesPart}
+use Rattle.export_rows.specs.Schema.{rows_text}
+use Rattle.export_rows.proofs.Moving.{cut, restated_part, then, then_part}
+use Rattle.export_rows.proofs.content.put_content.Goals as goal
+
+-- no byte waited at first
+from_empty : {text before waiting after left : List ℕ} → waiting ≡ [] → Moves text before waiting after left → Moves text before [] after left
+from_empty {text} {before} {waiting} {after} {left} none moved = subst (λ w. Moves text before w after left) none moved
+
+part_from_empty : {text before waiting after : List ℕ} → waiting ≡ [] → MovesPart text before waiting after → MovesPart text before [] after
+part_from_empty {text} {before} {waiting} {after} none part = subst (λ w. MovesPart text before w after) none part
+
+-- nothing is left at last
+all_put : {text before after left : List ℕ} → left ≡ [] → Moves text before [] after left → after ≡ before ++ text
+all_put {text} {before} {after} {left} none moved =
+    moved.given ∙ ap (λ (l : List ℕ). before ++ l) (sym (moved.whole ∙ ap (λ (l : List ℕ). moved.put ++ l) none ∙ append-nil moved.put))
+
+pub returns-in-Err-clause-part : goal.returns-in-Err-clause-part
+returns-in-Err-clause-part g c told t =
+    let database = database_line (kept_of c.args.header.now) in
+    let rows = rows_text (g.S.PageSource.plain c.args.source.now) c.args.rows.now in
+    part_from_empty c.requires.empty (cut end_line (cut rows (c.in-Err.ensures.part t)))
+
+pub returns-in-Err-put_items-clause-part : goal.returns-in-Err-put_items-clause-part
+returns-in-Err-put_items-clause-part g c told t =
+    cut end_line (then_part (from_empty c.requires.empty (c.in-Ok.ensures.done t)) (c.in-Err-put_items.ensures.part told t))
+
+pub returns-in-Err-put_end-clause-part : goal.returns-in-Err-put_end-clause-part
+returns-in-Err-put_end-clause-part g c told t =
+    then_part (then (from_empty c.requires.empty (c.in-Ok.ensures.done t)) (c.in-Ok-put_items.ensures.text told t)) (c.in-Err-put_end.ensures.part t)
+
+pub returns-in-Err-flush-clause-part : goal.returns-in-Err-flush-clause-part
+returns-in-Err-flush-clause-part g c told t =
+    restated_part (append-nil (database_line (kept_of c.args.header.now) ++ rows_text (g.S.PageSource.plain c.args.source.now) c.args.rows.now ++ end_line))
+    (then_part (then (then (from_empty c.requires.empty (c.in-Ok.ensures.done t)) (c.in-Ok-put_items.ensures.text told t)) (c.in-Ok-put_end.ensures.done t)) (c.in-Err-flush.ensures.part t))
+
+pub returns-in-Ok-flush-clause-text : goal.returns-in-Ok-flush-clause-text
+returns-in-Ok-flush-clause-text g c told t =
+    let moved = then (then (then (from_empty c.requires.empty (c.in-Ok.ensures.done t)) (c.in-Ok-put_items.ensures.text told t)) (c.in-Ok-put_end.ensures.done t)) (c.in-Ok-flush.ensures.done t) in
+    all_put c.in-Ok-flush.ensures.empty moved
+    ∙ ap (λ (l : List ℕ). g.K.Sink.taken c.args.out.now ++ l) (append-nil (database_line (kept_of c.args.header.now) ++ rows_text (g.S.PageSource.plain c.args.source.now) c.args.rows.now ++ end_line))
