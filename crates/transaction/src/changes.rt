@@ -15,6 +15,9 @@ pub trait Changes {
     /// These stored bytes are the page at this index, sealed with some draw.
     ghost seals: { Self → ℕ → List ℕ → Type 0 };
 
+    /// The length of a stored page, in bytes.
+    ghost size: { Self → ℕ };
+
     /// How often the entropy has failed.
     ghost faults: { Self → ℕ };
 
@@ -29,10 +32,12 @@ pub trait Changes {
 
     /// Seals the page at an index into its stored bytes.
     fn seal(&mut self, k: usize, out: &mut [u8]) -> Result<(), DrawFailed>
-        requires { k < length (numbers self.old) }
+        requires index { k < length (numbers self.old) }
+        requires room { length out.old ≡ size self.old }
         ensures sealed { OnOk result (seals self.old k out.new) }
         ensures length { length out.new ≡ length out.old }
         ensures numbers { numbers self.new ≡ numbers self.old }
         ensures seals { SameSeals (seals self.old) (seals self.new) }
+        ensures size { size self.new ≡ size self.old }
         ensures cause { HasCause (faults self.old) (faults self.new) result };
 }

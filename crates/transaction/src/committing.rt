@@ -105,7 +105,7 @@ pub fn write_one<D: Disk, W: RecordWriter, C: Changes>(
     requires stage { (W.stage writer.now ≡ Stage.Filling) ⊎ (W.stage writer.now ≡ Stage.Opened) }
     requires sizes { (W.page_size writer.now ≡ base.size) × (W.initial writer.now ≡ base.pages) }
     requires changes { AreChanges base.pages (C.numbers changes.old) × (k < length (C.numbers changes.old)) }
-    requires buffer { (length buffer.old ≡ base.size) × (base.size ≤ 65536) }
+    requires buffer { (length buffer.old ≡ base.size) × (base.size ≤ 65536) × (C.size changes.old ≡ base.size) }
     requires behind_gate { IsTrue D.tells →
         HasRecord (slice_index (C.numbers changes.old) k) (W.safe writer.now (journal_of (D.reads disk.old))) }
     requires facts { IsTrue D.tells →
@@ -121,6 +121,7 @@ pub fn write_one<D: Disk, W: RecordWriter, C: Changes>(
     ensures journal { IsTrue D.tells → (D.reads disk.new).journal ≡ (D.reads disk.old).journal }
     ensures numbers { C.numbers changes.new ≡ C.numbers changes.old }
     ensures seals { SameSeals (C.seals changes.old) (C.seals changes.new) }
+    ensures size { C.size changes.new ≡ C.size changes.old }
     ensures buffer { length buffer.new ≡ length buffer.old }
     ensures any_moment { IsTrue D.tells → LeavesOnly D.moment D.since disk.old disk.new (HoldsOld base) }
     ensures fresh { IsTrue D.tells → LeavesOnly D.moment D.since disk.old disk.new (From SameFresh (D.images disk.old)) }
@@ -151,7 +152,7 @@ pub fn write_all<D: Disk, W: RecordWriter, C: Changes>(
     requires stage { (W.stage writer.now ≡ Stage.Filling) ⊎ (W.stage writer.now ≡ Stage.Opened) }
     requires sizes { (W.page_size writer.now ≡ base.size) × (W.initial writer.now ≡ base.pages) }
     requires changes { AreChanges base.pages (C.numbers changes.old) × (from ≤ length (C.numbers changes.old)) }
-    requires buffer { (length buffer.old ≡ base.size) × (base.size ≤ 65536) }
+    requires buffer { (length buffer.old ≡ base.size) × (base.size ≤ 65536) × (C.size changes.old ≡ base.size) }
     requires behind_gate { IsTrue D.tells → (k : ℕ) → k < length (C.numbers changes.old) →
         HasRecord (slice_index (C.numbers changes.old) k) (W.safe writer.now (journal_of (D.reads disk.old))) }
     requires facts { IsTrue D.tells →
@@ -193,7 +194,7 @@ pub fn write_rest<D: Disk, W: RecordWriter, C: Changes>(
     requires sizes { (W.page_size writer.old ≡ base.size) × (W.initial writer.old ≡ base.pages) }
     requires base_is { IsBase base }
     requires changes { AreChanges base.pages (C.numbers changes.old) × (from ≤ length (C.numbers changes.old)) }
-    requires buffer { (length buffer.old ≡ base.size) × (base.size ≤ 65536) }
+    requires buffer { (length buffer.old ≡ base.size) × (base.size ≤ 65536) × (C.size changes.old ≡ base.size) }
     requires behind_gate { IsTrue D.tells → (k : ℕ) → k < length (C.numbers changes.old) →
         HasRecord (slice_index (C.numbers changes.old) k) (W.safe writer.old (journal_of (D.reads disk.old))) }
     requires facts { IsTrue D.tells →
@@ -234,7 +235,7 @@ pub fn commit<D: Disk, W: RecordWriter, C: Changes>(
     requires sizes { (W.page_size writer.old ≡ base.size) × (W.initial writer.old ≡ base.pages) }
     requires base_is { IsBase base }
     requires changes { AreChanges base.pages (C.numbers changes.old) × (0 < length (C.numbers changes.old)) }
-    requires buffer { (length buffer.old ≡ base.size) × (base.size ≤ 65536) }
+    requires buffer { (length buffer.old ≡ base.size) × (base.size ≤ 65536) × (C.size changes.old ≡ base.size) }
     requires begun { IsTrue D.tells → IsBegun base (D.images disk.old) }
     ensures changed { OnOk result (IsTrue D.tells →
         IsChanged base (C.numbers changes.old) (C.seals changes.old) (length (C.numbers changes.old)) (main_of (D.reads disk.new))) }

@@ -25,6 +25,8 @@ impl Changes for Nines {
 
     ghost seals = { λ c k stored. Unit {0} };
 
+    ghost size = { λ c. 512 };
+
     ghost faults = { λ c. 0 };
 
     fn len(&self) -> usize {

@@ -22,7 +22,7 @@ pub fn change<D: Disk, C: Changes>(
     requires new { writer.old ≡ at_first base.size base.pages }
     requires base_is { IsBase base }
     requires changes { AreChanges base.pages (C.numbers changes.old) × (0 < length (C.numbers changes.old)) }
-    requires buffer { (length buffer.old ≡ base.size) × (base.size ≤ 65536) }
+    requires buffer { (length buffer.old ≡ base.size) × (base.size ≤ 65536) × (C.size changes.old ≡ base.size) }
     requires begun { IsTrue D.tells → IsBegun base (D.images disk.old) }
     ensures changed { OnOk result (IsTrue D.tells →
         IsChanged base (C.numbers changes.old) (C.seals changes.old) (length (C.numbers changes.old))
