@@ -179,8 +179,8 @@ pub fn write_all<D: Disk, W: RecordWriter, C: Changes>(
     Ok(())
 }
 
-/// Seals and writes the changed pages from an index on, and ends the transaction. Those before it stand in Main already, as
-/// after spills.
+/// Seals and writes the changed pages from an index on, and ends the transaction. Those before it stand in Main
+/// already.
 pub fn write_rest<D: Disk, W: RecordWriter, C: Changes>(
     disk: &mut D,
     writer: &mut W,

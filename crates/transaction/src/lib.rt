@@ -12,39 +12,42 @@
 //!    two (`keep_old: fresh, one_more`).
 //! 3. A page of Main is written only where its record stands behind an open gate. Whatever becomes of that write, the facts
 //!    stand (`write_page: behind_gate, facts`).
-//! 4. A page that leaves its frame before the commit is written to Main under the same rule, in a segment of its own
-//!    (`spill: facts, main`).
+//! 4. Changed pages may be written before the commit, in batches under the same rule: the pages of a batch that have no record get
+//!    theirs in one segment of the journal. A batch leaves its own pages sealed, and every other page as it was
+//!    (`write_batch: written, batches`).
 //! 5. Main is synced before the journal is closed (`close: settled`, which is its condition).
 //! 6. At every moment before the journal is closed each image holds the old database alone (`any_moment` of each step); while
 //!    it is closed, the old one or the new one; after Ok the new one alone, and no journal (`finish: any_moment, new`).
 //! 7. A commit leaves the changed pages sealed, and every other page as it was (`commit: changed`). Where the entropy fails,
 //!    each image holds the old database alone (`commit: only_old`).
 //! 8. What was written is taken back from the journal: each image then holds the old database, and no journal
-//!    (`abandon: old, any_moment`).
+//!    (`abandon: old, any_moment`; `undo_batches: old`).
 //! 9. Fresh is left alone (`fresh` of each step).
 //! 10. No call but `PageMarks::new` takes memory: none has an allocator.
 //!
 //! What a pager keeps beside its frames stands here too: which pages are marked, with their count (`PageMarks`); that the marked
-//! pages are those that have a record, which gives room and freshness of the next one (`keep_marked`, with `AreRecorded`); what
-//! Main reads as while pages are changed (`HasChanges`); and that each page is sealed with bytes of its own (`OwnDraws`).
+//! pages are those that have a record, which gives room and freshness of the next one (`keep_marked`, with `AreRecorded`); and that
+//! each page is sealed with bytes of its own (`OwnDraws`).
 #![tactic(auto)]
 
+mod batches;
 mod changes;
 mod committing;
+mod guarding;
 mod journal;
 mod marks;
 mod recording;
-mod spilling;
 mod steps;
 #[cfg(test)]
 mod tests;
 mod writer;
 
+pub use batches::{end_batches, undo_batches, write_batch};
 pub use changes::{Changes, DrawFailed};
 pub use committing::{CommitFault, commit, keep_all, prepare, write_all, write_one, write_rest};
+pub use guarding::guard_batch;
 pub use marks::PageMarks;
 pub use recording::keep_marked;
 pub use rollback_journal::Stage;
-pub use spilling::spill;
 pub use steps::{abandon, close, finish, keep_old, next, open, read_page, start, write_page};
 pub use writer::RecordWriter;

@@ -136,6 +136,7 @@ pub fn next<D: Disk, W: RecordWriter>(disk: &mut D, writer: &mut W) -> Result<()
         AsLeft (W.left writer.new) (W.beside writer.new) (D.reads disk.new) (D.images disk.new)) }
     ensures safe { OnOk result (IsTrue D.tells →
         W.safe writer.new (journal_of (D.reads disk.new)) ≡ W.safe writer.old (journal_of (D.reads disk.old))) }
+    ensures waiting { OnOk result (IsTrue D.tells → W.waiting writer.new (journal_of (D.reads disk.new)) ≡ []) }
     ensures stage { OnOk result ((W.stage writer.new ≡ Stage.Filling) × (W.count writer.new ≡ 0)
         × (W.total writer.new ≡ W.total writer.old) × W.is_small writer.new) }
     ensures sizes { (W.page_size writer.new ≡ base.size) × (W.initial writer.new ≡ base.pages) }

@@ -1,11 +1,11 @@
-// A commit, and a page that was written and is taken back, each stopped after every number of calls, as recovery finds them
-// then. Four pages of 512 bytes.
+// A commit, stopped after every number of calls, as recovery finds it then. Four pages of 512 bytes.
 ghost use Rattle.std.specs.Prelude.{◌≡◌, IfOk};
 ghost use Rattle.rollback_journal.specs.Writing.{at_first};
 
+mod batched;
 mod whole;
 
-use self::whole::{change, spill_and_undo};
+use self::whole::change;
 use crate::{Changes, DrawFailed, PageMarks};
 use edge_model::{ImagePick, MemDisk, Role, SilentDisk};
 use rollback_journal::{JournalWriter, recover};
@@ -103,25 +103,6 @@ fn a_stop_leaves_all_changes_or_none(rt: HostRuntime) -> Result<(), Fail> {
                 "{calls}"
             );
         }
-    }
-    Ok(())
-}
-
-// Of the 24 calls four make the journal, seven keep the old page, open the gate and write the new one, and two begin a
-// segment; seven lay the old page back, two close the journal and two remove it.
-#[test]
-fn what_is_taken_back_is_gone(rt: HostRuntime) -> Result<(), Fail> {
-    for calls in 0..25 {
-        let mut disk = ones(rt.alloc())?;
-        let mut writer = new_writer(rt.alloc())?;
-        let mut buffer = [0u8; 512];
-        disk.inner.stop_after(calls);
-        let done = spill_and_undo(&mut disk, &mut writer, 3, &[9; 512], &mut buffer).is_ok();
-        assert_eq!(rt; done, calls == 24);
-        assert!(rt;
-            each_recovers(rt.alloc(), &disk.inner, &[1, 1, 1, 1])?,
-            "{calls}"
-        );
     }
     Ok(())
 }

@@ -1,4 +1,4 @@
-use Rattle.std.specs.Prelude.{ℕ, ◌==◌}
+use Rattle.std.specs.Prelude.{◌==◌}
 use Rattle.std.proofs.Common.{replicate}
 use Rattle.transaction.proofs.tests.a_stop_leaves_all_changes_or_none.Given as goal
 
