@@ -18,7 +18,8 @@ use Rattle.btree_walk.proofs.ChainLemmas.{differ, sound_faults}
 use Rattle.btree_walk.specs.Causes.{IsAmong}
 use Rattle.btree_walk.specs.declared.error.WalkError.{WalkError}
 use Rattle.btree_walk.specs.declared.error.WalkError.TheVariants.{Defect as Found, Source, OutOfMemory}
-use Rattle.space_map.proofs.TrunkLemmas.{keeps_also, open_most}
+use Rattle.btree_walk.proofs.MarkLemmas.{keeps_also}
+use Rattle.space_map.proofs.TrunkLemmas.{open_most}
 use Rattle.schema_map.proofs.CursorFacts.{open_falls, first_falls}
 use Rattle.schema_map.specs.Part.{IsSound}
 use Rattle.schema_map.specs.Parts.{first_places, open_pages, AreSound, IsEarliest}

@@ -23,7 +23,8 @@ use Rattle.btree_walk.specs.Causes.{IsAmong}
 use Rattle.btree_walk.specs.declared.error.WalkError.{WalkError}
 use Rattle.btree_walk.specs.declared.error.WalkError.TheVariants.{Defect as Found, Source, OutOfMemory}
 use Rattle.space_map.specs.Walk.{IsFirst}
-use Rattle.space_map.proofs.TrunkLemmas.{also_front, keeps_also}
+use Rattle.btree_walk.proofs.MarkLemmas.{keeps_also}
+use Rattle.space_map.proofs.TrunkLemmas.{also_front}
 use Rattle.schema_map.specs.Census.{IsBegun, free_part, schema_after}
 use Rattle.schema_map.specs.Parts.{AreSound, IsEarliest, open_pages}
 use Rattle.schema_map.specs.Schema.{IsSchema, schema_row, tree_roots}
