@@ -3,3 +3,6 @@ pub mod FirstPage
 pub mod Filling
 pub mod Pins
 pub mod OpeningLemmas
+pub mod ChangedLemmas
+pub mod EndingLemmas
+pub mod TxnLemmas

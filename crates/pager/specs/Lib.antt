@@ -5,3 +5,4 @@ pub mod Pages
 pub mod Held
 pub mod Causes
 pub mod Reads
+pub mod Changed

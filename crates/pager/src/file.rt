@@ -26,6 +26,7 @@ pub struct OpenedFile {
     pub(crate) cache: Cache,
     pub(crate) stored: Vec<u8>,
     ghost layout: { header.page_size ≡ codec.profile.page_size },
+    ghost some: { 1 ≤ count },
     ghost largest: { count * codec.profile.page_size ≤ largest_database },
     ghost fits: { cache.usable ≡ usable codec.profile },
     ghost room: { vec_len stored ≡ codec.profile.page_size },
@@ -79,6 +80,7 @@ impl OpenedFile {
         ensures disk { (result.disk.ghost_name ≡ disk.entry.ghost_name) × (result.disk.now ≡ disk.old) }
         ensures entropy { (result.entropy.ghost_name ≡ entropy.entry.ghost_name) × (result.entropy.now ≡ entropy.old) }
         ensures file { (result.codec ≡ self.codec) × (result.header ≡ self.header) × (result.count ≡ self.count) }
+        ensures some { 1 ≤ result.count }
         ensures unread { (length result.cache.held ≡ 0) × (result.cache.frames ≡ self.cache.frames) }
     {
         let OpenedFile {

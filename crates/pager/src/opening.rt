@@ -108,6 +108,7 @@ pub(crate) struct Counted {
 /// Opens Main with this codec.
 pub(crate) fn open_main<D: Disk>(disk: &mut D, codec: &Codec) -> Result<Counted, OpenError>
     ensures opens { IfOk result (λ found. IsTrue D.tells → file_opened codec.now (main_of (D.reads disk.old)) ≡ Ok (record { header = found.header; count = found.count })) }
+    ensures some { IfOk result (λ found. 1 ≤ found.count) }
     ensures largest { IfOk result (λ found. found.count * codec.now.profile.page_size ≤ largest_database) }
     ensures layout { IfOk result (λ found. found.header.page_size ≡ codec.now.profile.page_size) }
     ensures refused { IfErr result (λ error. IsTrue D.tells → (error ≡ OpenError.DiskFault) ⊎ (file_opened codec.now (main_of (D.reads disk.old)) ≡ Err error)) }
@@ -159,9 +160,11 @@ fn main_header<D: Disk>(
 
 // The header, with the count of pages of a file of this many bytes.
 fn count_main(header: Header, length: u64) -> Result<Counted, OpenError>
-    requires { IsPageSize header.page_size }
+    requires size { IsPageSize header.page_size }
+    requires page { header.page_size ≤ length }
     ensures told { (IfOk result (λ found. with_count header (count_of_pages header length) ≡ Ok (record { header = found.header; count = found.count })))
         × (IfErr result (λ error. with_count header (count_of_pages header length) ≡ Err error)) }
+    ensures some { IfOk result (λ found. 1 ≤ found.count) }
     ensures largest { IfOk result (λ found. found.count * header.page_size ≤ largest_database) }
     ensures layout { IfOk result (λ found. found.header.page_size ≡ header.page_size) }
     ensures counted { IfErr result (λ error. (error ≢ OpenError.DiskFault) × (error ≢ OpenError.OutOfMemory)) }

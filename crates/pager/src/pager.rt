@@ -4,6 +4,7 @@ ghost use Rattle.edge_model.specs.Causes.{Rose};
 ghost use Rattle.edge_model.specs.Images.{Each};
 ghost use Rattle.edge_model.specs.OnlyRead.{OnlyRead};
 ghost use Rattle.cipher_profile.specs.Profile.{usable};
+ghost use Rattle.db_format.specs.Count.{largest_database};
 ghost use Rattle.db_format.specs.Pages.{IsUsable};
 ghost use Rattle.page_cache.specs.Pages.{is_held};
 ghost use Rattle.pager.specs.File.{main_of};
@@ -36,6 +37,8 @@ pub struct Pager<'d, D: Disk, E: Entropy> {
     // the page that was loaded last, 0 for none
     pub(crate) last: u32,
     ghost whole: { IsTrue D.tells → count * codec.profile.page_size ≤ length (main_of (D.reads disk.now)) },
+    ghost some: { 1 ≤ count },
+    ghost largest: { count * codec.profile.page_size ≤ largest_database },
     ghost fits: { cache.usable ≡ usable codec.profile },
     ghost room: { vec_len stored ≡ codec.profile.page_size },
     ghost lendable: { IsUsable (usable codec.profile) },
@@ -169,5 +172,24 @@ impl<'d, D: Disk, E: Entropy> Pager<'d, D, E> {
             last: _,
         } = self;
         (disk, entropy)
+    }
+
+    // The disk and the entropy, and a buffer of the length of a page.
+    pub(crate) fn take_apart(self) -> (&'d mut D, &'d mut E, Vec<u8>)
+        ensures disk { (result.0.ghost_name ≡ self.entry.disk.ghost_name) × (result.0.now ≡ self.entry.disk.now) }
+        ensures entropy { (result.1.ghost_name ≡ self.entry.entropy.ghost_name) × (result.1.now ≡ self.entry.entropy.now) }
+        ensures buffer { vec_len result.2 ≡ self.entry.codec.profile.page_size }
+    {
+        let Pager {
+            disk,
+            entropy,
+            codec: _,
+            header: _,
+            count: _,
+            cache: _,
+            stored,
+            last: _,
+        } = self;
+        (disk, entropy, stored)
     }
 }

@@ -1,0 +1,89 @@
+-- A transaction: what it begins with, and the first bytes of page 1.
+use Rattle.std.proofs.Common.{◌≡◌, ◌≢◌, ◌==◌, ℕ, ◌+◌, ◌*◌, ◌<◌, ◌≤◌, Bool, true, false, List, [], ◌++◌, length, take, drop, Option, Some, is_some, refl, sym, ap, subst, ◌∙◌, arith, rules, ne_eqb, length-take, take-take}
+use Rattle.std.specs.Prelude.{unwrap_or, if◌then◌else◌}
+use Rattle.std.proofs.Math.Nat.{le-mul_of_pos_right}
+use Rattle.std.proofs.lemmas.List.{take-append-le}
+use Rattle.std.proofs.Math.Seq.{drop-append_seam, take-append_seam}
+use Rattle.cipher_profile.specs.Profile.{IsListed}
+use Rattle.cipher_profile.specs.declared.profile.Profile.{Profile}
+use Rattle.db_format.specs.Count.{largest_database}
+use Rattle.page_cache.specs.Pages.{Page, bytes_at, is_held}
+use Rattle.page_codec.specs.Page.{FileKeys, magic, opened}
+use Rattle.pager.specs.Changed.{HasMagic, same_layout, with_bytes}
+use Rattle.pager.specs.Held.{bytes_of_page}
+use Rattle.pager.proofs.ChangedLemmas.{is_there, page_is}
+use Rattle.pager.proofs.Filling.{same_number}
+
+pub layout_same : (read write : FileKeys) → same_layout read write ≡ true
+    → (write.profile.page_size ≡ read.profile.page_size) × (write.profile.reserve ≡ read.profile.reserve)
+layout_same read write same = search (rules, same)
+
+pub listed_large : (p : Profile) → IsListed p → 512 ≤ p.page_size
+listed_large p listed = search (rules, listed)
+
+pub count_small : (count size : ℕ) → 0 < size → count * size ≤ largest_database → count < 4294967295
+count_small count size some largest =
+    let within : count * size ≤ 1073741824 = largest in
+    let each : count ≤ count * size = le-mul_of_pos_right {m = size} count some in
+    omega (arith, within, each)
+
+magic_as : (old new : List Page) → bytes_at 1 new ≡ bytes_at 1 old → HasMagic old → HasMagic new
+magic_as old new same begins = λ held.
+    ap (λ (o : Option (List ℕ)). take 16 (unwrap_or o [])) same
+    ∙ begins (sym (is_there 1 old) ∙ ap (λ (o : Option (List ℕ)). is_some o) (sym same) ∙ is_there 1 new ∙ held)
+
+-- another page is written
+pub magic_other : (n : ℕ) (w : List ℕ) (old new : List Page) → n ≢ 1 → ((m : ℕ) → bytes_at m new ≡ (if m == n then Some w else bytes_at m old))
+    → HasMagic old → HasMagic new
+magic_other n w old new other each begins =
+    let apart : (1 == n) ≡ false = ne_eqb 1 n (λ is. other (sym is)) in
+    magic_as old new (each 1 ∙ ap (λ (b : Bool). if b then Some w else bytes_at 1 old) apart) begins
+
+first_bytes : (at : ℕ) (src page : List ℕ) → 16 ≤ at → 16 ≤ length page → take 16 (take at page ++ (src ++ drop (at + length src) page)) ≡ take 16 page
+first_bytes at src page le long =
+    take-append-le 16 (take at page) (src ++ drop (at + length src) page) (omega (arith, le, long, length-take at page))
+    ∙ take-take 16 at page le
+
+-- page 1 is written from byte 16 on
+pub magic_put : (n at : ℕ) (src : List ℕ) (old new : List Page) → (n ≡ 1 → 16 ≤ at) → is_held n old ≡ true
+    → ((m : ℕ) → bytes_at m new ≡ (if m == n then Some (with_bytes at src (bytes_of_page n old)) else bytes_at m old)) → HasMagic old → HasMagic new
+magic_put n at src old new first there each begins = λ held. (elim (1 == n) as (λ b. (1 == n) ≡ b → take 16 (bytes_of_page 1 new) ≡ magic) [
+  | true ↦ λ t.
+      let is : 1 ≡ n = same_number 1 n t in
+      let begun : take 16 (bytes_of_page 1 old) ≡ magic = begins (subst (λ (k : ℕ). is_held k old ≡ true) (sym is) there) in
+      let sixteen : length (take 16 (bytes_of_page 1 old)) ≡ 16 = ap (λ (l : List ℕ). length l) begun in
+      let long : 16 ≤ length (bytes_of_page 1 old) = omega (arith, sixteen, length-take 16 (bytes_of_page 1 old)) in
+      let now : bytes_at 1 new ≡ Some (with_bytes at src (bytes_of_page n old)) =
+      each 1 ∙ ap (λ (b : Bool). if b then Some (with_bytes at src (bytes_of_page n old)) else bytes_at 1 old) t in
+      ap (λ (l : List ℕ). take 16 l) (page_is 1 (with_bytes at src (bytes_of_page n old)) new now)
+      ∙ ap (λ (k : ℕ). take 16 (with_bytes at src (bytes_of_page k old))) (sym is)
+      ∙ first_bytes at src (bytes_of_page 1 old) (first (sym is)) long
+      ∙ begun
+  | false ↦ λ t. magic_as old new (each 1 ∙ ap (λ (b : Bool). if b then Some (with_bytes at src (bytes_of_page n old)) else bytes_at 1 old) t) begins held
+]) refl
+
+-- page 1 of a file that is opened begins so
+pub magic_kept : (keys : FileKeys) (stored : List ℕ) → with_bytes 0 magic (opened keys 1 stored) ≡ opened keys 1 stored
+unfolding opened
+magic_kept keys stored = ap (λ (l : List ℕ). magic ++ l) (drop-append_seam magic _)
+
+-- the page whose first bytes are put over is page 1
+pub magic_first : (page : List ℕ) (new : List Page) → bytes_at 1 new ≡ Some (with_bytes 0 magic page) → HasMagic new
+magic_first page new now = λ held.
+    ap (λ (l : List ℕ). take 16 l) (page_is 1 (with_bytes 0 magic page) new now)
+    ∙ take-append_seam magic (drop 16 page)
+
+-- page 1 of a file stays as it is where its first bytes are put over it
+pub first_told : (n : ℕ) (keys : FileKeys) (stored plain : List ℕ) (old mid new : List Page) → n ≡ 1 → plain ≡ opened keys 1 stored
+    → ((m : ℕ) → bytes_at m mid ≡ (if m == n then Some plain else bytes_at m old))
+    → ((m : ℕ) → bytes_at m new ≡ (if m == 1 then Some (with_bytes 0 magic (bytes_of_page 1 mid)) else bytes_at m mid))
+    → (m : ℕ) → bytes_at m new ≡ (if m == n then Some plain else bytes_at m old)
+first_told n keys stored plain old mid new is opens bring put m =
+    let here : bytes_at 1 mid ≡ Some plain = bring 1 ∙ ap (λ (k : ℕ). if 1 == k then Some plain else bytes_at 1 old) is in
+    let whole : with_bytes 0 magic (bytes_of_page 1 mid) ≡ plain =
+    ap (λ (l : List ℕ). with_bytes 0 magic l) (page_is 1 plain mid here ∙ opens) ∙ magic_kept keys stored ∙ sym opens in
+    put m
+    ∙ ((elim (m == 1) as (λ b. (m == 1) ≡ b → (if b then Some (with_bytes 0 magic (bytes_of_page 1 mid)) else bytes_at m mid) ≡ (if m == n then Some plain else bytes_at m old)) [
+      | true ↦ λ t. ap (λ (l : List ℕ). Some l) whole ∙ sym (ap (λ (b : Bool). if b then Some plain else bytes_at m old) (ap (λ (k : ℕ). m == k) is ∙ t))
+      | false ↦ λ t. bring m
+    ]) refl)
