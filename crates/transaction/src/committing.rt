@@ -205,6 +205,8 @@ pub fn write_rest<D: Disk, W: RecordWriter, C: Changes>(
     ensures changed { OnOk result (IsTrue D.tells →
         IsChanged base (C.numbers changes.old) (C.seals changes.old) (length (C.numbers changes.old)) (main_of (D.reads disk.new))) }
     ensures new { OnOk result (IsTrue D.tells → Each (D.images disk.new) (IsCommitted base (main_of (D.reads disk.new)))) }
+    ensures one_new { OnOk result (IsTrue D.tells →
+        LeavesOnly D.moment D.since disk.old disk.new (HoldsEither base (stored_pages base.size base.pages (main_of (D.reads disk.new))))) }
     ensures any_moment { IsTrue D.tells →
         LeavesChanged D.moment D.since base (IsChanged base (C.numbers changes.old) (C.seals changes.old) (length (C.numbers changes.old))) disk.old disk.new }
     ensures only_old { result ≡ Err CommitFault.EntropyFault → IsTrue D.tells →
@@ -240,6 +242,8 @@ pub fn commit<D: Disk, W: RecordWriter, C: Changes>(
     ensures changed { OnOk result (IsTrue D.tells →
         IsChanged base (C.numbers changes.old) (C.seals changes.old) (length (C.numbers changes.old)) (main_of (D.reads disk.new))) }
     ensures new { OnOk result (IsTrue D.tells → Each (D.images disk.new) (IsCommitted base (main_of (D.reads disk.new)))) }
+    ensures one_new { OnOk result (IsTrue D.tells →
+        LeavesOnly D.moment D.since disk.old disk.new (HoldsEither base (stored_pages base.size base.pages (main_of (D.reads disk.new))))) }
     ensures any_moment { IsTrue D.tells →
         LeavesChanged D.moment D.since base (IsChanged base (C.numbers changes.old) (C.seals changes.old) (length (C.numbers changes.old))) disk.old disk.new }
     ensures only_old { result ≡ Err CommitFault.EntropyFault → IsTrue D.tells →
