@@ -12,10 +12,12 @@ commands
   tags PROFILE    check the tag of every page; prints a line for each page whose
                   tag does not hold, or `tags hold: N pages`
   header PROFILE  decrypt page 1 and print the fields of the database header
+  verify PROFILE  check the freelist, the tags of the pages in use, the schema and
+                  every tree; prints what is wrong, or `ok:` and the counts
   probe           find the profile whose key fits; prints `profile N`
   recover PROFILE play the journal beside the file back into it and remove it;
                   prints `played: N`, `cold` or `nothing`, and takes no key
-                  (`tags` and `header` recover first, too)
+                  (`tags`, `header` and `verify` recover first, too)
 
 profiles
   1, 2, 3, 4      the version of SQLCipher that wrote the file (1 has no tags)

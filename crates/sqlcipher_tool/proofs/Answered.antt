@@ -11,12 +11,13 @@ use Rattle.sqlcipher_tool.specs.Answer.{Answer, IsAnswer, IsAnswered, IsFault, P
 use Rattle.sqlcipher_tool.specs.Crash.{KeepsHeld}
 use Rattle.sqlcipher_tool.specs.Due.{and_secrets, key_lines, keyed_answers}
 use Rattle.sqlcipher_tool.specs.declared.command.Command.{Command}
-use Rattle.sqlcipher_tool.specs.declared.command.Command.TheVariants.{Tags, Header, Probe, Recover}
+use Rattle.sqlcipher_tool.specs.declared.command.Command.TheVariants.{Tags, Header, Verify, Probe, Recover}
 use Rattle.sqlcipher_tool.specs.declared.status.Status.{Status}
 use Rattle.sqlcipher_tool.specs.declared.status.Status.TheVariants.{Done, Usage, Refused, KeyRefused, DiskFault, OutputFault, InputFault, EntropyFault, OutOfMemory}
 use Rattle.sqlcipher_tool.specs.Holding.{AreOfSize, DiskRun, Held, HoldsOneOf, HoldsOnly}
 use Rattle.sqlcipher_tool.specs.Promises.{AnswersOne, PutsSo}
 use Rattle.sqlcipher_tool.proofs.Conclusions.{no_part}
+use Rattle.sqlcipher_tool.proofs.SomeDue.{verify_some}
 
 -- what was printed of the answer
 puts_so : (status : Status) (answer : Answer) (before after : List ℕ) → Puts status answer.text before after
@@ -32,17 +33,24 @@ puts_so InputFault answer before after text failed starved no_input no_entropy =
 puts_so EntropyFault answer before after text failed starved no_input no_entropy = absurd (no_entropy refl)
 puts_so OutOfMemory answer before after text failed starved no_input no_entropy = no_part answer.begun before after (starved refl)
 
+-- one of the answers that are due
+pub answers_among : (answers : List Answer) (answer : Answer) (status : Status) (tells : Bool) (before after : List ℕ) → Contains answers answer
+    → IsAnswered status answer → (IsTrue tells → Puts status answer.text before after)
+    → (IsTrue tells → status ≡ DiskFault → PutsPart answer.begun before after) → (status ≡ OutOfMemory → after ≡ before)
+    → (status ≡ InputFault → ⊥) → (status ≡ EntropyFault → ⊥) → AnswersOne answers status tells before after
+answers_among answers answer status tells before after due answered text failed starved no_input no_entropy = record {
+  answer = answer;
+  is_due = due;
+  answered = answered;
+  puts = λ printed. puts_so status answer before after (text printed) (failed printed) starved no_input no_entropy;
+}
+
 -- the only answer that is due
 pub answers_one : (answer : Answer) (status : Status) (tells : Bool) (before after : List ℕ) → IsAnswered status answer
     → (IsTrue tells → Puts status answer.text before after)
     → (IsTrue tells → status ≡ DiskFault → PutsPart answer.begun before after) → (status ≡ OutOfMemory → after ≡ before)
     → (status ≡ InputFault → ⊥) → (status ≡ EntropyFault → ⊥) → AnswersOne (answer ∷ []) status tells before after
-answers_one answer status tells before after answered text failed starved no_input no_entropy = record {
-  answer = answer;
-  is_due = (0, omega arith, refl);
-  answered = answered;
-  puts = λ printed. puts_so status answer before after (text printed) (failed printed) starved no_input no_entropy;
-}
+answers_one answer status tells before after = answers_among (answer ∷ []) answer status tells before after (0, omega arith, refl)
 
 -- an image that comes of another by a step of the recovery holds what that one held
 holds_on : (size : ℕ) (held : Held) (d c : Files) → held.keys.profile.page_size ≡ size → KeepsRecovered size d c → HoldsOnly held d → HoldsOnly held c
@@ -75,26 +83,32 @@ not_fault due status fault answer no_answer no_output is other =
     (λ (out : status ≡ OutputFault). no_output (sym other ∙ out)) is
 
 -- an answer that was printed, or the output failed
-pub printed_one : (answer : Answer) (status : Status) (tells : Bool) (before after : List ℕ) → IsAnswer answer.status
-    → (status ≡ answer.status) ⊎ (status ≡ OutputFault)
-    → (IsTrue tells → Puts status answer.text before after) → AnswersOne (answer ∷ []) status tells before after
-printed_one answer status tells before after due is text =
-    answers_one answer status tells before after
+pub printed_among : (answers : List Answer) (answer : Answer) (status : Status) (tells : Bool) (before after : List ℕ) → Contains answers answer
+    → IsAnswer answer.status → (status ≡ answer.status) ⊎ (status ≡ OutputFault)
+    → (IsTrue tells → Puts status answer.text before after) → AnswersOne answers status tells before after
+printed_among answers answer status tells before after among due is text =
+    answers_among answers answer status tells before after among
     (⊎_elim (λ same. inl same) (λ (out : status ≡ OutputFault). inr (subst IsFault (sym out) tt)) is) text
     (λ told other. absurd (not_fault answer.status status DiskFault due (λ a. a) (λ (e : DiskFault ≡ OutputFault). cc) is other))
     (λ other. absurd (not_fault answer.status status OutOfMemory due (λ a. a) (λ (e : OutOfMemory ≡ OutputFault). cc) is other))
     (not_fault answer.status status InputFault due (λ a. a) (λ (e : InputFault ≡ OutputFault). cc) is)
     (not_fault answer.status status EntropyFault due (λ a. a) (λ (e : EntropyFault ≡ OutputFault). cc) is)
 
+pub printed_one : (answer : Answer) (status : Status) (tells : Bool) (before after : List ℕ) → IsAnswer answer.status
+    → (status ≡ answer.status) ⊎ (status ≡ OutputFault)
+    → (IsTrue tells → Puts status answer.text before after) → AnswersOne (answer ∷ []) status tells before after
+printed_one answer status tells before after = printed_among (answer ∷ []) answer status tells before after (0, omega arith, refl)
+
 -- some answer is due, whatever a key line gives
 one_due : (command : Command) (line : Result Secret KeyError) (files : Files) → 0 < length (keyed_answers command (and_secrets line (Ok [])) files)
 one_due (Tags profile) (Ok secret) files = omega arith
 one_due (Header profile) (Ok secret) files = omega arith
+one_due (Verify profile) (Ok secret) files = verify_some profile secret files
 one_due Probe (Ok secret) files = omega arith
 one_due (Recover profile) (Ok secret) files = omega arith
 one_due command (Err error) files = omega arith
 
-first_due : (answers : List Answer) → 0 < length answers → (answer : Answer) × Contains answers answer
+pub first_due : (answers : List Answer) → 0 < length answers → (answer : Answer) × Contains answers answer
 first_due [] some = absurd (omega (arith, some))
 first_due (answer ∷ rest) some = (answer, (0, omega arith, refl))
 

@@ -1,5 +1,5 @@
 -- What is printed where a command stops.
-use Rattle.std.proofs.Common.{◌≡◌, ◌⊎◌, ⊎_elim, inl, inr, ℕ, List, [], Option, Some, None, Result, Ok, Err, unwrap_or, refl, sym, ap, ◌∙◌, subst, append-nil}
+use Rattle.std.proofs.Common.{◌≡◌, ◌⊎◌, ⊎_elim, inl, inr, ℕ, List, [], Option, Some, Result, Ok, Err, unwrap_or, refl, sym, ap, ◌∙◌, subst, append-nil}
 use Rattle.rollback_journal.specs.declared.recovery.Recovery.{Recovery}
 use Rattle.rollback_journal.specs.declared.recovery.RecoverError.{RecoverError}
 use Rattle.sqlcipher_tool.specs.Answer.{Answer, IsAnswered, IsFault, Puts, PutsPart, refused, key_refused}

@@ -5,3 +5,6 @@ pub mod Recoveries
 pub mod Answered
 pub mod Batches
 pub mod Openings
+pub mod SomeDue
+pub mod Verified
+pub mod VerifiedFile

@@ -8,7 +8,7 @@ use Rattle.sqlcipher_tool.specs.Tags.{pages_answer}
 use Rattle.sqlcipher_tool.specs.Text.{tag_lines, tags_report}
 
 -- a list without a first is empty
-none_empty : (pages : List ℕ) → None ≡ slice_get pages 0 → pages ≡ []
+pub none_empty : (pages : List ℕ) → None ≡ slice_get pages 0 → pages ≡ []
 none_empty [] none = refl
 none_empty (page ∷ rest) none = cc
 
@@ -28,7 +28,7 @@ some_refused count (other ∷ rest) page first =
     let same : page ≡ other = cc in ap (λ (n : ℕ). record { status = Refused (PageTag n); text = tag_lines (other ∷ rest); begun = tag_lines (other ∷ rest) }) (sym same)
 
 -- a part of nothing is nothing
-empty_part : (put rest : List ℕ) → [] ≡ put ++ rest → put ≡ []
+pub empty_part : (put rest : List ℕ) → [] ≡ put ++ rest → put ≡ []
 empty_part [] rest whole = refl
 empty_part (byte ∷ put) rest whole = cc
 

@@ -1,5 +1,5 @@
 -- A command that reads the recovered file.
-use Rattle.std.proofs.Common.{◌≡◌, ◌⊎◌, ⊎_elim, ◌≤◌, ◌<◌, ℕ, List, [], ◌∷◌, length, Option, Some, None, Result, Ok, Err, sym, ap, ◌∙◌, subst, arith}
+use Rattle.std.proofs.Common.{◌≡◌, ⊎_elim, ◌≤◌, ◌<◌, ℕ, List, [], ◌∷◌, length, Option, Some, None, Result, Ok, Err, sym, ap, ◌∙◌, subst, arith}
 use Rattle.edge_model.specs.Files.{Files, bytes_of}
 use Rattle.edge_model.specs.Images.{From, LeavesOnly}
 use Rattle.edge_model.specs.Moments.{goes_less}
@@ -55,7 +55,7 @@ opened_of_file (Err MemoryEnds) is = is
 header_of_file : (profile : Profile) (secret : Secret) (file : List ℕ) → IsOfFile (header_answer profile secret file)
 header_of_file profile secret file = opened_of_file (opened_with profile secret file)
 
-fault_of_file : (status : Status) → IsFault status → IsUnrecovered status → ⊥
+pub fault_of_file : (status : Status) → IsFault status → IsUnrecovered status → ⊥
 fault_of_file Done fault is = fault
 fault_of_file Usage fault is = fault
 fault_of_file (Refused refusal) fault is = fault

@@ -12,4 +12,5 @@ pub mod Stop
 pub mod Tags
 pub mod Text
 pub mod Verify
+pub mod Walked
 pub mod Words

@@ -1,5 +1,5 @@
 -- The file to which the files as they read recover, and the answer where there is none.
-use Rattle.std.specs.Prelude.{ℕ, List, [], Option, Some, None, Result, Ok, Err}
+use Rattle.std.specs.Prelude.{ℕ, List, [], ◌∷◌, Option, Some, None, Result, Ok, Err}
 use Rattle.edge_model.specs.Files.{Files, bytes_of}
 use Rattle.cipher_profile.specs.declared.profile.Profile.{Profile}
 use Rattle.rollback_journal.specs.declared.recovery.Recovery.{Recovery}
@@ -41,3 +41,12 @@ recovered_answer profile files answer = after_recovery (recovery_of profile file
 abbrev pub refused_answer : Result Recovery RecoverError → Option Answer
 refused_answer (Ok recovery) = None
 refused_answer (Err error) = Some (recovery_answer (Err error))
+
+-- the answers on the recovered file, or that to a recovery that is refused
+abbrev pub answers_after : Result Recovery RecoverError → List Answer → List Answer
+answers_after (Ok recovery) answers = answers
+answers_after (Err error) answers = recovery_answer (Err error) ∷ []
+
+-- what may be answered by a command that reads the recovered file
+abbrev pub recovered_answers : Profile → Files → (List ℕ → List Answer) → List Answer
+recovered_answers profile files answers = answers_after (recovery_of profile files) (answers (recovered_main profile files))

@@ -11,6 +11,8 @@ pub enum Command {
     Tags(Profile),
     /// Print the fields of the database header.
     Header(Profile),
+    /// Check the structure of the database, page by page.
+    Verify(Profile),
     /// Find the profile.
     Probe,
     /// Play back a journal that a stop has left.
@@ -24,7 +26,7 @@ impl Command {
     {
         match self {
             Command::Tags(profile) => profile.tag_len == 0,
-            Command::Header(_) | Command::Probe | Command::Recover(_) => false,
+            Command::Header(_) | Command::Verify(_) | Command::Probe | Command::Recover(_) => false,
         }
     }
 }
@@ -52,6 +54,9 @@ fn command_on(name: &str, word: &str) -> Option<Command>
     }
     if name == "header" {
         return Some(Command::Header(profile?));
+    }
+    if name == "verify" {
+        return Some(Command::Verify(profile?));
     }
     if name == "recover" {
         return Some(Command::Recover(profile?));

@@ -4,6 +4,7 @@
 mod command;
 mod conclusion;
 mod header;
+mod in_use;
 mod opening;
 mod probe;
 mod recovery;
@@ -15,6 +16,10 @@ mod text;
 #[cfg(test)]
 mod text_tests;
 mod top;
+mod verify;
+#[cfg(test)]
+mod verify_tests;
+mod walk;
 
 pub use status::{Refusal, Status};
 pub use top::run;

@@ -25,7 +25,7 @@ const TAGS: [&str; 4] = [
     "44036d3ea5f624a31ff75eaa5366f022de53d8414212d830176015bace29e4d43c1090be942703f243b3372c926269d61782824dce86388a1290794150518a27",
 ];
 
-const KEY: &[u8] = b"x'000102030405060708090a0b0c0d0e0f101112131415161718191a1b1c1d1e1f'\n";
+pub const KEY: &[u8] = b"x'000102030405060708090a0b0c0d0e0f101112131415161718191a1b1c1d1e1f'\n";
 
 const OTHER_KEY: &[u8] = b"x'ffffffffffffffffffffffffffffffffffffffffffffffffffffffffffffffff'\n";
 
@@ -67,7 +67,7 @@ fn swapped(alloc: Global) -> Result<Vec<u8>, Fail> {
 }
 
 // The answer to these words on Main and, where there is one, a journal of one byte.
-fn check(
+pub fn check(
     rt: &impl Abort,
     alloc: Global,
     words: &[&str],
@@ -268,7 +268,7 @@ fn answers_usage_to_other_words(rt: HostRuntime) -> Result<(), Fail> {
 }
 
 // Plain page n of a sealed file: an empty table leaf, behind the header on page 1.
-fn put_leaf(rt: &impl Abort, profile: &Profile, n: u32, plain: &mut [u8]) {
+pub fn put_leaf(rt: &impl Abort, profile: &Profile, n: u32, plain: &mut [u8]) {
     assert!(rt; plain.len() >= 108 && plain.len() < 65536);
     let start = if n == 1 { 100 } else { 0 };
     plain[start] = 13;
@@ -308,13 +308,13 @@ fn put_leaf(rt: &impl Abort, profile: &Profile, n: u32, plain: &mut [u8]) {
     }
 }
 
-fn put_byte(bytes: &mut [u8], at: usize, byte: u8) {
+pub fn put_byte(bytes: &mut [u8], at: usize, byte: u8) {
     if at < bytes.len() {
         bytes[at] = byte;
     }
 }
 
-fn seal(rt: &impl Abort, codec: &Codec, n: u32, plain: &[u8], stored: &mut [u8])
+pub fn seal(rt: &impl Abort, codec: &Codec, n: u32, plain: &[u8], stored: &mut [u8])
     requires plain_size { length plain.now ≡ usable codec.now.profile }
     requires stored_size { length stored.old ≡ codec.now.profile.page_size }
 {
@@ -329,6 +329,23 @@ fn seal(rt: &impl Abort, codec: &Codec, n: u32, plain: &[u8], stored: &mut [u8])
     );
 }
 
+// The codec of the profile under a key line, for a salt of zeros.
+pub fn codec_of_file(
+    rt: &impl Abort,
+    alloc: Global,
+    word: &str,
+    key: &[u8],
+) -> Result<Codec, Fail> {
+    let Some(profile) = profile_of(word) else {
+        panic!(rt; "no profile {word}");
+    };
+    let Ok(secret) = read_key(&mut MemSource::new(alloc, key, &[])?) else {
+        panic!(rt; "no key");
+    };
+    let keys = derive(&secret, &profile, &[0; 16]);
+    Ok(Codec::new(profile, keys, [0; 16]))
+}
+
 // The sealed file of the profile under a key line, with these bytes put into plain page 1.
 fn sealed(
     rt: &impl Abort,
@@ -337,13 +354,8 @@ fn sealed(
     key: &[u8],
     changes: &[(usize, u8)],
 ) -> Result<Vec<u8>, Fail> {
-    let Some(profile) = profile_of(word) else {
-        panic!(rt; "no profile {word}");
-    };
-    let Ok(secret) = read_key(&mut MemSource::new(alloc, key, &[])?) else {
-        panic!(rt; "no key");
-    };
-    let codec = Codec::new(profile, derive(&secret, &profile, &[0; 16]), [0; 16]);
+    let codec = codec_of_file(rt, alloc, word, key)?;
+    let profile = *codec.profile();
     let mut file = Vec::new(alloc);
     for n in 1..5 {
         let mut plain = [0u8; 4096];

@@ -21,6 +21,7 @@ use crate::recovery::report_recovery;
 use crate::status::{Refusal, Status};
 use crate::tags::tags;
 use crate::text::usage_line;
+use crate::verify::verify;
 use cipher_profile::{KeyError, Secret, read_key};
 use edge_model::{Disk, Entropy, Sink, Source};
 use std::alloc::Global;
@@ -126,7 +127,7 @@ fn serve<K: Source, S: Sink, E: Entropy, D: Disk>(
     }
     match command {
         Command::Recover(profile) => report_recovery(alloc, profile, out, disk),
-        Command::Tags(_) | Command::Header(_) | Command::Probe => {
+        Command::Tags(_) | Command::Header(_) | Command::Verify(_) | Command::Probe => {
             serve_keyed(alloc, command, input, out, entropy, disk)
         }
     }
@@ -200,6 +201,7 @@ fn carry_out<S: Sink, E: Entropy, D: Disk>(
     match command {
         Command::Tags(profile) => tags(alloc, profile, secret, out, disk),
         Command::Header(profile) => header(alloc, profile, secret, out, entropy, disk),
+        Command::Verify(profile) => verify(alloc, profile, secret, out, entropy, disk),
         Command::Probe => probe(secret, out, disk),
         Command::Recover(profile) => report_recovery(alloc, profile, out, disk),
     }

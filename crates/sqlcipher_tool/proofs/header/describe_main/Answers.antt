@@ -1,4 +1,4 @@
-use Rattle.std.proofs.Common.{◌≡◌, ◌∙◌, ℕ, List, Some, Result, inr, sym, ap}
+use Rattle.std.proofs.Common.{◌∙◌, ℕ, List, Some, Result, inr, sym, ap}
 use Rattle.pager.specs.File.{main_of}
 use Rattle.pager.specs.Opening.{Opened}
 use Rattle.pager.specs.declared.opening.OpenError.{OpenError}

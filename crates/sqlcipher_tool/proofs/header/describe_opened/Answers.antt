@@ -1,4 +1,4 @@
-use Rattle.std.proofs.Common.{◌≡◌, ◌∙◌, ℕ, ap}
+use Rattle.std.proofs.Common.{◌∙◌, ℕ, ap}
 use Rattle.db_format.specs.declared.header.Header.{Header as Fields}
 use Rattle.sqlcipher_tool.specs.Text.{header_report}
 use Rattle.sqlcipher_tool.proofs.header.describe_opened.Goals as goal

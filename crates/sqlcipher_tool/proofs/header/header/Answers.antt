@@ -1,4 +1,4 @@
-use Rattle.std.proofs.Common.{◌≡◌, ⊎_elim, inl, inr, List, ℕ, sym, ap, subst}
+use Rattle.std.proofs.Common.{◌≡◌, ⊎_elim, inl, inr, sym, ap, subst}
 use Rattle.sqlcipher_tool.specs.Answer.{Answer, IsAnswered, IsFault, Puts}
 use Rattle.edge_model.specs.Files.{bytes_of}
 use Rattle.sqlcipher_tool.specs.Header.{header_answer}

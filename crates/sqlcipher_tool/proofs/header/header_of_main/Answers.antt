@@ -1,4 +1,4 @@
-use Rattle.std.proofs.Common.{◌≡◌, ap}
+use Rattle.std.proofs.Common.{ap}
 use Rattle.sqlcipher_tool.specs.Header.{header_answer}
 use Rattle.pager.specs.File.{main_of}
 use Rattle.sqlcipher_tool.proofs.Conclusions.{outcome_text}

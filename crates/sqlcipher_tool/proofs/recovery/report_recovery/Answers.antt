@@ -1,4 +1,4 @@
-use Rattle.std.proofs.Common.{◌≡◌, ap}
+use Rattle.std.proofs.Common.{ap}
 use Rattle.sqlcipher_tool.specs.Recovered.{recovery_answer, recovery_of}
 use Rattle.sqlcipher_tool.proofs.Conclusions.{outcome_text}
 use Rattle.sqlcipher_tool.proofs.recovery.report_recovery.Goals as goal

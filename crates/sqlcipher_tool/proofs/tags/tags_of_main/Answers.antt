@@ -1,4 +1,4 @@
-use Rattle.std.proofs.Common.{◌≡◌, ap}
+use Rattle.std.proofs.Common.{ap}
 use Rattle.sqlcipher_tool.specs.Answer.{first_of}
 use Rattle.page_codec.specs.Page.{keys_of}
 use Rattle.pager.specs.File.{main_of}

@@ -1,4 +1,4 @@
-use Rattle.std.proofs.Common.{◌≡◌, ◌∷◌, [], sym, ap, subst}
+use Rattle.std.proofs.Common.{◌∷◌, [], sym, ap, subst}
 use Rattle.sqlcipher_tool.specs.Crash.{Keeps}
 use Rattle.sqlcipher_tool.specs.Due.{secret_answers}
 use Rattle.sqlcipher_tool.specs.Header.{header_answer}
@@ -47,6 +47,12 @@ returns-in-Header-clause-keeps g c = λ told.
     let run = disk_run g.D.Disk.reads g.D.Disk.images g.D.Disk.moment g.D.Disk.since c.args.disk.now c.header.new.disk in
     subst (λ (command : Asked). Keeps command run) (sym c.in-Header.is)
     (keeps_held c.in-Header.profile.page_size run (λ image ever. (c.header.ensures.keeps told).each image ever))
+
+pub returns-in-Verify-clause-keeps : goal.returns-in-Verify-clause-keeps
+returns-in-Verify-clause-keeps g c = λ told.
+    let run = disk_run g.D.Disk.reads g.D.Disk.images g.D.Disk.moment g.D.Disk.since c.args.disk.now c.verify.new.disk in
+    subst (λ (command : Asked). Keeps command run) (sym c.in-Verify.is)
+    (keeps_held c.in-Verify.profile.page_size run (λ image ever. (c.verify.ensures.keeps told).each image ever))
 
 pub returns-in-Probe-clause-answer : goal.returns-in-Probe-clause-answer
 returns-in-Probe-clause-answer g c = λ told.

@@ -1,4 +1,4 @@
-use Rattle.std.proofs.Common.{◌≡◌, List, ℕ, None, Option, sym, ap, ◌∙◌, subst}
+use Rattle.std.proofs.Common.{List, ℕ, Option, sym, ◌∙◌, subst}
 use Rattle.sqlcipher_tool.specs.Answer.{Puts, usage}
 use Rattle.sqlcipher_tool.specs.Due.{command_answers}
 use Rattle.sqlcipher_tool.specs.Promises.{AnswersOne}

@@ -1,4 +1,4 @@
-use Rattle.std.proofs.Common.{◌≡◌, ◌∷◌, [], List, ℕ, true, Some, IsTrue, sym, ap, subst, rules, if◌then◌else◌, Bool, None, Option}
+use Rattle.std.proofs.Common.{◌≡◌, true, Some, sym, ap, subst, rules, if◌then◌else◌, Bool, None}
 use Rattle.sqlcipher_tool.specs.Crash.{Changes, Keeps}
 use Rattle.sqlcipher_tool.specs.Due.{asked_answers, word_refusal}
 use Rattle.sqlcipher_tool.specs.Holding.{disk_run}
@@ -7,7 +7,6 @@ use Rattle.sqlcipher_tool.specs.Promises.{AnswersOne}
 use Rattle.sqlcipher_tool.specs.Recovered.{recovery_answer, recovery_of}
 use Rattle.sqlcipher_tool.specs.Words.{lacks_tags}
 use Rattle.sqlcipher_tool.specs.declared.command.Command.{Command as Asked}
-use Rattle.sqlcipher_tool.specs.declared.status.Refusal.{Refusal}
 use Rattle.sqlcipher_tool.specs.declared.status.Refusal.TheVariants.{NoTags}
 use Rattle.sqlcipher_tool.proofs.Answered.{answers_one, keeps_held, printed_one}
 use Rattle.sqlcipher_tool.proofs.Conclusions.{no_part}

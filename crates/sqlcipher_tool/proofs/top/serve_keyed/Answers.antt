@@ -4,7 +4,7 @@ use Rattle.cipher_profile.specs.declared.key_line.KeyError.TheVariants.{KeyMissi
 use Rattle.cipher_profile.specs.declared.keys.Secret.{Secret}
 use Rattle.cipher_profile.specs.KeyCauses.{UnlessFault}
 use Rattle.cipher_profile.specs.KeyLine.{key_line}
-use Rattle.sqlcipher_tool.specs.Due.{and_secrets, key_answer, keyed_answers}
+use Rattle.sqlcipher_tool.specs.Due.{and_secrets, keyed_answers}
 use Rattle.sqlcipher_tool.specs.Answer.{refused}
 use Rattle.sqlcipher_tool.specs.Promises.{AnswersOne}
 use Rattle.sqlcipher_tool.specs.declared.status.Refusal.TheVariants.{KeyMissing as RefusedMissing, KeyEmpty as RefusedEmpty, KeyTooLong as RefusedLong, KeyForm as RefusedForm}

@@ -1,0 +1,171 @@
+-- What `verify` answers of a file, from what it answers of its pages.
+use Rattle.std.proofs.Common.{◌≡◌, ◌⊎◌, ⊎_elim, ℕ, zero, suc, ◌≤◌, ◌<◌, Bool, true, false, List, [], ◌∷◌, length, Option, Some, None, Result, Ok, Err, if◌then◌else◌, sym, ap, ◌∙◌, subst, arith}
+use Rattle.std.specs.Prelude.{slice_index_or}
+use Rattle.std.specs.List.{Contains}
+use Rattle.std.proofs.lemmas.Bool.{le-leb}
+use Rattle.db_format.specs.Bytes.{u32_at}
+use Rattle.db_format.specs.Count.{count_of_pages}
+use Rattle.db_format.specs.Header.{header_fields, header_rules}
+use Rattle.db_format.specs.Pages.{Pages, nothing}
+use Rattle.db_format.specs.Rules.{Rule, unless_broken}
+use Rattle.db_format.specs.declared.count.CountRefusal.{CountRefusal}
+use Rattle.db_format.specs.declared.defect.Defect.{Defect}
+use Rattle.db_format.specs.declared.header.Header.{Header}
+use Rattle.db_format.specs.declared.header.HeaderRefusal.{HeaderRefusal}
+use Rattle.btree_model.specs.Finding.{faults, refusals}
+use Rattle.btree_model.specs.Freelist.{first_trunk, free_field, freelist_walk}
+use Rattle.btree_model.specs.Parts.{counts, first_faults, first_refusals, parts}
+use Rattle.page_codec.specs.Page.{FileKeys, opened}
+use Rattle.pager.specs.File.{first_page}
+use Rattle.pager.specs.Opening.{Opened, file_header, file_opened, first_broken, key_rules, length_rules, unless, with_count, with_header}
+use Rattle.pager.specs.Pages.{opened_pages}
+use Rattle.pager.specs.declared.opening.OpenError.{OpenError}
+use Rattle.pager.specs.declared.opening.OpenError.TheVariants.{Empty, Short, KeyRefused as NoKey, HeaderFault, WalMode, AutoVacuum, Ragged, TooLarge, DiskFault as DiskFails, OutOfMemory as MemoryEnds}
+use Rattle.rollback_journal.specs.declared.recovery.Recovery.{Recovery}
+use Rattle.rollback_journal.specs.declared.recovery.RecoverError.{RecoverError}
+use Rattle.sqlcipher_tool.specs.Answer.{Answer, IsFault, done}
+use Rattle.sqlcipher_tool.specs.Opening.{open_answer, unopened_answer}
+use Rattle.sqlcipher_tool.specs.Plain.{refused_in_use}
+use Rattle.sqlcipher_tool.specs.Promises.{AnswersOne, IsUnrecovered}
+use Rattle.sqlcipher_tool.specs.Recovered.{answers_after, recovery_answer, refused_answer}
+use Rattle.sqlcipher_tool.specs.Stop.{IsOutside, stop_answer}
+use Rattle.sqlcipher_tool.specs.Text.{verify_report}
+use Rattle.sqlcipher_tool.specs.Verify.{else_answers, opened_answers, pages_answers, rest_answers, stop_answers, tags_or}
+use Rattle.sqlcipher_tool.specs.declared.opening.Stop.{Stop}
+use Rattle.sqlcipher_tool.specs.declared.opening.Stop.TheVariants.{DiskFault as StopDisk, OutOfMemory as StopMemory}
+use Rattle.sqlcipher_tool.specs.declared.status.Status.{Status}
+use Rattle.sqlcipher_tool.proofs.Recoveries.{fault_of_file}
+use Rattle.sqlcipher_tool.proofs.Verified.{some_is}
+
+-- ---- the header of a file that opens
+
+unless_ok : (o : Option OpenError) (r : Result Opened OpenError) (x : Opened) → unless o r ≡ Ok x → r ≡ Ok x
+unless_ok None r x is = is
+unless_ok (Some error) r x is = cc
+
+counted_header : (header : Header) (c : Result ℕ CountRefusal) (x : Opened) → with_count header c ≡ Ok x → header ≡ x.header
+counted_header header (Ok n) x is = cc
+counted_header header (Err refusal) x is = cc
+
+read_header : (len : ℕ) (r : Result Header HeaderRefusal) (x : Opened) → with_header len r ≡ Ok x → r ≡ Ok x.header
+read_header len (Ok header) x is = ap Ok (counted_header header (count_of_pages header len) x is)
+read_header len (Err refusal) x is = cc
+
+if_ok : {V E : Type 0} (broken : Bool) (refusal : E) (rest : Result V E) (v : V) → (if broken then Err refusal else rest) ≡ Ok v → rest ≡ Ok v
+if_ok true refusal rest v is = cc
+if_ok false refusal rest v is = is
+
+unbroken : {V E : Type 0} (rules : List (Rule E)) (v w : V) → unless_broken rules v ≡ Ok w → v ≡ w
+unbroken [] v w is = cc
+unbroken ((broken, refusal) ∷ later) v w is = unbroken later v w (if_ok broken refusal (unless_broken later v) w is)
+
+pub opened_fields : (keys : FileKeys) (file : List ℕ) (header : Header) (n : ℕ) → file_opened keys file ≡ Ok (record { header = header; count = n })
+    → header_fields (opened keys 1 (first_page keys.profile file)) ≡ header
+opened_fields keys file header n is =
+    let x : Opened = record { header = header; count = n } in
+    let inner = unless_ok (first_broken (length_rules keys.profile.page_size file)) _ x is in
+    let last = unless_ok (first_broken (key_rules keys file)) _ x inner in
+    let read = read_header (length file) (file_header keys file) x last in
+    let plain = opened keys 1 (first_page keys.profile file) in
+    unbroken (header_rules plain keys.profile.page_size keys.profile.reserve) (header_fields plain) header read
+
+first_is : (keys : FileKeys) (file : List ℕ) (n : ℕ) → 1 ≤ n → (opened_pages keys file n).page 1 ≡ opened keys 1 (first_page keys.profile file)
+first_is keys file n some = ap (λ b. if b then opened keys 1 (first_page keys.profile file) else []) (le-leb 1 n some)
+
+pub opened_trunk : (keys : FileKeys) (file : List ℕ) (header : Header) (n : ℕ) → file_opened keys file ≡ Ok (record { header = header; count = n }) → 1 ≤ n
+    → header.first_trunk ≡ first_trunk (opened_pages keys file n)
+opened_trunk keys file header n is some =
+    ap (λ (h : Header). h.first_trunk) (sym (opened_fields keys file header n is)) ∙ ap (λ bytes. u32_at bytes 32) (sym (first_is keys file n some))
+
+pub opened_free : (keys : FileKeys) (file : List ℕ) (header : Header) (n : ℕ) → file_opened keys file ≡ Ok (record { header = header; count = n }) → 1 ≤ n
+    → header.free_count ≡ free_field (opened_pages keys file n)
+opened_free keys file header n is some =
+    ap (λ (h : Header). h.free_count) (sym (opened_fields keys file header n is)) ∙ ap (λ bytes. u32_at bytes 36) (sym (first_is keys file n some))
+
+-- ---- which answers are due
+
+outside_none : (stop : Stop) (answer : Answer) → IsOutside stop → stop_answer stop ≡ Some answer → ⊥
+outside_none stop answer outside is =
+    ⊎_elim (λ (disk : stop ≡ StopDisk). let none : None ≡ Some answer = sym (ap stop_answer disk) ∙ is in cc)
+    (λ (memory : stop ≡ StopMemory). let none : None ≡ Some answer = sym (ap stop_answer memory) ∙ is in cc) outside
+
+-- a file that does not open
+unopened_by : (opened : Result Opened OpenError) (job : ℕ → List Answer) (answer : Answer) → Some answer ≡ unopened_answer opened
+    → Contains (opened_answers opened job) answer
+unopened_by (Ok opened) job answer is = cc
+unopened_by (Err error) job answer is = (0, omega arith, some_is (open_answer error) answer (sym is))
+
+pub unopened_due : (opened : Result Opened OpenError) (job : ℕ → List Answer) (stop : Stop) → IsOutside stop ⊎ (stop_answer stop ≡ unopened_answer opened)
+    → (answer : Answer) → stop_answer stop ≡ Some answer → Contains (opened_answers opened job) answer
+unopened_due opened job stop is answer same =
+    ⊎_elim (λ outside. absurd (outside_none stop answer outside same)) (λ unopened. unopened_by opened job answer (sym same ∙ unopened)) is
+
+-- a recovery that is refused
+refused_by : (r : Result Recovery RecoverError) (answers : List Answer) (answer : Answer) → Some answer ≡ refused_answer r → Contains (answers_after r answers) answer
+refused_by (Ok recovery) answers answer is = cc
+refused_by (Err error) answers answer is = (0, omega arith, some_is (recovery_answer (Err error)) answer (sym is))
+
+pub refused_due : (r : Result Recovery RecoverError) (answers : List Answer) (stop : Stop) → IsOutside stop ⊎ (stop_answer stop ≡ refused_answer r)
+    → (answer : Answer) → stop_answer stop ≡ Some answer → Contains (answers_after r answers) answer
+refused_due r answers stop is answer same =
+    ⊎_elim (λ outside. absurd (outside_none stop answer outside same)) (λ stopped. refused_by r answers answer (sym same ∙ stopped)) is
+
+-- ---- no answer to a file is that to a recovery
+
+abbrev IsOfFile : Answer → Type 0
+IsOfFile answer = IsUnrecovered answer.status → ⊥
+
+abbrev AreOfFile : List Answer → Type 0
+AreOfFile [] = Unit {0}
+AreOfFile (answer ∷ rest) = IsOfFile answer × AreOfFile rest
+
+of_file_at : (answers : List Answer) (answer : Answer) → AreOfFile answers → (k : ℕ) → k < length answers → slice_index_or answers k answer ≡ answer → IsOfFile answer
+of_file_at [] answer all k within is = absurd (omega (arith, within))
+of_file_at (first ∷ rest) answer all zero within is = subst IsOfFile is all.0
+of_file_at (first ∷ rest) answer all (suc k) within is = of_file_at rest answer all.1 k (omega (arith, within)) is
+
+defects_of_file : (defects : List Defect) (pages : List ℕ) → AreOfFile (stop_answers defects pages)
+defects_of_file [] [] = tt
+defects_of_file [] (page ∷ pages) = ((λ is. is), defects_of_file [] pages)
+defects_of_file (d ∷ defects) pages = ((λ is. is), defects_of_file defects pages)
+
+else_of_file : (xs ys : List Answer) → AreOfFile xs → AreOfFile ys → AreOfFile (else_answers xs ys)
+else_of_file [] ys all other = other
+else_of_file (x ∷ xs) ys all other = all
+
+tags_of_file : (pages : List ℕ) (answers : List Answer) → AreOfFile answers → AreOfFile (tags_or pages answers)
+tags_of_file [] answers all = all
+tags_of_file (page ∷ rest) answers all = ((λ is. is), tt)
+
+pages_of_file : (pages : Pages) → AreOfFile (pages_answers pages)
+pages_of_file pages =
+    let found = freelist_walk pages nothing in
+    let report = done (verify_report (counts pages)) ∷ [] in
+    else_of_file (stop_answers (faults found) (refusals found)) (tags_or (refused_in_use pages) (rest_answers pages)) (defects_of_file (faults found) (refusals found))
+    (tags_of_file (refused_in_use pages) (rest_answers pages)
+    (else_of_file (stop_answers (first_faults (parts pages)) (first_refusals (parts pages))) report
+    (defects_of_file (first_faults (parts pages)) (first_refusals (parts pages))) ((λ is. is), tt)))
+
+open_of_file : (error : OpenError) → IsOfFile (open_answer error)
+open_of_file Empty is = is
+open_of_file (Short len) is = is
+open_of_file NoKey is = is
+open_of_file (HeaderFault offset found) is = is
+open_of_file WalMode is = is
+open_of_file AutoVacuum is = is
+open_of_file (Ragged len) is = is
+open_of_file (TooLarge pages) is = is
+open_of_file DiskFails is = is
+open_of_file MemoryEnds is = is
+
+opened_of_file : (opened : Result Opened OpenError) (pages : ℕ → Pages) → AreOfFile (opened_answers opened (λ n. pages_answers (pages n)))
+opened_of_file (Ok opened) pages = pages_of_file (pages opened.count)
+opened_of_file (Err error) pages = (open_of_file error, tt)
+
+-- so no status that is answered to a file is
+pub verified_recovered : (opened : Result Opened OpenError) (pages : ℕ → Pages) (status : Status) (tells : Bool) (before after : List ℕ)
+    → AnswersOne (opened_answers opened (λ n. pages_answers (pages n))) status tells before after → IsUnrecovered status → ⊥
+verified_recovered opened pages status tells before after one is =
+    ⊎_elim (λ (same : status ≡ one.answer.status).
+    of_file_at (opened_answers opened (λ n. pages_answers (pages n))) one.answer (opened_of_file opened pages) one.is_due.0 one.is_due.1 one.is_due.2 (subst IsUnrecovered same is))
+    (λ (fault : IsFault status). fault_of_file status fault is) one.answered
