@@ -6,7 +6,7 @@ ghost use Rattle.cipher_profile.specs.Profile.{usable};
 ghost use Rattle.rollback_journal.specs.Writing.{at_first};
 ghost use Rattle.rollback_journal.specs.Playing.{main_of};
 ghost use Rattle.transaction.specs.Commit.{IsChanged, IsCommitted, LeavesChanged};
-ghost use Rattle.transaction.specs.Database.{Base, HoldsOld};
+ghost use Rattle.transaction.specs.Database.{Base, HoldsEither, HoldsOld, stored_pages};
 ghost use Rattle.transaction.specs.Facts.{IsBase, IsBegun, SameFresh};
 ghost use Rattle.pager.specs.Changed.{HasMagic, IsDrawn, IsSealed, HasNewPages};
 
@@ -48,6 +48,7 @@ pub(crate) fn write_changed<D: Disk, E: Entropy>(
     ensures changed { OnOk result (IsTrue D.tells →
         HasNewPages base codec changed (IsDrawn E.tells (E.drawn entropy.old) (E.drawn entropy.new)) (main_of (D.reads disk.new))) }
     ensures new { OnOk result (IsTrue D.tells → Each (D.images disk.new) (IsCommitted base (main_of (D.reads disk.new)))) }
+    ensures one_new { OnOk result (IsTrue D.tells → LeavesOnly D.moment D.since disk.old disk.new (HoldsEither base (stored_pages base.size base.pages (main_of (D.reads disk.new))))) }
     ensures any_moment { IsTrue D.tells → LeavesChanged D.moment D.since base
         (HasNewPages base codec changed (IsDrawn E.tells (E.drawn entropy.old) (E.drawn entropy.new))) disk.old disk.new }
     ensures only_old { result ≡ Err CommitFault.EntropyFault → IsTrue D.tells → LeavesOnly D.moment D.since disk.old disk.new (HoldsOld base) }

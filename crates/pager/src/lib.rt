@@ -10,8 +10,9 @@
 //!    `page_zero: pager`), and what is taken back needs no call (`abandon: disk`).
 //! 4. The bytes that seal the pages are drawn before anything is written, those of each page behind those of the one before:
 //!    where they cannot be had, the old database alone is recovered (`end: changed, only_old`).
-//! 5. A stop at any moment leaves the old pages or the new ones, and after Ok each image has the new ones alone, and no journal:
-//!    the changed pages, sealed under the codec for writing, and every other page as it was (`end: any_moment, new, changed`).
+//! 5. A stop at any moment leaves the old pages or the new ones, which are one and the same at every moment. After Ok each image has
+//!    the new ones alone, and no journal: the changed pages, sealed under the codec for writing, and every other page as it was
+//!    (`end: any_moment, one_new, new, changed`).
 #![tactic(auto)]
 
 mod changed;

@@ -7,7 +7,7 @@ ghost use Rattle.page_cache.specs.Pages.{bytes_at, is_held};
 ghost use Rattle.rollback_journal.specs.Playing.{main_of as read_main};
 ghost use Rattle.rollback_journal.specs.Writing.{at_first};
 ghost use Rattle.transaction.specs.Commit.{IsCommitted, LeavesChanged};
-ghost use Rattle.transaction.specs.Database.{Base, HoldsOld};
+ghost use Rattle.transaction.specs.Database.{Base, HoldsEither, HoldsOld, stored_pages};
 ghost use Rattle.transaction.specs.Facts.{IsBase, IsBegun, SameFresh};
 ghost use Rattle.pager.specs.Changed.{HasMagic, HasNewPages, IsDrawn, IsUnchangeable, lent_page, numbers_with, same_layout, seen_pages, with_bytes};
 ghost use Rattle.pager.specs.File.{main_of};
@@ -243,6 +243,7 @@ impl<'d, D: Disk, E: Entropy> Txn<'d, D, E> {
         ensures changed { OnOk result.2 (IsTrue D.tells → HasNewPages base self.entry.write self.entry.changed
             (IsDrawn E.tells (E.drawn self.entry.pager.entropy.now) (E.drawn result.1.now)) (read_main (D.reads result.0.now))) }
         ensures new { OnOk result.2 (IsTrue D.tells → Each (D.images result.0.now) (IsCommitted base (read_main (D.reads result.0.now)))) }
+        ensures one_new { OnOk result.2 (IsTrue D.tells → LeavesOnly D.moment D.since self.entry.pager.disk.now result.0.now (HoldsEither base (stored_pages base.size base.pages (read_main (D.reads result.0.now))))) }
         ensures any_moment { IsTrue D.tells → LeavesChanged D.moment D.since base (HasNewPages base self.entry.write self.entry.changed
             (IsDrawn E.tells (E.drawn self.entry.pager.entropy.now) (E.drawn result.1.now))) self.entry.pager.disk.now result.0.now }
         ensures only_old { result.2 ≡ Err CommitFault.EntropyFault → IsTrue D.tells → LeavesOnly D.moment D.since self.entry.pager.disk.now result.0.now (HoldsOld base) }

@@ -1,6 +1,6 @@
 use Rattle.std.proofs.Common.{◌≡◌, ◌∙◌, ◌*◌, ◌<◌, ℕ, List, length, inl, inr, ⊎_elim, sym, ap, subst, arith, rules}
 use Rattle.cipher_profile.specs.declared.profile.Profile.{Profile}
-use Rattle.edge_model.specs.Moments.{started}
+use Rattle.edge_model.specs.Moments.{started, weaker}
 use Rattle.transaction.specs.Database.{HoldsOld, HoldsOnly}
 use Rattle.transaction.proofs.Kept.{begun_old, begun_pages}
 use Rattle.pager.specs.Changed.{IsDrawn}
@@ -23,6 +23,10 @@ returns-then-count-eq0-clause-new g c = λ told d here.
     let begun = c.requires.1.1.1.1.1.1.1 told in
     let same = (begun_pages g.base (g.D.Disk.images c.args.disk.now) (g.D.Disk.reads c.args.disk.now) begun (g.met.D.Disk.reads_now c.args.disk.now)).1 in
     (subst (λ (db : List (List ℕ)). HoldsOnly g.base db d) (sym same) (begun_old g.base _ d begun here), begun.no_journal d here)
+
+pub returns-then-count-eq0-clause-one_new : goal.returns-then-count-eq0-clause-one_new
+returns-then-count-eq0-clause-one_new g c = λ told.
+    weaker (λ d holds. inl holds) (started g.met.D.Disk.only_now c.args.disk.now (HoldsOld g.base) (λ d here. begun_old g.base _ d (c.requires.1.1.1.1.1.1.1 told) here))
 
 pub returns-then-count-eq0-clause-any_moment : goal.returns-then-count-eq0-clause-any_moment
 returns-then-count-eq0-clause-any_moment g c = λ told.
