@@ -14,10 +14,12 @@ commands
   header PROFILE  decrypt page 1 and print the fields of the database header
   verify PROFILE  check the freelist, the tags of the pages in use, the schema and
                   every tree; prints what is wrong, or `ok:` and the counts
+  export PROFILE  check the whole database, and print every row and entry as text,
+                  which tools/export_to_sql.py turns into SQL
   probe           find the profile whose key fits; prints `profile N`
   recover PROFILE play the journal beside the file back into it and remove it;
                   prints `played: N`, `cold` or `nothing`, and takes no key
-                  (`tags`, `header` and `verify` recover first, too)
+                  (`tags`, `header`, `verify` and `export` recover first)
 
 profiles
   1, 2, 3, 4      the version of SQLCipher that wrote the file (1 has no tags)

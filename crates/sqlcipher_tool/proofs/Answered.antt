@@ -11,13 +11,14 @@ use Rattle.sqlcipher_tool.specs.Answer.{Answer, IsAnswer, IsAnswered, IsFault, P
 use Rattle.sqlcipher_tool.specs.Crash.{KeepsHeld}
 use Rattle.sqlcipher_tool.specs.Due.{and_secrets, key_lines, keyed_answers}
 use Rattle.sqlcipher_tool.specs.declared.command.Command.{Command}
-use Rattle.sqlcipher_tool.specs.declared.command.Command.TheVariants.{Tags, Header, Verify, Probe, Recover}
+use Rattle.sqlcipher_tool.specs.declared.command.Command.TheVariants.{Tags, Header, Verify, Export, Probe, Recover}
+use Rattle.sqlcipher_tool.specs.declared.job.Job.TheVariants.{Verify as VerifyPages, Export as ExportPages}
 use Rattle.sqlcipher_tool.specs.declared.status.Status.{Status}
 use Rattle.sqlcipher_tool.specs.declared.status.Status.TheVariants.{Done, Usage, Refused, KeyRefused, DiskFault, OutputFault, InputFault, EntropyFault, OutOfMemory}
 use Rattle.sqlcipher_tool.specs.Holding.{AreOfSize, DiskRun, Held, HoldsOneOf, HoldsOnly}
 use Rattle.sqlcipher_tool.specs.Promises.{AnswersOne, PutsSo}
 use Rattle.sqlcipher_tool.proofs.Conclusions.{no_part}
-use Rattle.sqlcipher_tool.proofs.SomeDue.{verify_some}
+use Rattle.sqlcipher_tool.proofs.SomeDue.{recovered_some}
 
 -- what was printed of the answer
 puts_so : (status : Status) (answer : Answer) (before after : List ℕ) → Puts status answer.text before after
@@ -103,7 +104,8 @@ printed_one answer status tells before after = printed_among (answer ∷ []) ans
 one_due : (command : Command) (line : Result Secret KeyError) (files : Files) → 0 < length (keyed_answers command (and_secrets line (Ok [])) files)
 one_due (Tags profile) (Ok secret) files = omega arith
 one_due (Header profile) (Ok secret) files = omega arith
-one_due (Verify profile) (Ok secret) files = verify_some profile secret files
+one_due (Verify profile) (Ok secret) files = recovered_some VerifyPages profile secret files
+one_due (Export profile) (Ok secret) files = recovered_some ExportPages profile secret files
 one_due Probe (Ok secret) files = omega arith
 one_due (Recover profile) (Ok secret) files = omega arith
 one_due command (Err error) files = omega arith

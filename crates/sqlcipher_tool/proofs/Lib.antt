@@ -6,5 +6,6 @@ pub mod Answered
 pub mod Batches
 pub mod Openings
 pub mod SomeDue
+pub mod Exported
 pub mod Verified
 pub mod VerifiedFile

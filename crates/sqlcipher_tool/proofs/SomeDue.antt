@@ -3,6 +3,8 @@ use Rattle.std.proofs.Common.{ℕ, ◌<◌, List, [], ◌∷◌, length, Result,
 use Rattle.db_format.specs.Pages.{Pages, nothing}
 use Rattle.btree_model.specs.Finding.{faults, refusals}
 use Rattle.btree_model.specs.Freelist.{freelist_walk}
+use Rattle.btree_model.specs.Content.{content}
+use Rattle.btree_model.specs.Plain.{with_zeros}
 use Rattle.btree_model.specs.Parts.{counts, first_faults, first_refusals, parts}
 use Rattle.cipher_profile.specs.declared.keys.Secret.{Secret}
 use Rattle.cipher_profile.specs.declared.profile.Profile.{Profile}
@@ -14,11 +16,16 @@ use Rattle.pager.specs.declared.opening.OpenError.{OpenError}
 use Rattle.rollback_journal.specs.declared.recovery.Recovery.{Recovery}
 use Rattle.rollback_journal.specs.declared.recovery.RecoverError.{RecoverError}
 use Rattle.sqlcipher_tool.specs.Answer.{Answer, done}
+use Rattle.export_rows.specs.Report.{export_report}
+use Rattle.sqlcipher_tool.specs.Export.{content_answers}
+use Rattle.sqlcipher_tool.specs.Job.{job_answers, job_due}
+use Rattle.sqlcipher_tool.specs.declared.job.Job.{Job}
+use Rattle.sqlcipher_tool.specs.declared.job.Job.TheVariants.{Verify, Export}
 use Rattle.sqlcipher_tool.specs.Opening.{opened_with}
 use Rattle.sqlcipher_tool.specs.Plain.{refused_in_use}
 use Rattle.sqlcipher_tool.specs.Recovered.{answers_after, recovered_answers, recovered_main, recovery_of}
 use Rattle.sqlcipher_tool.specs.Text.{verify_report}
-use Rattle.sqlcipher_tool.specs.Verify.{else_answers, opened_answers, pages_answers, rest_answers, stop_answers, tags_or, verify_answers}
+use Rattle.sqlcipher_tool.specs.Verify.{else_answers, opened_answers, pages_answers, parts_answers, rest_answers, stop_answers, tags_or}
 
 else_some : (xs ys : List Answer) → 0 < length ys → 0 < length (else_answers xs ys)
 else_some [] ys some = some
@@ -28,8 +35,11 @@ tags_some : (pages : List ℕ) (answers : List Answer) → 0 < length answers �
 tags_some [] answers some = some
 tags_some (page ∷ rest) answers some = omega arith
 
+pub parts_some : (pages : Pages) (last : Answer) → 0 < length (parts_answers pages last)
+parts_some pages last = else_some (stop_answers (first_faults (parts pages)) (first_refusals (parts pages))) (last ∷ []) (omega arith)
+
 pub rest_some : (pages : Pages) → 0 < length (rest_answers pages)
-rest_some pages = else_some (stop_answers (first_faults (parts pages)) (first_refusals (parts pages))) (done (verify_report (counts pages)) ∷ []) (omega arith)
+rest_some pages = parts_some pages (done (verify_report (counts pages)))
 
 pub pages_some : (pages : Pages) → 0 < length (pages_answers pages)
 pages_some pages =
@@ -45,10 +55,18 @@ pub after_some : (r : Result Recovery RecoverError) (answers : List Answer) → 
 after_some (Ok recovery) answers some = some
 after_some (Err error) answers some = omega arith
 
--- to `verify`
-pub verify_some : (profile : Profile) (secret : Secret) (files : Files) → 0 < length (recovered_answers profile files (verify_answers profile secret))
-verify_some profile secret files =
+-- to `export`
+pub content_some : (pages : Pages) → 0 < length (content_answers pages)
+content_some pages = parts_some pages (done (export_report (content (with_zeros pages))))
+
+-- to a job
+pub job_some : (job : Job) (pages : Pages) → 0 < length (job_due job pages)
+job_some Verify pages = pages_some pages
+job_some Export pages = content_some pages
+
+pub recovered_some : (job : Job) (profile : Profile) (secret : Secret) (files : Files) → 0 < length (recovered_answers profile files (job_answers job profile secret))
+recovered_some job profile secret files =
     let main = recovered_main profile files in
     let keys = keys_of profile secret main in
-    after_some (recovery_of profile files) (verify_answers profile secret main)
-    (opened_some (opened_with profile secret main) (λ n. pages_answers (opened_pages keys main n)) (λ n. pages_some (opened_pages keys main n)))
+    after_some (recovery_of profile files) (job_answers job profile secret main)
+    (opened_some (opened_with profile secret main) (λ n. job_due job (opened_pages keys main n)) (λ n. job_some job (opened_pages keys main n)))

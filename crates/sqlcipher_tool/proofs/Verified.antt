@@ -38,7 +38,7 @@ use Rattle.sqlcipher_tool.specs.Promises.{AnswersOne}
 use Rattle.sqlcipher_tool.specs.Stop.{stop_answer}
 use Rattle.sqlcipher_tool.specs.Tags.{number_where, numbers_where, page_numbers, tags_of}
 use Rattle.sqlcipher_tool.specs.Text.{tag_lines, verify_report}
-use Rattle.sqlcipher_tool.specs.Verify.{else_answers, pages_answers, rest_answers, stop_answers, tags_or}
+use Rattle.sqlcipher_tool.specs.Verify.{else_answers, pages_answers, parts_answers, rest_answers, stop_answers, tags_or}
 use Rattle.sqlcipher_tool.specs.Walked.{walk_refusal, walk_stop}
 use Rattle.schema_map.specs.Census.{IsWhole}
 use Rattle.schema_map.specs.Parts.{IsEarliest}
@@ -108,9 +108,9 @@ free_due pages answer h =
     let found = freelist_walk pages nothing in
     else_left (stop_answers (faults found) (refusals found)) (tags_or (refused_in_use pages) (rest_answers pages)) answer h
 
-pub rest_due : (pages : Pages) (answer : Answer)
-    → Contains (stop_answers (first_faults (parts pages)) (first_refusals (parts pages))) answer → Contains (rest_answers pages) answer
-rest_due pages answer h = else_left (stop_answers (first_faults (parts pages)) (first_refusals (parts pages))) (done (verify_report (counts pages)) ∷ []) answer h
+pub rest_due : (pages : Pages) (last answer : Answer)
+    → Contains (stop_answers (first_faults (parts pages)) (first_refusals (parts pages))) answer → Contains (parts_answers pages last) answer
+rest_due pages last answer h = else_left (stop_answers (first_faults (parts pages)) (first_refusals (parts pages))) (last ∷ []) answer h
 
 -- findings without a defect
 no_faults : (found : List Finding) → is_sound found ≡ true → faults found ≡ []
@@ -148,15 +148,14 @@ no_first_fault : (parts : List (List Finding)) → list_all is_sound parts ≡ t
 no_first_fault [] h = refl
 no_first_fault (part ∷ rest) h = first_or (is_sound part) (list_all is_sound rest) (first_faults rest) (faults part) (no_first_fault rest) h
 
-no_first_refusal : (parts : List (List Finding)) → list_all is_sound parts ≡ true → first_refusals parts ≡ []
+pub no_first_refusal : (parts : List (List Finding)) → list_all is_sound parts ≡ true → first_refusals parts ≡ []
 no_first_refusal [] h = refl
 no_first_refusal (part ∷ rest) h = first_or (is_sound part) (list_all is_sound rest) (first_refusals rest) (refusals part) (no_first_refusal rest) h
 
-pub whole_due : (pages : Pages) → is_database pages ≡ true → rest_answers pages ≡ done (verify_report (counts pages)) ∷ []
-whole_due pages whole =
-    let report = done (verify_report (counts pages)) ∷ [] in
-    ap (λ l. else_answers (stop_answers l (first_refusals (parts pages))) report) (no_first_fault (parts pages) whole)
-    ∙ ap (λ l. else_answers (stop_answers [] l) report) (no_first_refusal (parts pages) whole)
+pub whole_due : (pages : Pages) (last : Answer) → is_database pages ≡ true → parts_answers pages last ≡ last ∷ []
+whole_due pages last whole =
+    ap (λ l. else_answers (stop_answers l (first_refusals (parts pages))) (last ∷ [])) (no_first_fault (parts pages) whole)
+    ∙ ap (λ l. else_answers (stop_answers [] l) (last ∷ [])) (no_first_refusal (parts pages) whole)
 
 -- ---- which tags are left to check
 
@@ -298,20 +297,20 @@ free_stop tells pages (Source AllPinned) told is answer same = cc
 free_stop tells pages MemoryEnds told is answer same = cc
 
 -- behind it
-pub rest_stop : (tells : Bool) (pages : Pages) (error : WalkError PageError) (refusal : Refusal) → IsTrue tells
-    → IsEarliest (MayRefuse tells) pages (parts pages) error → walk_refusal error ≡ Ok refusal → Contains (rest_answers pages) (refused refusal)
-rest_stop tells pages (Found d) refusal told is same =
-    subst (λ r. Contains (rest_answers pages) (refused r)) (ok_is (RefusedDefect d) refusal same)
-    (rest_due pages (refused (RefusedDefect d)) (among_stops (first_faults (parts pages)) (first_refusals (parts pages)) d is))
-rest_stop tells pages (Source (TagRefused page)) refusal told is same =
-    subst (λ r. Contains (rest_answers pages) (refused r)) (ok_is (PageTag page) refusal same)
-    (rest_due pages (refused (PageTag page)) (among_pages (first_faults (parts pages)) (first_refusals (parts pages)) page
+pub rest_stop : (tells : Bool) (pages : Pages) (last : Answer) (error : WalkError PageError) (refusal : Refusal) → IsTrue tells
+    → IsEarliest (MayRefuse tells) pages (parts pages) error → walk_refusal error ≡ Ok refusal → Contains (parts_answers pages last) (refused refusal)
+rest_stop tells pages last (Found d) refusal told is same =
+    subst (λ r. Contains (parts_answers pages last) (refused r)) (ok_is (RefusedDefect d) refusal same)
+    (rest_due pages last (refused (RefusedDefect d)) (among_stops (first_faults (parts pages)) (first_refusals (parts pages)) d is))
+rest_stop tells pages last (Source (TagRefused page)) refusal told is same =
+    subst (λ r. Contains (parts_answers pages last) (refused r)) (ok_is (PageTag page) refusal same)
+    (rest_due pages last (refused (PageTag page)) (among_pages (first_faults (parts pages)) (first_refusals (parts pages)) page
     (subst (λ n. Contains (first_refusals (parts pages)) n) (sym is.refused.1) (is.listed (is.refused.2 told)))))
-rest_stop tells pages (Source OutOfRange) refusal told is same = cc
-rest_stop tells pages (Source PageFault) refusal told is same = cc
-rest_stop tells pages (Source DrawFault) refusal told is same = cc
-rest_stop tells pages (Source AllPinned) refusal told is same = cc
-rest_stop tells pages MemoryEnds refusal told is same = cc
+rest_stop tells pages last (Source OutOfRange) refusal told is same = cc
+rest_stop tells pages last (Source PageFault) refusal told is same = cc
+rest_stop tells pages last (Source DrawFault) refusal told is same = cc
+rest_stop tells pages last (Source AllPinned) refusal told is same = cc
+rest_stop tells pages last MemoryEnds refusal told is same = cc
 
 -- what else stopped it has no answer
 pub outside_stop : (error : WalkError PageError) (stop : Stop) → walk_refusal error ≡ Err stop → stop_answer stop ≡ None
@@ -340,7 +339,7 @@ counts_are pages census whole =
 pub report_due : (pages : Pages) (census : Census) → IsWhole pages census → pages_answers pages ≡ rest_answers pages
     → Contains (pages_answers pages) (done (verify_report (counted census)))
 report_due pages census whole hold =
-    subst (λ l. Contains l (done (verify_report (counted census)))) (sym (whole_due pages whole.sound) ∙ sym hold)
+    subst (λ l. Contains l (done (verify_report (counted census)))) (sym (whole_due pages (done (verify_report (counts pages))) whole.sound) ∙ sym hold)
     (0, omega arith, ap (λ n. done (verify_report n)) (sym (counts_are pages census whole)))
 
 -- no page is unused: none meets the test

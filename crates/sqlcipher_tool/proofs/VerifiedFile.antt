@@ -3,7 +3,6 @@ use Rattle.std.proofs.Common.{◌≡◌, ◌⊎◌, ⊎_elim, ℕ, zero, suc, �
 use Rattle.std.specs.Prelude.{slice_index_or}
 use Rattle.std.specs.List.{Contains}
 use Rattle.std.proofs.lemmas.Bool.{le-leb}
-use Rattle.db_format.specs.Bytes.{u32_at}
 use Rattle.db_format.specs.Count.{count_of_pages}
 use Rattle.db_format.specs.Header.{header_fields, header_rules}
 use Rattle.db_format.specs.Pages.{Pages, nothing}
@@ -13,7 +12,7 @@ use Rattle.db_format.specs.declared.defect.Defect.{Defect}
 use Rattle.db_format.specs.declared.header.Header.{Header}
 use Rattle.db_format.specs.declared.header.HeaderRefusal.{HeaderRefusal}
 use Rattle.btree_model.specs.Finding.{faults, refusals}
-use Rattle.btree_model.specs.Freelist.{first_trunk, free_field, freelist_walk}
+use Rattle.btree_model.specs.Freelist.{freelist_walk}
 use Rattle.btree_model.specs.Parts.{counts, first_faults, first_refusals, parts}
 use Rattle.page_codec.specs.Page.{FileKeys, opened}
 use Rattle.pager.specs.File.{first_page}
@@ -24,6 +23,13 @@ use Rattle.pager.specs.declared.opening.OpenError.TheVariants.{Empty, Short, Key
 use Rattle.rollback_journal.specs.declared.recovery.Recovery.{Recovery}
 use Rattle.rollback_journal.specs.declared.recovery.RecoverError.{RecoverError}
 use Rattle.sqlcipher_tool.specs.Answer.{Answer, IsFault, done}
+use Rattle.btree_model.specs.Content.{content}
+use Rattle.btree_model.specs.Plain.{with_zeros}
+use Rattle.export_rows.specs.Report.{export_report}
+use Rattle.sqlcipher_tool.specs.Export.{content_answers}
+use Rattle.sqlcipher_tool.specs.Job.{job_due}
+use Rattle.sqlcipher_tool.specs.declared.job.Job.{Job}
+use Rattle.sqlcipher_tool.specs.declared.job.Job.TheVariants.{Verify, Export}
 use Rattle.sqlcipher_tool.specs.Opening.{open_answer, unopened_answer}
 use Rattle.sqlcipher_tool.specs.Plain.{refused_in_use}
 use Rattle.sqlcipher_tool.specs.Promises.{AnswersOne, IsUnrecovered}
@@ -72,15 +78,10 @@ opened_fields keys file header n is =
 first_is : (keys : FileKeys) (file : List ℕ) (n : ℕ) → 1 ≤ n → (opened_pages keys file n).page 1 ≡ opened keys 1 (first_page keys.profile file)
 first_is keys file n some = ap (λ b. if b then opened keys 1 (first_page keys.profile file) else []) (le-leb 1 n some)
 
-pub opened_trunk : (keys : FileKeys) (file : List ℕ) (header : Header) (n : ℕ) → file_opened keys file ≡ Ok (record { header = header; count = n }) → 1 ≤ n
-    → header.first_trunk ≡ first_trunk (opened_pages keys file n)
-opened_trunk keys file header n is some =
-    ap (λ (h : Header). h.first_trunk) (sym (opened_fields keys file header n is)) ∙ ap (λ bytes. u32_at bytes 32) (sym (first_is keys file n some))
-
-pub opened_free : (keys : FileKeys) (file : List ℕ) (header : Header) (n : ℕ) → file_opened keys file ≡ Ok (record { header = header; count = n }) → 1 ≤ n
-    → header.free_count ≡ free_field (opened_pages keys file n)
-opened_free keys file header n is some =
-    ap (λ (h : Header). h.free_count) (sym (opened_fields keys file header n is)) ∙ ap (λ bytes. u32_at bytes 36) (sym (first_is keys file n some))
+-- the fields are those of page 1
+pub opened_header : (keys : FileKeys) (file : List ℕ) (header : Header) (n : ℕ) → file_opened keys file ≡ Ok (record { header = header; count = n }) → 1 ≤ n
+    → header ≡ header_fields ((opened_pages keys file n).page 1)
+opened_header keys file header n is some = sym (opened_fields keys file header n is) ∙ ap header_fields (sym (first_is keys file n some))
 
 -- ---- which answers are due
 
@@ -146,6 +147,15 @@ pages_of_file pages =
     (else_of_file (stop_answers (first_faults (parts pages)) (first_refusals (parts pages))) report
     (defects_of_file (first_faults (parts pages)) (first_refusals (parts pages))) ((λ is. is), tt)))
 
+content_of_file : (pages : Pages) → AreOfFile (content_answers pages)
+content_of_file pages =
+    else_of_file (stop_answers (first_faults (parts pages)) (first_refusals (parts pages))) (done (export_report (content (with_zeros pages))) ∷ [])
+    (defects_of_file (first_faults (parts pages)) (first_refusals (parts pages))) ((λ is. is), tt)
+
+job_of_file : (job : Job) (pages : Pages) → AreOfFile (job_due job pages)
+job_of_file Verify pages = pages_of_file pages
+job_of_file Export pages = content_of_file pages
+
 open_of_file : (error : OpenError) → IsOfFile (open_answer error)
 open_of_file Empty is = is
 open_of_file (Short len) is = is
@@ -158,14 +168,14 @@ open_of_file (TooLarge pages) is = is
 open_of_file DiskFails is = is
 open_of_file MemoryEnds is = is
 
-opened_of_file : (opened : Result Opened OpenError) (pages : ℕ → Pages) → AreOfFile (opened_answers opened (λ n. pages_answers (pages n)))
-opened_of_file (Ok opened) pages = pages_of_file (pages opened.count)
-opened_of_file (Err error) pages = (open_of_file error, tt)
+opened_of_file : (job : Job) (opened : Result Opened OpenError) (pages : ℕ → Pages) → AreOfFile (opened_answers opened (λ n. job_due job (pages n)))
+opened_of_file job (Ok opened) pages = job_of_file job (pages opened.count)
+opened_of_file job (Err error) pages = (open_of_file error, tt)
 
 -- so no status that is answered to a file is
-pub verified_recovered : (opened : Result Opened OpenError) (pages : ℕ → Pages) (status : Status) (tells : Bool) (before after : List ℕ)
-    → AnswersOne (opened_answers opened (λ n. pages_answers (pages n))) status tells before after → IsUnrecovered status → ⊥
-verified_recovered opened pages status tells before after one is =
+pub job_recovered : (job : Job) (opened : Result Opened OpenError) (pages : ℕ → Pages) (status : Status) (tells : Bool) (before after : List ℕ)
+    → AnswersOne (opened_answers opened (λ n. job_due job (pages n))) status tells before after → IsUnrecovered status → ⊥
+job_recovered job opened pages status tells before after one is =
     ⊎_elim (λ (same : status ≡ one.answer.status).
-    of_file_at (opened_answers opened (λ n. pages_answers (pages n))) one.answer (opened_of_file opened pages) one.is_due.0 one.is_due.1 one.is_due.2 (subst IsUnrecovered same is))
+    of_file_at (opened_answers opened (λ n. job_due job (pages n))) one.answer (opened_of_file job opened pages) one.is_due.0 one.is_due.1 one.is_due.2 (subst IsUnrecovered same is))
     (λ (fault : IsFault status). fault_of_file status fault is) one.answered

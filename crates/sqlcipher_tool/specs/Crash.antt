@@ -5,7 +5,7 @@ use Rattle.edge_model.specs.Images.{Each, From}
 use Rattle.cipher_profile.specs.declared.profile.Profile.{Profile}
 use Rattle.rollback_journal.specs.Recovery.{IsDone, Keeps as KeepsRecovered}
 use Rattle.sqlcipher_tool.specs.declared.command.Command.{Command}
-use Rattle.sqlcipher_tool.specs.declared.command.Command.TheVariants.{Tags, Header, Verify, Probe, Recover}
+use Rattle.sqlcipher_tool.specs.declared.command.Command.TheVariants.{Tags, Header, Verify, Export, Probe, Recover}
 use Rattle.sqlcipher_tool.specs.declared.status.Status.{Status}
 use Rattle.sqlcipher_tool.specs.declared.status.Status.TheVariants.{Done}
 use Rattle.sqlcipher_tool.specs.Holding.{Held, HoldsOneOf, AreOfSize, DiskRun}
@@ -29,6 +29,7 @@ abbrev pub Keeps : Command → DiskRun → Type 0
 Keeps (Tags profile) run = KeepsHeld profile.page_size run
 Keeps (Header profile) run = KeepsHeld profile.page_size run
 Keeps (Verify profile) run = KeepsHeld profile.page_size run
+Keeps (Export profile) run = KeepsHeld profile.page_size run
 Keeps Probe run = Stays run
 Keeps (Recover profile) run = KeepsHeld profile.page_size run
 
@@ -43,5 +44,6 @@ abbrev pub Changes : Status → Command → DiskRun → Type 0
 Changes status (Tags profile) run = Unit {0}
 Changes status (Header profile) run = Unit {0}
 Changes status (Verify profile) run = Unit {0}
+Changes status (Export profile) run = Unit {0}
 Changes status Probe run = Unit {0}
 Changes status (Recover profile) run = IsRecovered profile status run

@@ -7,15 +7,16 @@ use Rattle.cipher_profile.specs.declared.keys.Secret.{Secret}
 use Rattle.cipher_profile.specs.KeyLine.{after_line, key_line}
 use Rattle.sqlcipher_tool.specs.Answer.{Answer, refused, usage}
 use Rattle.sqlcipher_tool.specs.declared.command.Command.{Command}
-use Rattle.sqlcipher_tool.specs.declared.command.Command.TheVariants.{Tags, Header, Verify, Probe, Recover}
+use Rattle.sqlcipher_tool.specs.declared.command.Command.TheVariants.{Tags, Header, Verify, Export, Probe, Recover}
 use Rattle.sqlcipher_tool.specs.declared.status.Refusal.{Refusal}
 use Rattle.sqlcipher_tool.specs.declared.status.Refusal.TheVariants.{NoTags, KeyMissing as RefusedMissing, KeyEmpty as RefusedEmpty, KeyTooLong as RefusedLong, KeyForm as RefusedForm}
 use Rattle.sqlcipher_tool.specs.declared.status.Status.TheVariants.{InputFault}
 use Rattle.sqlcipher_tool.specs.Header.{header_answer}
+use Rattle.sqlcipher_tool.specs.Job.{job_answers}
+use Rattle.sqlcipher_tool.specs.declared.job.Job.TheVariants.{Verify as VerifyPages, Export as ExportPages}
 use Rattle.sqlcipher_tool.specs.Probe.{probe_answer}
 use Rattle.sqlcipher_tool.specs.Recovered.{recovered_answer, recovered_answers, recovery_answer, recovery_of}
 use Rattle.sqlcipher_tool.specs.Tags.{tags_answer}
-use Rattle.sqlcipher_tool.specs.Verify.{verify_answers}
 use Rattle.sqlcipher_tool.specs.Words.{form, keys_taken, lacks_tags}
 
 -- the refusal that the words alone decide
@@ -52,7 +53,9 @@ secret_answers (Tags profile) secrets files =
 secret_answers (Header profile) secrets files =
     with_one secrets (λ secret. recovered_answer profile files (header_answer profile secret) ∷ [])
 secret_answers (Verify profile) secrets files =
-    with_one secrets (λ secret. recovered_answers profile files (verify_answers profile secret))
+    with_one secrets (λ secret. recovered_answers profile files (job_answers VerifyPages profile secret))
+secret_answers (Export profile) secrets files =
+    with_one secrets (λ secret. recovered_answers profile files (job_answers ExportPages profile secret))
 secret_answers Probe secrets files = with_one secrets (λ secret. probe_answer secret files ∷ [])
 secret_answers (Recover profile) secrets files = recovery_answer (recovery_of profile files) ∷ []
 

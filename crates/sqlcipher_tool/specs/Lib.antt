@@ -2,8 +2,10 @@ pub mod Answer
 pub mod Crash
 pub mod Plain
 pub mod Due
+pub mod Export
 pub mod Header
 pub mod Holding
+pub mod Job
 pub mod Opening
 pub mod Probe
 pub mod Promises

@@ -13,6 +13,8 @@ pub enum Command {
     Header(Profile),
     /// Check the structure of the database, page by page.
     Verify(Profile),
+    /// Print all rows and entries.
+    Export(Profile),
     /// Find the profile.
     Probe,
     /// Play back a journal that a stop has left.
@@ -26,7 +28,11 @@ impl Command {
     {
         match self {
             Command::Tags(profile) => profile.tag_len == 0,
-            Command::Header(_) | Command::Verify(_) | Command::Probe | Command::Recover(_) => false,
+            Command::Header(_)
+            | Command::Verify(_)
+            | Command::Export(_)
+            | Command::Probe
+            | Command::Recover(_) => false,
         }
     }
 }
@@ -57,6 +63,9 @@ fn command_on(name: &str, word: &str) -> Option<Command>
     }
     if name == "verify" {
         return Some(Command::Verify(profile?));
+    }
+    if name == "export" {
+        return Some(Command::Export(profile?));
     }
     if name == "recover" {
         return Some(Command::Recover(profile?));

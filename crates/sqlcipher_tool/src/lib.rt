@@ -3,8 +3,12 @@
 
 mod command;
 mod conclusion;
+mod export;
+#[cfg(test)]
+mod export_tests;
 mod header;
 mod in_use;
+mod job;
 mod opening;
 mod probe;
 mod recovery;
@@ -16,7 +20,6 @@ mod text;
 #[cfg(test)]
 mod text_tests;
 mod top;
-mod verify;
 #[cfg(test)]
 mod verify_tests;
 mod walk;

@@ -16,12 +16,12 @@ ghost use Rattle.sqlcipher_tool.specs.Words.{form, texts, keys_taken, lacks_tags
 use crate::command::{Command, parse_words};
 use crate::conclusion::{conclude, conclude_refusal};
 use crate::header::header;
+use crate::job::{Job, answer_job};
 use crate::probe::probe;
 use crate::recovery::report_recovery;
 use crate::status::{Refusal, Status};
 use crate::tags::tags;
 use crate::text::usage_line;
-use crate::verify::verify;
 use cipher_profile::{KeyError, Secret, read_key};
 use edge_model::{Disk, Entropy, Sink, Source};
 use std::alloc::Global;
@@ -127,9 +127,11 @@ fn serve<K: Source, S: Sink, E: Entropy, D: Disk>(
     }
     match command {
         Command::Recover(profile) => report_recovery(alloc, profile, out, disk),
-        Command::Tags(_) | Command::Header(_) | Command::Verify(_) | Command::Probe => {
-            serve_keyed(alloc, command, input, out, entropy, disk)
-        }
+        Command::Tags(_)
+        | Command::Header(_)
+        | Command::Verify(_)
+        | Command::Export(_)
+        | Command::Probe => serve_keyed(alloc, command, input, out, entropy, disk),
     }
 }
 
@@ -201,7 +203,12 @@ fn carry_out<S: Sink, E: Entropy, D: Disk>(
     match command {
         Command::Tags(profile) => tags(alloc, profile, secret, out, disk),
         Command::Header(profile) => header(alloc, profile, secret, out, entropy, disk),
-        Command::Verify(profile) => verify(alloc, profile, secret, out, entropy, disk),
+        Command::Verify(profile) => {
+            answer_job(alloc, Job::Verify, profile, secret, out, entropy, disk)
+        }
+        Command::Export(profile) => {
+            answer_job(alloc, Job::Export, profile, secret, out, entropy, disk)
+        }
         Command::Probe => probe(secret, out, disk),
         Command::Recover(profile) => report_recovery(alloc, profile, out, disk),
     }

@@ -5,10 +5,10 @@ use std::process::Abort;
 use std::test::Fail;
 
 // Bytes that are put into a plain page: the page, where, and what.
-type Change = (u32, usize, &'static [u8]);
+pub type Change = (u32, usize, &'static [u8]);
 
 // The file of so many pages with these changes.
-fn changed(
+pub fn changed(
     rt: &impl Abort,
     alloc: Global,
     word: &str,

@@ -128,8 +128,8 @@ fn report_stop<S: Sink, E: Entropy, D: Disk>(
     }
 }
 
-// How a walk stops a command.
-fn walk_stop(error: &WalkError<PageError>) -> Stop
+/// How a walk stops a command.
+pub fn walk_stop(error: &WalkError<PageError>) -> Stop
     ensures { result ≡ walk_stop error.now }
 {
     match walk_refusal(error) {

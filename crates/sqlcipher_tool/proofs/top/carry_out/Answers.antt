@@ -50,9 +50,15 @@ returns-in-Header-clause-keeps g c = λ told.
 
 pub returns-in-Verify-clause-keeps : goal.returns-in-Verify-clause-keeps
 returns-in-Verify-clause-keeps g c = λ told.
-    let run = disk_run g.D.Disk.reads g.D.Disk.images g.D.Disk.moment g.D.Disk.since c.args.disk.now c.verify.new.disk in
+    let run = disk_run g.D.Disk.reads g.D.Disk.images g.D.Disk.moment g.D.Disk.since c.args.disk.now c.answer_job.new.disk in
     subst (λ (command : Asked). Keeps command run) (sym c.in-Verify.is)
-    (keeps_held c.in-Verify.profile.page_size run (λ image ever. (c.verify.ensures.keeps told).each image ever))
+    (keeps_held c.in-Verify.profile.page_size run (λ image ever. (c.answer_job.ensures.keeps told).each image ever))
+
+pub returns-in-Export-clause-keeps : goal.returns-in-Export-clause-keeps
+returns-in-Export-clause-keeps g c = λ told.
+    let run = disk_run g.D.Disk.reads g.D.Disk.images g.D.Disk.moment g.D.Disk.since c.args.disk.now c.answer_job-in-Export.new.disk in
+    subst (λ (command : Asked). Keeps command run) (sym c.in-Export.is)
+    (keeps_held c.in-Export.profile.page_size run (λ image ever. (c.answer_job-in-Export.ensures.keeps told).each image ever))
 
 pub returns-in-Probe-clause-answer : goal.returns-in-Probe-clause-answer
 returns-in-Probe-clause-answer g c = λ told.

@@ -5,10 +5,11 @@ use Rattle.db_format.specs.Seen.{marked}
 use Rattle.pager.specs.File.{main_of}
 use Rattle.pager.specs.Pages.{opened_pages}
 use Rattle.pager.specs.Reads.{disk_then_read}
-use Rattle.sqlcipher_tool.specs.Answer.{Answer, Puts, PutsPart, refused}
+use Rattle.btree_model.specs.Parts.{counts}
+use Rattle.sqlcipher_tool.specs.Answer.{Answer, Puts, PutsPart, done, refused}
 use Rattle.sqlcipher_tool.specs.Plain.{refused_but}
 use Rattle.sqlcipher_tool.specs.Stop.{stop_answer}
-use Rattle.sqlcipher_tool.specs.Text.{tag_lines, refusal_line}
+use Rattle.sqlcipher_tool.specs.Text.{tag_lines, refusal_line, verify_report}
 use Rattle.sqlcipher_tool.specs.Verify.{pages_answers, rest_answers}
 use Rattle.sqlcipher_tool.proofs.SomeDue.{pages_some, rest_some}
 use Rattle.sqlcipher_tool.proofs.Answered.{printed_among}
@@ -44,7 +45,7 @@ returns-in-Ok-None-clause-answer g c = λ told.
     sym c.in-Ok-None.field-0-is ∙ c.in-Ok-None.ensures.first told
     ∙ ap (λ (l : List ℕ). slice_get l 0) (left_is pages later free c.leaves.result.now same c.leaves.ensures) in
     let hold = hold_next (pages_answers pages) (rest_answers pages) (refused_but pages (marked free.leaves)) (tags_due pages free.leaves begun.sound begun.leafs) first in
-    let due = rest_stop g.D.Disk.tells pages c.args.error.now c.in-Ok.refusal told (c.requires.stopped told) (sym c.in-Ok.ensures) in
+    let due = rest_stop g.D.Disk.tells pages (done (verify_report (counts pages))) c.args.error.now c.in-Ok.refusal told (c.requires.stopped told) (sym c.in-Ok.ensures) in
     printed_among (pages_answers pages) (refused c.in-Ok.refusal) status g.S.Sink.tells before after
     (subst (λ (l : List Answer). Contains l (refused c.in-Ok.refusal)) (sym hold) due) tt c.conclude_refusal.ensures.status
     (λ printed. subst (λ (first : List ℕ). Puts status (refusal_line c.in-Ok.refusal) first after)

@@ -1,31 +1,46 @@
-// `verify`: the freelist, the tags of all pages in use, the schema and the trees.
-ghost use Rattle.std.specs.Prelude.{◌≡◌, Ok, IsTrue};
+// The jobs on the pages of a file that is only read, once it is recovered and opened.
+ghost use Rattle.std.specs.Prelude.{◌≡◌, ◌≤◌, Ok, IsTrue};
 ghost use Rattle.edge_model.specs.Images.{From, LeavesOnly};
 ghost use Rattle.edge_model.specs.OnlyRead.{OnlyRead};
 ghost use Rattle.cipher_profile.specs.Profile.{IsListed};
+ghost use Rattle.db_format.specs.Header.{header_fields};
+ghost use Rattle.db_format.specs.Source.{no_pins};
 ghost use Rattle.pager.specs.File.{main_of};
+ghost use Rattle.pager.specs.Held.{pins_of};
 ghost use Rattle.pager.specs.Opening.{file_opened};
 ghost use Rattle.pager.specs.Pages.{opened_pages};
+ghost use Rattle.pager.specs.Reads.{DiskRead, Untouched};
 ghost use Rattle.rollback_journal.specs.Recovery.{Keeps};
 ghost use Rattle.sqlcipher_tool.specs.Answer.{HasCauses, PutsLine};
 ghost use Rattle.sqlcipher_tool.specs.Opening.{AreRecovered};
 ghost use Rattle.sqlcipher_tool.specs.Promises.{AnswersOne, IsUnrecovered};
 ghost use Rattle.sqlcipher_tool.specs.Recovered.{recovered_answers};
-ghost use Rattle.sqlcipher_tool.specs.Verify.{pages_answers, verify_answers};
+ghost use Rattle.sqlcipher_tool.specs.Job.{job_answers, job_due};
 
 use crate::conclusion::conclude_stop;
+use crate::export::export_pages;
 use crate::opening::open_main;
 use crate::recovery::recover_main;
 use crate::status::Status;
 use crate::walk::verify_pages;
 use cipher_profile::{Profile, Secret};
 use edge_model::{Disk, Entropy, Sink};
-use pager::OpenedFile;
+use pager::{OpenedFile, Pager};
 use std::alloc::Global;
 
-/// `verify` with this secret, after a recovery.
-pub fn verify<S: Sink, E: Entropy, D: Disk>(
+/// What is done with the pages of a file.
+#[derive(Clone, Copy, Debug, PartialEq, Eq)]
+pub enum Job {
+    /// Check the freelist, the tags of all pages in use, the schema and the trees.
+    Verify,
+    /// Print all rows and entries.
+    Export,
+}
+
+/// A job with this secret, after a recovery.
+pub fn answer_job<S: Sink, E: Entropy, D: Disk>(
     alloc: Global,
+    job: Job,
     profile: Profile,
     secret: &Secret,
     out: &mut S,
@@ -34,7 +49,7 @@ pub fn verify<S: Sink, E: Entropy, D: Disk>(
 ) -> Status
     requires { IsListed profile }
     ensures answer { IsTrue D.tells
-        → AnswersOne (recovered_answers profile (D.reads disk.old) (verify_answers profile secret.now)) result S.tells (S.taken out.old) (S.taken out.new) }
+        → AnswersOne (recovered_answers profile (D.reads disk.old) (job_answers job profile secret.now)) result S.tells (S.taken out.old) (S.taken out.new) }
     ensures line { IsTrue S.tells → PutsLine result (S.taken out.old) (S.taken out.new) }
     ensures causes { HasCauses result (D.faults disk.old) (D.faults disk.new) (S.faults out.old) (S.faults out.new) }
     ensures keeps { IsTrue D.tells → LeavesOnly D.moment D.since disk.old disk.new (From (Keeps profile.page_size) (D.images disk.old)) }
@@ -42,14 +57,15 @@ pub fn verify<S: Sink, E: Entropy, D: Disk>(
     ensures unrecovered { IsTrue D.tells → IsUnrecovered result → D.reads disk.new ≡ D.reads disk.old }
 {
     match recover_main(alloc, disk, profile) {
-        Ok(_) => verify_main(alloc, profile, secret, out, entropy, disk),
+        Ok(_) => job_on_main(alloc, job, profile, secret, out, entropy, disk),
         Err(stop) => conclude_stop(out, stop),
     }
 }
 
-// `verify` of Main as it reads.
-fn verify_main<S: Sink, E: Entropy, D: Disk>(
+// The job on Main as it reads.
+fn job_on_main<S: Sink, E: Entropy, D: Disk>(
     alloc: Global,
+    job: Job,
     profile: Profile,
     secret: &Secret,
     out: &mut S,
@@ -58,21 +74,22 @@ fn verify_main<S: Sink, E: Entropy, D: Disk>(
 ) -> Status
     requires listed { IsListed profile }
     requires recovered { IsTrue D.tells → AreRecovered (D.reads disk.old) (D.images disk.old) }
-    ensures answer { IsTrue D.tells → AnswersOne (verify_answers profile secret.now (main_of (D.reads disk.old))) result S.tells (S.taken out.old) (S.taken out.new) }
+    ensures answer { IsTrue D.tells → AnswersOne (job_answers job profile secret.now (main_of (D.reads disk.old))) result S.tells (S.taken out.old) (S.taken out.new) }
     ensures line { IsTrue S.tells → PutsLine result (S.taken out.old) (S.taken out.new) }
     ensures causes { HasCauses result (D.faults disk.old) (D.faults disk.new) (S.faults out.old) (S.faults out.new) }
     ensures draws { entropy.new ≡ entropy.old }
     ensures only_read { IsTrue D.tells → OnlyRead D.reads D.images D.moment D.since disk.old disk.new }
 {
     match open_main(alloc, disk, profile, secret) {
-        Ok(file) => verify_file(alloc, file, out, entropy, disk),
+        Ok(file) => job_on_file(alloc, job, file, out, entropy, disk),
         Err(stop) => conclude_stop(out, stop),
     }
 }
 
-// `verify` of a file that was opened.
-fn verify_file<S: Sink, E: Entropy, D: Disk>(
+// The job on a file that was opened.
+fn job_on_file<S: Sink, E: Entropy, D: Disk>(
     alloc: Global,
+    job: Job,
     file: OpenedFile,
     out: &mut S,
     entropy: &mut E,
@@ -80,17 +97,40 @@ fn verify_file<S: Sink, E: Entropy, D: Disk>(
 ) -> Status
     requires { IsTrue D.tells → file_opened file.codec (main_of (D.reads disk.old)) ≡ Ok (record { header = file.header; count = file.count }) }
     ensures answer { IsTrue D.tells
-        → AnswersOne (pages_answers (opened_pages file.codec (main_of (D.reads disk.old)) file.count)) result S.tells (S.taken out.old) (S.taken out.new) }
+        → AnswersOne (job_due job (opened_pages file.codec (main_of (D.reads disk.old)) file.count)) result S.tells (S.taken out.old) (S.taken out.new) }
     ensures line { IsTrue S.tells → PutsLine result (S.taken out.old) (S.taken out.new) }
     ensures causes { HasCauses result (D.faults disk.old) (D.faults disk.new) (S.faults out.old) (S.faults out.new) }
     ensures draws { entropy.new ≡ entropy.old }
     ensures only_read { IsTrue D.tells → OnlyRead D.reads D.images D.moment D.since disk.old disk.new }
 {
     let mut pager = file.into_pager(disk, entropy);
-    let status = verify_pages(alloc, &mut pager, out);
+    let status = job_on_pages(alloc, job, &mut pager, out);
     let (disk, entropy) = pager.into_parts();
     // Both end here as they are, entropy first: the prover learns of each from these lines.
     let _ = entropy;
     let _ = disk;
     status
+}
+
+// The job on the pages of a file.
+fn job_on_pages<S: Sink, E: Entropy, D: Disk>(
+    alloc: Global,
+    job: Job,
+    pager: &mut Pager<'_, D, E>,
+    out: &mut S,
+) -> Status
+    requires header { IsTrue D.tells → 1 ≤ pager.old.count
+        → pager.old.header ≡ header_fields ((opened_pages pager.old.codec (main_of (D.reads pager.old.disk.now)) pager.old.count).page 1) }
+    requires unpinned { pins_of pager.old.cache.held ≡ no_pins }
+    ensures answer { IsTrue D.tells
+        → AnswersOne (job_due job (opened_pages pager.old.codec (main_of (D.reads pager.old.disk.now)) pager.old.count)) result S.tells (S.taken out.old) (S.taken out.new) }
+    ensures line { IsTrue S.tells → PutsLine result (S.taken out.old) (S.taken out.new) }
+    ensures causes { HasCauses result (D.faults pager.old.disk.now) (D.faults pager.new.disk.now) (S.faults out.old) (S.faults out.new) }
+    ensures disk { DiskRead D.tells D.reads D.images D.moment D.since D.faults pager.old.disk pager.new.disk }
+    ensures entropy { Untouched pager.old.entropy pager.new.entropy }
+{
+    match job {
+        Job::Verify => verify_pages(alloc, pager, out),
+        Job::Export => export_pages(alloc, pager, out),
+    }
 }

@@ -4,33 +4,33 @@ use Rattle.pager.specs.Pages.{opened_pages}
 use Rattle.page_codec.specs.Page.{keys_of}
 use Rattle.sqlcipher_tool.specs.Opening.{opened_with}
 use Rattle.sqlcipher_tool.specs.Recovered.{recovered_main, recovery_of}
-use Rattle.sqlcipher_tool.specs.Verify.{pages_answers, verify_answers}
-use Rattle.sqlcipher_tool.proofs.SomeDue.{after_some, opened_some, pages_some}
+use Rattle.sqlcipher_tool.specs.Job.{job_answers, job_due}
+use Rattle.sqlcipher_tool.proofs.SomeDue.{after_some, job_some, opened_some}
 use Rattle.sqlcipher_tool.proofs.Recoveries.{read_after}
 use Rattle.sqlcipher_tool.proofs.Verified.{stop_one}
-use Rattle.sqlcipher_tool.proofs.VerifiedFile.{refused_due, verified_recovered}
-use Rattle.sqlcipher_tool.proofs.verify.verify.Goals as goal
+use Rattle.sqlcipher_tool.proofs.VerifiedFile.{refused_due, job_recovered}
+use Rattle.sqlcipher_tool.proofs.job.answer_job.Goals as goal
 
 pub returns-in-Ok-clause-keeps : goal.returns-in-Ok-clause-keeps
 returns-in-Ok-clause-keeps g c = λ told.
-    read_after g.met.D.Disk.counts_now (c.recover_main.ensures.keeps told) (c.verify_main.ensures.only_read told)
+    read_after g.met.D.Disk.counts_now (c.recover_main.ensures.keeps told) (c.job_on_main.ensures.only_read told)
 
 pub returns-in-Ok-clause-unrecovered : goal.returns-in-Ok-clause-unrecovered
 returns-in-Ok-clause-unrecovered g c = λ told is.
     let main = main_of (g.D.Disk.reads c.recover_main.new.disk) in
     let keys = keys_of c.args.profile c.args.secret.now main in
-    absurd (verified_recovered (opened_with c.args.profile c.args.secret.now main) (λ n. opened_pages keys main n) c.verify_main.result g.S.Sink.tells
-    (g.S.Sink.taken c.args.out.now) (g.S.Sink.taken c.verify_main.new.out) (c.verify_main.ensures.answer told) is)
+    absurd (job_recovered c.args.job (opened_with c.args.profile c.args.secret.now main) (λ n. opened_pages keys main n) c.job_on_main.result g.S.Sink.tells
+    (g.S.Sink.taken c.args.out.now) (g.S.Sink.taken c.job_on_main.new.out) (c.job_on_main.ensures.answer told) is)
 
 pub returns-in-Err-clause-answer : goal.returns-in-Err-clause-answer
 returns-in-Err-clause-answer g c = λ told.
     let files = g.D.Disk.reads c.args.disk.now in
     let main = recovered_main c.args.profile files in
     let keys = keys_of c.args.profile c.args.secret.now main in
-    let answers = verify_answers c.args.profile c.args.secret.now main in
+    let answers = job_answers c.args.job c.args.profile c.args.secret.now main in
     let recovery = recovery_of c.args.profile files in
     stop_one _ c.in-Err.stop c.conclude_stop.result g.S.Sink.tells (g.S.Sink.taken c.args.out.now) (g.S.Sink.taken c.conclude_stop.new.out)
-    (after_some recovery answers (opened_some (opened_with c.args.profile c.args.secret.now main) (λ n. pages_answers (opened_pages keys main n)) (λ n. pages_some (opened_pages keys main n))))
+    (after_some recovery answers (opened_some (opened_with c.args.profile c.args.secret.now main) (λ n. job_due c.args.job (opened_pages keys main n)) (λ n. job_some c.args.job (opened_pages keys main n))))
     (refused_due recovery answers c.in-Err.stop (c.in-Err.ensures.stop told))
     c.conclude_stop.ensures.status c.conclude_stop.ensures.text
     (λ is. let failed = c.conclude_stop.ensures.disk is in (failed.0, ap g.S.Sink.taken failed.1))

@@ -1,0 +1,54 @@
+use Rattle.std.proofs.Common.{◌≡◌, ⊎_elim, inl, inr, true, refl, ap, ◌∙◌}
+use Rattle.btree_model.specs.Parts.{is_database}
+use Rattle.export_rows.specs.Causes.{is_defect}
+use Rattle.pager.specs.File.{main_of}
+use Rattle.pager.specs.Pages.{opened_pages}
+use Rattle.sqlcipher_tool.proofs.Exported.{causes_of, done_one, failed_one, line_one, stopped_one}
+use Rattle.sqlcipher_tool.proofs.SomeDue.{content_some}
+use Rattle.sqlcipher_tool.proofs.Verified.{memory_one}
+use Rattle.sqlcipher_tool.proofs.export.export_pages.Goals as goal
+
+pub returns-then-pages-eq0-clause-answer : goal.returns-then-pages-eq0-clause-answer
+returns-then-pages-eq0-clause-answer g c = λ told.
+    let start = c.args.pager.now in
+    let pages = opened_pages start.codec (main_of (g.D.Disk.reads start.disk.now)) start.count in
+    memory_one _ g.S.Sink.tells (g.S.Sink.taken c.args.out.now) (g.S.Sink.taken c.args.out.now) (content_some pages) refl
+
+pub returns-in-Ok-clause-answer : goal.returns-in-Ok-clause-answer
+returns-in-Ok-clause-answer g c = λ told.
+    let start = c.args.pager.now in
+    let pages = opened_pages start.codec (main_of (g.D.Disk.reads start.disk.now)) start.count in
+    done_one pages g.S.Sink.tells (g.S.Sink.taken c.args.out.now) (g.S.Sink.taken c.export.new.out) (c.in-Ok.ensures.sound told) (λ printed. c.in-Ok.ensures.text told printed)
+
+pub returns-in-Err-Walk-clause-answer : goal.returns-in-Err-Walk-clause-answer
+returns-in-Err-Walk-clause-answer g c = λ told.
+    let start = c.args.pager.now in
+    let pages = opened_pages start.codec (main_of (g.D.Disk.reads start.disk.now)) start.count in
+    let before = g.S.Sink.taken c.args.out.now in
+    let mid = g.S.Sink.taken c.export.new.out in
+    stopped_one g.D.Disk.tells pages c.in-Err-Walk.error c.walk_stop.result c.conclude_stop.result g.S.Sink.tells before mid (g.S.Sink.taken c.conclude_stop.new.out) told
+    c.walk_stop.ensures
+    (causes_of g.D.Disk.tells pages c.in-Err-Walk.field-0 c.in-Err-Walk.error c.in-Err-Walk.field-0-is told c.in-Err-Walk.ensures.causes)
+    (λ is. ap g.S.Sink.taken (c.in-Err-Walk.ensures.defect (ap is_defect c.in-Err-Walk.field-0-is ∙ is)))
+    (⊎_elim (λ same. inl (ap g.S.Sink.taken same)) (λ (sound : is_database pages ≡ true). inr sound) (c.in-Err-Walk.ensures.checked told))
+    (λ printed. c.in-Err-Walk.ensures.part told printed)
+    c.conclude_stop.ensures.status c.conclude_stop.ensures.text
+    (λ is. let failed = c.conclude_stop.ensures.disk is in (failed.0, ap g.S.Sink.taken failed.1))
+    (λ is. let starved = c.conclude_stop.ensures.memory is in (starved.0, ap g.S.Sink.taken starved.1))
+
+pub returns-in-Err-Walk-clause-line : goal.returns-in-Err-Walk-clause-line
+returns-in-Err-Walk-clause-line g c = λ printed.
+    line_one c.in-Err-Walk.error c.walk_stop.result c.conclude_stop.result (g.S.Sink.taken c.args.out.now) (g.S.Sink.taken c.export.new.out) (g.S.Sink.taken c.conclude_stop.new.out)
+    c.walk_stop.ensures
+    (λ is. ap g.S.Sink.taken (c.in-Err-Walk.ensures.defect (ap is_defect c.in-Err-Walk.field-0-is ∙ is)))
+    c.conclude_stop.ensures.status
+    (λ is. (c.conclude_stop.ensures.disk is).0) (λ is. (c.conclude_stop.ensures.memory is).0)
+    (c.conclude_stop.ensures.line printed)
+
+pub returns-in-Err-OutputFault-clause-answer : goal.returns-in-Err-OutputFault-clause-answer
+returns-in-Err-OutputFault-clause-answer g c = λ told.
+    let start = c.args.pager.now in
+    let pages = opened_pages start.codec (main_of (g.D.Disk.reads start.disk.now)) start.count in
+    failed_one pages _ g.S.Sink.tells (g.S.Sink.taken c.args.out.now) (g.S.Sink.taken c.export.new.out) tt
+    (λ printed. c.in-Err-OutputFault.ensures.part told printed)
+    (⊎_elim (λ same. inl (ap g.S.Sink.taken same)) (λ (sound : is_database pages ≡ true). inr sound) (c.in-Err-OutputFault.ensures.checked told))
