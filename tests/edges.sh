@@ -194,6 +194,21 @@ row 4 '' 'changing.db: read: the file was cut while it was read' "waiting 'trunc
 row 2 '' '' "waiting 'rm changing.db'"
 row 0 'page 8001: tag refused' '' 'tail -n 1 rest'
 
+# Long work shows how far it is where standard error is a terminal, and only there. A file of 600 MiB takes more than a second.
+if command -v script > /dev/null; then
+    cp file.db long.db && truncate -s 629145600 long.db
+    shown() { # shown WORDS: whether they stood on the terminal, and the line was taken away at the end
+        script -qec '"$tool" long.db tags 4 < key > lines.txt' terminal > /dev/null
+        grep -qaF -- "$1" terminal && [ "$(tr -d '\r\n' < terminal | grep -aoF $'\e[K' | wc -l)" -ge 2 ]
+    }
+    export tool
+    row 0 '' '' "shown 'MiB read, 0 MiB written; the file has 600 MiB'"
+    row 0 '' '' '"$tool" long.db tags 4 < key > lines.txt; [ $? -eq 2 ]'
+    rm -f long.db lines.txt terminal
+else
+    echo "edges: rows on a terminal are left out, since script is missing"
+fi
+
 # Why the key is refused. No byte of the key is printed.
 digits=${k0:2:64}
 refused='key refused'

@@ -5,6 +5,7 @@ ghost use Rattle.edge_model.specs.Silent.{nothing_numbered};
 
 use crate::failure::{Failure, called, settle};
 use crate::paths::Paths;
+use crate::progress::Progress;
 use crate::role_file::RoleFile;
 use edge_model::{Disk, Failed, Role};
 use std::fs::{File, Metadata};
@@ -13,6 +14,7 @@ use std::fs::{File, Metadata};
 #[derive(Drop)]
 pub struct FolderDisk<'a> {
     rt: &'a HostRuntime,
+    progress: &'a Progress<'a>,
     folder: &'a str,
     main: RoleFile<'a>,
     journal: RoleFile<'a>,
@@ -25,7 +27,11 @@ pub struct FolderDisk<'a> {
 
 impl<'a> FolderDisk<'a> {
     /// The files with these paths. It touches none of them.
-    pub fn new(rt: &'a HostRuntime, paths: &'a Paths) -> FolderDisk<'a> {
+    pub fn new(
+        rt: &'a HostRuntime,
+        paths: &'a Paths,
+        progress: &'a Progress<'a>,
+    ) -> FolderDisk<'a> {
         let main = paths.main.as_str();
         let barred = match paths.unresolved {
             Some(error) => Some(Failure {
@@ -37,6 +43,7 @@ impl<'a> FolderDisk<'a> {
         };
         FolderDisk {
             rt,
+            progress,
             folder: paths.folder.as_str(),
             main: RoleFile::new(main, barred),
             journal: RoleFile::new(paths.journal.as_str(), barred),
@@ -118,6 +125,9 @@ impl<'a> Disk for FolderDisk<'a> {
             Role::Journal => self.journal.read_at(self.rt, at, buf),
             Role::Fresh => self.fresh.read_at(self.rt, at, buf),
         };
+        if let Ok(count) = outcome {
+            self.progress.add_read(count, self.main.known());
+        }
         settle(&mut self.faults, &mut self.last, outcome)
     }
 
@@ -127,6 +137,7 @@ impl<'a> Disk for FolderDisk<'a> {
             Role::Journal => self.journal.write_at(self.rt, at, bytes),
             Role::Fresh => self.fresh.write_at(self.rt, at, bytes),
         };
+        self.progress.add_written(bytes.len(), self.main.known());
         settle(&mut self.faults, &mut self.last, outcome)
     }
 

@@ -7,6 +7,7 @@ mod folder_disk;
 mod help;
 mod line_form;
 mod paths;
+mod progress;
 mod role_file;
 mod streams;
 #[cfg(test)]
@@ -15,6 +16,7 @@ mod tests;
 use failure::Failure;
 use folder_disk::FolderDisk;
 use paths::Paths;
+use progress::Progress;
 use sqlcipher_tool::{Status, run};
 use std::process::ExitCode;
 use std::{env, io};
@@ -79,12 +81,14 @@ fn serve(rt: &HostRuntime, file: &str, words: &[&str]) -> u8 {
     let Ok(paths) = Paths::new(rt, file) else {
         return out_of_memory(rt);
     };
-    let mut disk = FolderDisk::new(rt, &paths);
+    let progress = Progress::new(rt);
+    let mut disk = FolderDisk::new(rt, &paths, &progress);
     let mut input = InputSource::new(rt);
-    let mut out = OutputSink::new(rt);
+    let mut out = OutputSink::new(rt, &progress);
     let mut entropy = DeviceEntropy::new(rt);
     let alloc = rt.alloc();
     let status = run(alloc, words, &mut input, &mut out, &mut entropy, &mut disk);
+    progress.clear();
     advice::explain(rt, status, file, &input, &out, &entropy, &mut disk);
     status.code()
 }

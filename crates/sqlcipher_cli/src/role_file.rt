@@ -38,6 +38,13 @@ impl<'a> RoleFile<'a> {
         self.known.is_none()
     }
 
+    /// The length that was last answered or made, in bytes; none where there was no file.
+    pub fn known(&self) -> Option<u64>
+        ensures { result ≡ self.now.known }
+    {
+        self.known
+    }
+
     /// The length in bytes, none where nothing has the path. What is there and is no regular file is an error.
     pub fn length(&mut self, rt: &HostRuntime) -> Result<Option<u64>, Failure<'a>>
         ensures known { IfOk result (λ len. self.new.known ≡ len) }

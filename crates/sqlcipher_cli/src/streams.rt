@@ -4,6 +4,7 @@ ghost use Rattle.std.specs.Fd.{file_raw_fd};
 
 use crate::failure::{Failure, called, settle};
 use crate::line_form::LineForm;
+use crate::progress::Progress;
 use edge_model::{Entropy, Failed, Sink, Source};
 use std::fs::{File, OpenOptions};
 use std::io::{self, Read, Write};
@@ -65,6 +66,7 @@ fn read_some(rt: &HostRuntime, buf: &mut [u8]) -> io::Result<usize>
 #[derive(Drop)]
 pub struct OutputSink<'a> {
     rt: &'a HostRuntime,
+    progress: &'a Progress<'a>,
     /// How often the stream has failed.
     pub faults: u64,
     /// The last failure.
@@ -72,9 +74,10 @@ pub struct OutputSink<'a> {
 }
 
 impl<'a> OutputSink<'a> {
-    pub fn new(rt: &'a HostRuntime) -> OutputSink<'a> {
+    pub fn new(rt: &'a HostRuntime, progress: &'a Progress<'a>) -> OutputSink<'a> {
         OutputSink {
             rt,
+            progress,
             faults: 0,
             last: None,
         }
@@ -89,6 +92,7 @@ impl<'a> Sink for OutputSink<'a> {
     ghost faults = { λ sink. sink.faults };
 
     fn put(&mut self, piece: &[u8]) -> Result<usize, Failed> {
+        self.progress.clear();
         let outcome = called("standard output", "write", write_some(self.rt, piece));
         settle(&mut self.faults, &mut self.last, outcome)
     }

@@ -4,6 +4,7 @@ ghost use Rattle.std.specs.Prelude.{◌≡◌, false};
 use crate::folder_disk::FolderDisk;
 use crate::line_form::LineForm;
 use crate::paths::Paths;
+use crate::progress::Progress;
 use crate::streams::DeviceEntropy;
 use Role::{Fresh, Journal, Main};
 use Step::{Create, Cut, Remove, Rename, Sync, SyncFolder, Write};
@@ -31,7 +32,8 @@ fn page(alloc: Global) -> Result<Vec<u8>, Fail> {
 // `tags 4` on the file at the path.
 fn answer(rt: &HostRuntime, alloc: Global, path: &str) -> Result<(Status, Vec<u8>), Fail> {
     let paths = Paths::new(rt, path)?;
-    let mut disk = FolderDisk::new(rt, &paths);
+    let progress = Progress::new(rt);
+    let mut disk = FolderDisk::new(rt, &paths, &progress);
     let mut input = MemSource::new(alloc, KEY, &[])?;
     let mut out = MemSink::new(alloc, &[])?;
     let mut entropy = DeviceEntropy::new(rt);
@@ -119,7 +121,8 @@ fn answers_as_in_memory(
 ) -> Result<(), Fail> {
     fs::write(rt, path, b"twelve bytes")?;
     let paths = Paths::new(rt, path)?;
-    let mut real = FolderDisk::new(rt, &paths);
+    let progress = Progress::new(rt);
+    let mut real = FolderDisk::new(rt, &paths, &progress);
     let inner = MemDisk::with_files(alloc, Some(b"twelve bytes"), None, None);
     let mut told = SilentDisk {
         inner: inner.map_err(|_| AllocError)?,
@@ -152,7 +155,8 @@ fn makes_files_as_main(
     link: &str,
 ) -> Result<(), Fail> {
     let paths = Paths::new(rt, link)?;
-    let mut disk = FolderDisk::new(rt, &paths);
+    let progress = Progress::new(rt);
+    let mut disk = FolderDisk::new(rt, &paths, &progress);
     assert_eq!(test; disk.create(Journal), Ok(()));
     assert_eq!(test; disk.create(Journal), Err(Failed));
     assert_eq!(test; mode_of(rt, paths.journal.as_str())?, 0o640);
@@ -169,7 +173,8 @@ fn keeps_the_link(test: &impl Abort, rt: &HostRuntime, path: &str, link: &str) -
     assert_eq!(test; fs::metadata(rt, path)?.len(), 0);
     fs::remove_file(rt, path)?;
     let paths = Paths::new(rt, link)?;
-    let mut disk = FolderDisk::new(rt, &paths);
+    let progress = Progress::new(rt);
+    let mut disk = FolderDisk::new(rt, &paths, &progress);
     assert_eq!(test; disk.length(Main), Err(Failed));
     assert_eq!(test; disk.create(Main), Err(Failed));
     Ok(())
@@ -195,7 +200,8 @@ fn follows_links(
 fn refuses(test: &impl Abort, rt: &HostRuntime, path: &str) -> Result<(), Fail> {
     fs::write(rt, path, b"twelve bytes")?;
     let paths = Paths::new(rt, path)?;
-    let mut disk = FolderDisk::new(rt, &paths);
+    let progress = Progress::new(rt);
+    let mut disk = FolderDisk::new(rt, &paths, &progress);
     let mut buf = [0u8; 10];
     assert_eq!(test; disk.length(Main), Ok(Some(12)));
     fs::write(rt, path, b"twelve")?;
