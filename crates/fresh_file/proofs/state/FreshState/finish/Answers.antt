@@ -1,0 +1,23 @@
+use Rattle.std.proofs.Common.{◌≤◌, ◌+◌, arith}
+use Rattle.cipher_profile.specs.Profile.{usable}
+use Rattle.db_format.specs.Seen.{marked}
+use Rattle.fresh_file.specs.State.{pages_of}
+use Rattle.fresh_file.proofs.FreshLaws.{finished}
+use Rattle.fresh_file.proofs.state.FreshState.finish.Goals as goal
+
+pub returns-clause-file : goal.returns-clause-file
+returns-clause-file g c start was =
+    let side = g.T.Side in
+    let old = c.args.self.now in
+    let fresh = side.fresh c.args.side.now in
+    let mid = c.put_first.new.side in
+    let new = c.sync_side.new.side in
+    finished old.codec c.args.header.now old.first.items c.write_header.new.out (marked old.put) (pages_of old fresh).accepts (old.taken + 1) (usable old.codec.profile) start
+    side.tells side.draws_tell fresh (side.fresh mid) (side.fresh new) (side.drawn mid) (side.drawn new) (omega arith)
+    (c.in_ok-put_first.ensures.well start was)
+    (c.in_ok-put_first.ensures.here start was)
+    (c.in_ok-put_first.ensures.others start was)
+    c.write_header.ensures.bytes
+    c.requires.put
+    (c.sync_side.ensures.same was.told)
+    c.sync_side.ensures.drawn

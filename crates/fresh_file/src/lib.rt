@@ -1,0 +1,15 @@
+//! A new encrypted file, written page by page into Fresh: every page is sealed with random bytes of its own, page 1 last.
+//!
+//! A loader takes numbers and puts plain pages by a `FreshOut`; `FreshState::finish` writes page 1 with the header, and syncs.
+#![tactic(auto)]
+
+mod finishing;
+mod out;
+mod sealing;
+mod state;
+#[cfg(test)]
+mod tests;
+
+pub use out::FreshOut;
+pub use sealing::CommitFault;
+pub use state::{FreshState, StartError};
