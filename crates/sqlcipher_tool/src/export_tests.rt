@@ -3,13 +3,12 @@ use crate::tests::{KEY, check};
 use crate::verify_tests::{Change, changed};
 use crate::{Status, run};
 use edge_model::{MemDisk, MemEntropy, MemSink, MemSource};
+use std::alloc::Global;
+use std::process::Abort;
 use std::test::Fail;
 
 const EMPTY: &str =
     "database cookie 1 format 4 cache 0 encoding 1 user-version 0 application-id 0 sqlite 3045000\nend\n";
-
-// The root of the schema has page 2 as its only child.
-const INTERIOR: Change = (1, 100, &[5, 0, 0, 0, 0, 0, 0, 0, 0, 0, 0, 2]);
 
 // A table of two rows: its row of the schema on page 1, its own rows on page 2.
 const TABLE: [Change; 8] = [
@@ -30,67 +29,67 @@ const TABLE_TEXT: &str =
     row 2 'x' x'00'\n\
     end\n";
 
+// `export P` of the file with these changes, and with the lowest bit of the byte there turned.
+fn check_export(
+    rt: &impl Abort,
+    alloc: Global,
+    word: &str,
+    changes: &[Change],
+    turned: Option<usize>,
+    expected: (&str, u8),
+) -> Result<(), Fail> {
+    let mut main = changed(rt, alloc, word, 4, changes)?;
+    if let Some(at) = turned {
+        if let Some(byte) = main.get_mut(at) {
+            *byte ^= 1;
+        }
+    }
+    check(
+        rt,
+        alloc,
+        &["export", word],
+        (Some(main.as_slice()), false),
+        KEY,
+        expected,
+    )
+}
+
 #[test]
 fn answers_each_row_of_export(rt: HostRuntime) -> Result<(), Fail> {
     let alloc = rt.alloc();
+    let interior: Change = (1, 100, &[5, 0, 0, 0, 0, 0, 0, 0, 0, 0, 0, 2]);
     let bad: Change = (2, 0, &[7]);
     let unused: Change = (4, 0, &[7]);
-    let rows: [(&[Change], &str, u8); 4] = [
-        (&[], EMPTY, 0),
-        (&[unused], EMPTY, 0),
-        (&[INTERIOR, bad], "page 2: bad kind\n", 2),
-        (TABLE.as_slice(), TABLE_TEXT, 0),
-    ];
-    for (changes, text, code) in rows {
-        let main = changed(&rt, alloc, "4", 4, changes)?;
-        check(
-            &rt,
-            alloc,
-            &["export", "4"],
-            (Some(main.as_slice()), false),
-            KEY,
-            (text, code),
-        )?;
-    }
-    let main = changed(&rt, alloc, "3", 4, TABLE.as_slice())?;
-    check(
+    check_export(&rt, alloc, "4", &[], None, (EMPTY, 0))?;
+    check_export(&rt, alloc, "4", &[unused], None, (EMPTY, 0))?;
+    check_export(
         &rt,
         alloc,
-        &["export", "3"],
-        (Some(main.as_slice()), false),
-        KEY,
-        (TABLE_TEXT, 0),
+        "4",
+        &[interior, bad],
+        None,
+        ("page 2: bad kind\n", 2),
     )?;
-    // The lowest bit of the tag of page 4, which is not in use, and then that of page 2, which is.
-    let mut main = changed(&rt, alloc, "4", 4, TABLE.as_slice())?;
-    if let Some(byte) = main.get_mut(3 * 4096 + 4032) {
-        *byte ^= 1;
-    }
-    check(
-        &rt,
-        alloc,
-        &["export", "4"],
-        (Some(main.as_slice()), false),
-        KEY,
-        (TABLE_TEXT, 0),
-    )?;
-    if let Some(byte) = main.get_mut(4096 + 4032) {
-        *byte ^= 1;
-    }
-    check(
-        &rt,
-        alloc,
-        &["export", "4"],
-        (Some(main.as_slice()), false),
-        KEY,
-        ("page 2: tag refused\n", 2),
-    )
+    // The lowest bit of the tag of page 4, which is not in use.
+    check_export(&rt, alloc, "4", &[], Some(3 * 4096 + 4032), (EMPTY, 0))
+}
+
+#[test]
+fn exports_a_table(rt: HostRuntime) -> Result<(), Fail> {
+    let alloc = rt.alloc();
+    let table = TABLE;
+    check_export(&rt, alloc, "4", &table, None, (TABLE_TEXT, 0))?;
+    check_export(&rt, alloc, "3", &table, None, (TABLE_TEXT, 0))?;
+    // The tag of page 2, which is in use.
+    let refused = ("page 2: tag refused\n", 2);
+    check_export(&rt, alloc, "4", &table, Some(4096 + 4032), refused)
 }
 
 #[test]
 fn prints_nothing_where_a_call_fails_before_all_is_checked(rt: HostRuntime) -> Result<(), Fail> {
     let alloc = rt.alloc();
-    let main = changed(&rt, alloc, "4", 4, TABLE.as_slice())?;
+    let table = TABLE;
+    let main = changed(&rt, alloc, "4", 4, &table)?;
     let mut done = 0u32;
     for call in 1u64..40 {
         let mut disk = MemDisk::with_files(alloc, Some(main.as_slice()), None, None)?;
