@@ -75,6 +75,7 @@ sound=$folder/sound.db
 make "$sound" "$k0" 4 400
 [ "$(pages "$sound")" -ge 200 ] || { echo "real files: the file has only $(pages "$sound") pages"; exit 1; }
 compare "$sound" "$k0" tags 4
+compare "$sound" "$k0" verify 4
 compare "$sound" "${k0^^}" tags 4
 compare "$sound" "$k1" tags 4
 
@@ -85,6 +86,7 @@ for at in 5000 $((4096 * 9 + 4020)) $((4096 * 10 + 4032)) $((4096 * 57 + 4095)) 
     flip "$damaged" "$at"
 done
 compare "$damaged" "$k0" tags 4
+compare "$damaged" "$k0" verify 4
 
 # Every page but the first.
 all=$folder/all.db
@@ -93,6 +95,7 @@ for n in $(seq 1 $(($(pages "$sound") - 1))); do
     flip "$all" $((4096 * n + 77))
 done
 compare "$all" "$k0" tags 4
+compare "$all" "$k0" verify 4
 
 # Two pages in each other's place, bytes past the last page, and page 1 alone.
 swapped=$folder/swapped.db
@@ -100,6 +103,7 @@ cp "$sound" "$swapped"
 dd if="$sound" of="$swapped" bs=4096 skip=20 seek=30 count=1 conv=notrunc status=none
 dd if="$sound" of="$swapped" bs=4096 skip=30 seek=20 count=1 conv=notrunc status=none
 compare "$swapped" "$k0" tags 4
+compare "$swapped" "$k0" verify 4
 longer=$folder/longer.db
 cp "$sound" "$longer"
 head -c 4000 /dev/zero >> "$longer"
@@ -119,7 +123,7 @@ for profile in 1 2 3 4; do
     for key in "$k0" "it's a pässwörd"; do
         file=$folder/profile-$profile.db
         make "$file" "$key" "$profile" 40
-        for words in "tags $profile" "header $profile" probe; do
+        for words in "tags $profile" "header $profile" "verify $profile" probe; do
             # shellcheck disable=SC2086
             compare "$file" "$key" $words
         done
@@ -132,6 +136,7 @@ for len in 0 1 1023 1024 4095 4096 4097; do
     head -c "$len" "$sound" > "$folder/cut.db"
     compare "$folder/cut.db" "$k0" tags 4
     compare "$folder/cut.db" "$k0" header 4
+    compare "$folder/cut.db" "$k0" verify 4
     compare "$folder/cut.db" "$k0" probe
 done
 
@@ -204,10 +209,12 @@ product_files() {
             compare_recovered "$file" "$key" recover "$profile"
             compare_recovered "$file" "$key" tags "$profile"
             compare_recovered "$file" "$key" header "$profile"
+            compare_recovered "$file" "$key" verify "$profile"
             continue
         fi
         compare_with "$file" "$key" tags "$profile"
         compare_with "$file" "$key" header "$profile"
+        compare_with "$file" "$key" verify "$profile"
     done < "$table"
     # The program stopped at each of its writing calls, and run again.
     for name in v3-raw-hot-grow v4-raw-hot-grow v3-raw-cold-persist; do

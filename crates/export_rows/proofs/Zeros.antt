@@ -1,4 +1,4 @@
--- The content of a database rests on its pages with zeros for leaves of the freelist.
+-- The content of a database rests on its pages in use.
 use Rattle.std.proofs.Common.{◌≡◌, ℕ, Bool, true, false, if◌then◌else◌, List, [], ◌∷◌, ◌++◌, Option, Some, None, map, refl, ap, sym, subst, ◌∙◌}
 use Rattle.std.specs.Prelude.{ℤ, pos, negsuc, replicate}
 use Rattle.std.specs.List.{list_all}
@@ -12,7 +12,7 @@ use Rattle.btree_model.specs.Content.{SchemaItem, with_tree, content, entry_of, 
 use Rattle.btree_model.specs.Finding.{Finding, Row, place, fault, entries, is_sound, places}
 use Rattle.btree_model.specs.Freelist.{freelist_walk}
 use Rattle.btree_model.specs.Parts.{is_database, trees_from}
-use Rattle.btree_model.specs.Plain.{with_zeros}
+use Rattle.btree_model.specs.Plain.{is_leaf, with_zeros}
 use Rattle.btree_model.specs.Records.{record_faults, tree_part}
 use Rattle.btree_model.specs.Schema.{Root, at_page, no_column, no_tree, numbers_of, root_of, roots, roots_of_row, rowid_or_0, schema_faults}
 use Rattle.btree_model.specs.Tree.{max_path, root_family, tree_walk}
@@ -108,36 +108,38 @@ module _ (old new : Pages) where
 
 -- ---- the whole
 
-module _ (pages : Pages) (sound : is_database pages ≡ true) where
-  abbrev zeros : Pages
-  zeros = with_zeros pages
+-- the content is the same over pages that differ where the freelist has a place alone
+pub content_alike : (old new : Pages) → is_database old ≡ true → AreAlikeBut (free old) old new → content new ≡ content old
+content_alike old new sound alike =
+    let table : List Finding = tree_part old Table (free old) 1 in
+    let first_sound : is_sound table ≡ true = sound_left table (schema_faults old (entries table)) (schema_sound old sound) in
+    let first : new.page 1 ≡ old.page 1 = (alike.alike 1 (fresh old (free old) Table 1 first_sound)).bytes in
+    let rows = schema_rows old in
+    let same : AreSameTrees old new (roots rows) =
+    subst (λ (l : List Row). AreSameTrees old new (roots l)) (rows_are old sound)
+    (trees_of_all old new (also (places (schema old)) (free old)) (roots (entries (schema old)))
+    (still_alike old new (places (schema old)) (free old) alike) (all_sound old sound)) in
+    ap (λ bytes. record { kept = kept_fields bytes; rows = map (λ row. item_of new row (columns row.payload)) (schema_rows new) }) first
+    ∙ ap (λ (found : List Finding). record { kept = kept_fields (old.page 1); rows = map (λ row. item_of new row (columns row.payload)) (entries found) })
+    (walk_of old new Table 1 (free old) alike first_sound)
+    ∙ ap (λ (items : List SchemaItem). record { kept = kept_fields (old.page 1); rows = items }) (rows_same old new rows same)
 
-  alike : AreAlikeBut (free pages) pages zeros
-  alike =
-      let list = freelist_walk pages nothing in
-      record {
-        count = refl;
-        usable = refl;
-        alike = λ n no_place. record {
-          bytes = ap (λ b. if b then replicate pages.usable 0 else pages.page n)
-              (leaf_is pages n (both_sound pages sound).0 ∙ no_leaf list n (or_left (is_in (places list) n) false no_place));
-          accepted = refl;
-        };
-      }
+-- a page without a place in the freelist is none of its leaves
+pub no_free_leaf : (pages : Pages) → is_database pages ≡ true → (n : ℕ) → free pages n ≡ false → is_leaf pages n ≡ false
+no_free_leaf pages sound n no_place =
+    let list = freelist_walk pages nothing in
+    leaf_is pages n (both_sound pages sound).0 ∙ no_leaf list n (or_left (is_in (places list) n) false no_place)
 
-  first_sound : is_sound (tree_part pages Table (free pages) 1) ≡ true
-  first_sound = sound_left (tree_part pages Table (free pages) 1) (schema_faults pages (entries (tree_part pages Table (free pages) 1))) (schema_sound pages sound)
+zeros_alike : (pages : Pages) → is_database pages ≡ true → AreAlikeBut (free pages) pages (with_zeros pages)
+zeros_alike pages sound = record {
+  count = refl;
+  usable = refl;
+  alike = λ n no_place. record {
+    bytes = ap (λ b. if b then replicate pages.usable 0 else pages.page n) (no_free_leaf pages sound n no_place);
+    accepted = refl;
+  };
+}
 
-  -- the content is the same
-  pub zeros_content : content zeros ≡ content pages
-  zeros_content =
-      let first : zeros.page 1 ≡ pages.page 1 = (alike.alike 1 (fresh pages (free pages) Table 1 first_sound)).bytes in
-      let rows = schema_rows pages in
-      let same : AreSameTrees pages zeros (roots rows) =
-      subst (λ (l : List Row). AreSameTrees pages zeros (roots l)) (rows_are pages sound)
-      (trees_of_all pages zeros (also (places (schema pages)) (free pages)) (roots (entries (schema pages)))
-      (still_alike pages zeros (places (schema pages)) (free pages) alike) (all_sound pages sound)) in
-      ap (λ bytes. record { kept = kept_fields bytes; rows = map (λ row. item_of zeros row (columns row.payload)) (schema_rows zeros) }) first
-      ∙ ap (λ (found : List Finding). record { kept = kept_fields (pages.page 1); rows = map (λ row. item_of zeros row (columns row.payload)) (entries found) })
-      (walk_of pages zeros Table 1 (free pages) alike first_sound)
-      ∙ ap (λ (items : List SchemaItem). record { kept = kept_fields (pages.page 1); rows = items }) (rows_same pages zeros rows same)
+-- the content is the same where leaves of the freelist stand as zeros
+pub zeros_content : (pages : Pages) → is_database pages ≡ true → content (with_zeros pages) ≡ content pages
+zeros_content pages sound = content_alike pages (with_zeros pages) sound (zeros_alike pages sound)

@@ -9,3 +9,5 @@ pub mod SomeDue
 pub mod Exported
 pub mod Verified
 pub mod VerifiedFile
+pub mod SamePages
+pub mod DoneAnswers

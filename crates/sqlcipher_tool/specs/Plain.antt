@@ -1,10 +1,11 @@
 -- The plain pages of a file, and what it holds.
-use Rattle.std.specs.Prelude.{◌≡◌, ℕ, ◌&&◌, not, true, List, [], map, Some}
+use Rattle.std.specs.Prelude.{◌≡◌, ℕ, ◌&&◌, not, true, false, List, [], map, Some}
 use Rattle.std.specs.List.{range_with_len}
 use Rattle.btree_model.specs.Content.{Content, content}
 use Rattle.btree_model.specs.Parts.{is_database}
 use Rattle.btree_model.specs.Plain.{is_leaf, with_zeros}
 use Rattle.db_format.specs.Pages.{Pages, Test}
+use Rattle.cipher_profile.specs.Profile.{usable}
 use Rattle.page_codec.specs.Page.{FileKeys, fits}
 use Rattle.pager.specs.Pages.{opened_pages}
 use Rattle.pager.specs.Database.{count_of}
@@ -43,3 +44,19 @@ pub record IsClean (keys : FileKeys) (file : List ℕ) : Type 0 where
   pub held : Content
   pub opens : Opens keys file held
   pub accepted : refused_in_use (opened_pages keys file opens.count) ≡ []
+
+-- The same pages in use. Leaves of the freelist of the old ones may have any bytes, and be accepted or not.
+pub record IsSameInUse (old new : Pages) : Type 0 where
+  pub count : new.count ≡ old.count
+  pub usable : new.usable ≡ old.usable
+  pub page : (n : ℕ) → is_leaf old n ≡ false → new.page n ≡ old.page n
+  pub accepted : (n : ℕ) → is_leaf old n ≡ false → new.accepts n ≡ old.accepts n
+
+-- So many pages in both files, of one length, which are the same as plain pages; and of those in use the same are accepted.
+pub record HaveSamePages (count : ℕ) (old_keys : FileKeys) (old : List ℕ) (new_keys : FileKeys) (new : List ℕ) : Type 0 where
+  pub old_count : count_of old_keys old ≡ Some count
+  pub new_count : count_of new_keys new ≡ Some count
+  pub usable : usable new_keys.profile ≡ usable old_keys.profile
+  pub plain : plain_pages new_keys new count ≡ plain_pages old_keys old count
+  pub accepted : (n : ℕ) → is_leaf (opened_pages old_keys old count) n ≡ false
+      → (opened_pages new_keys new count).accepts n ≡ (opened_pages old_keys old count).accepts n

@@ -9,6 +9,7 @@ mod export_tests;
 mod header;
 mod in_use;
 mod job;
+mod laws;
 mod opening;
 mod probe;
 mod recovery;
@@ -24,5 +25,6 @@ mod top;
 mod verify_tests;
 mod walk;
 
+pub use laws::{export_done_law, opens_law, unread_leaves_law, verify_done_law};
 pub use status::{Refusal, Status};
 pub use top::run;

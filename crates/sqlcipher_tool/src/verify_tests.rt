@@ -25,7 +25,7 @@ pub fn changed(
         let stored = &mut stored[..profile.page_size as usize];
         put_leaf(rt, &profile, n, plain);
         if n == 1 {
-            put_byte(plain, 31, pages as u8);
+            put_byte(plain, 31, (pages % 256) as u8);
         }
         for (page, at, bytes) in changes {
             if *page == n {

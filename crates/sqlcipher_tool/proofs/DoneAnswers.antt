@@ -1,0 +1,89 @@
+-- What `verify` and `export` answer of a file in which nothing stands in the way.
+use Rattle.std.proofs.Common.{◌≡◌, ℕ, Bool, true, false, List, [], ◌∷◌, Option, Some, None, Result, Ok, Err, if◌then◌else◌, length, sym, ap, subst, refl, ◌∙◌}
+use Rattle.std.specs.Prelude.{nat_lt}
+use Rattle.cipher_profile.specs.declared.keys.Secret.{Secret}
+use Rattle.cipher_profile.specs.declared.profile.Profile.{Profile}
+use Rattle.db_format.specs.Count.{count_of_pages}
+use Rattle.db_format.specs.Pages.{Pages, nothing}
+use Rattle.db_format.specs.declared.count.CountRefusal.{CountRefusal}
+use Rattle.db_format.specs.declared.header.Header.{Header}
+use Rattle.db_format.specs.declared.header.HeaderRefusal.{HeaderRefusal}
+use Rattle.btree_model.specs.Content.{Content, content}
+use Rattle.btree_model.specs.Finding.{is_sound}
+use Rattle.btree_model.specs.Freelist.{freelist_walk}
+use Rattle.btree_model.specs.Parts.{counts, is_database}
+use Rattle.btree_model.specs.Plain.{with_zeros}
+use Rattle.btree_model.proofs.UnmarkedLemmas.{and_left}
+use Rattle.export_rows.specs.Report.{export_report}
+use Rattle.page_codec.specs.Page.{FileKeys, keys_of}
+use Rattle.pager.specs.Database.{count_of, counted, ok_count}
+use Rattle.pager.specs.Opening.{Opened, file_header, file_opened, first_broken, key_rules, length_rules, unless, with_count, with_header}
+use Rattle.pager.specs.Pages.{opened_pages}
+use Rattle.pager.specs.declared.opening.OpenError.{OpenError}
+use Rattle.sqlcipher_tool.specs.Answer.{done}
+use Rattle.sqlcipher_tool.specs.Opening.{opened_with}
+use Rattle.sqlcipher_tool.specs.Plain.{IsClean, Opens, refused_in_use}
+use Rattle.sqlcipher_tool.specs.Text.{verify_report}
+use Rattle.sqlcipher_tool.specs.Job.{job_answers}
+use Rattle.sqlcipher_tool.specs.Verify.{opened_answers, pages_answers, rest_answers, tags_or}
+use Rattle.sqlcipher_tool.specs.Export.{content_answers}
+use Rattle.sqlcipher_tool.specs.declared.job.Job.TheVariants.{Verify, Export}
+use Rattle.sqlcipher_tool.proofs.Verified.{some_is, tags_next, whole_due}
+
+-- ---- the count of a file that opens
+
+unless_ok : (o : Option OpenError) (r : Result Opened OpenError) (x : Opened) → unless o r ≡ Ok x → r ≡ Ok x
+unless_ok None r x is = is
+unless_ok (Some error) r x is = cc
+
+long_enough : (empty short : Bool) (e e' : OpenError) (r : Result Opened OpenError) (x : Opened)
+    → unless (first_broken ((empty, e) ∷ (short, e') ∷ [])) r ≡ Ok x → short ≡ false
+long_enough true short e e' r x is = cc
+long_enough false true e e' r x is = cc
+long_enough false false e e' r x is = refl
+
+count_kept : (header : Header) (c : Result ℕ CountRefusal) (x : Opened) → with_count header c ≡ Ok x → ok_count c ≡ Some x.count
+count_kept header (Ok n) x is = cc
+count_kept header (Err refusal) x is = cc
+
+header_kept : (len : ℕ) (r : Result Header HeaderRefusal) (x : Opened) → with_header len r ≡ Ok x → counted len r ≡ Some x.count
+header_kept len (Ok header) x is = count_kept header (count_of_pages header len) x is
+header_kept len (Err refusal) x is = cc
+
+opened_count : (keys : FileKeys) (file : List ℕ) (x : Opened) → file_opened keys file ≡ Ok x → count_of keys file ≡ Some x.count
+opened_count keys file x is =
+    let inner = unless_ok (first_broken (length_rules keys.profile.page_size file)) _ x is in
+    let last = unless_ok (first_broken (key_rules keys file)) _ x inner in
+    ap (λ b. if b then None else counted (length file) (file_header keys file)) (long_enough _ (nat_lt (length file) keys.profile.page_size) _ _ _ x is)
+    ∙ header_kept (length file) (file_header keys file) x last
+
+-- ---- the answer
+
+pages_clean : (pages : Pages) → is_database pages ≡ true → refused_in_use pages ≡ [] → pages_answers pages ≡ done (verify_report (counts pages)) ∷ []
+pages_clean pages whole accepted =
+    tags_next pages (and_left (is_sound (freelist_walk pages nothing)) _ whole)
+    ∙ ap (λ l. tags_or l (rest_answers pages)) accepted
+    ∙ whole_due pages (done (verify_report (counts pages))) whole
+
+-- the counts alone are due to `verify`
+pub verify_done : (profile : Profile) (secret : Secret) (file : List ℕ) (x : Opened) → opened_with profile secret file ≡ Ok x
+    → IsClean (keys_of profile secret file) file
+    → job_answers Verify profile secret file ≡ done (verify_report (counts (opened_pages (keys_of profile secret file) file x.count))) ∷ []
+verify_done profile secret file x is clean =
+    let keys = keys_of profile secret file in
+    let same : clean.opens.count ≡ x.count = some_is clean.opens.count x.count (sym clean.opens.is_count ∙ opened_count keys file x is) in
+    ap (λ o. opened_answers o (λ count. pages_answers (opened_pages keys file count))) is
+    ∙ pages_clean (opened_pages keys file x.count)
+    (subst (λ (n : ℕ). is_database (opened_pages keys file n) ≡ true) same clean.opens.sound)
+    (subst (λ (n : ℕ). refused_in_use (opened_pages keys file n) ≡ []) same clean.accepted)
+
+-- the text alone is due to `export`
+pub export_done : (profile : Profile) (secret : Secret) (file : List ℕ) (x : Opened) (held : Content) → opened_with profile secret file ≡ Ok x
+    → Opens (keys_of profile secret file) file held → job_answers Export profile secret file ≡ done (export_report held) ∷ []
+export_done profile secret file x held is opens =
+    let keys = keys_of profile secret file in
+    let same : opens.count ≡ x.count = some_is opens.count x.count (sym opens.is_count ∙ opened_count keys file x is) in
+    let pages = opened_pages keys file x.count in
+    ap (λ o. opened_answers o (λ count. content_answers (opened_pages keys file count))) is
+    ∙ whole_due pages (done (export_report (content (with_zeros pages)))) (subst (λ (n : ℕ). is_database (opened_pages keys file n) ≡ true) same opens.sound)
+    ∙ ap (λ (c : Content). done (export_report c) ∷ []) (subst (λ (n : ℕ). content (with_zeros (opened_pages keys file n)) ≡ held) same opens.is)

@@ -1,0 +1,45 @@
+// What holds of the definitions themselves.
+ghost use Rattle.std.specs.Prelude.{◌≡◌, ◌∷◌, [], ℕ, true, List, Ok};
+ghost use Rattle.btree_model.specs.Content.{Content};
+ghost use Rattle.btree_model.specs.Finding.{is_sound};
+ghost use Rattle.btree_model.specs.Freelist.{freelist_walk};
+ghost use Rattle.btree_model.specs.Parts.{counts, parts};
+ghost use Rattle.cipher_profile.specs.declared.keys.Secret.{Secret};
+ghost use Rattle.cipher_profile.specs.declared.profile.Profile.{Profile};
+ghost use Rattle.export_rows.specs.Report.{export_report};
+ghost use Rattle.db_format.specs.Pages.{Pages, nothing};
+ghost use Rattle.page_codec.specs.Page.{FileKeys, fits, keys_of};
+ghost use Rattle.pager.specs.File.{page_stored};
+ghost use Rattle.pager.specs.Opening.{Opened};
+ghost use Rattle.pager.specs.Pages.{opened_pages};
+ghost use Rattle.sqlcipher_tool.specs.Answer.{done};
+ghost use Rattle.sqlcipher_tool.specs.Job.{job_answers};
+ghost use Rattle.sqlcipher_tool.specs.Opening.{opened_with};
+ghost use Rattle.sqlcipher_tool.specs.Plain.{HaveSamePages, IsClean, IsSameInUse, Opens};
+ghost use Rattle.sqlcipher_tool.specs.Text.{verify_report};
+ghost use Rattle.sqlcipher_tool.specs.declared.job.Job.TheVariants.{Export, Verify};
+
+/// A walk over a whole database reads no leaf of its freelist, whatever defects it meets behind the freelist.
+pub fn unread_leaves_law()
+    ensures { (old new : Pages) → is_sound (freelist_walk old nothing) ≡ true → IsSameInUse old new → parts new ≡ parts old }
+{}
+
+/// That a file opens, and what it holds then, rests on its plain pages and on which of those in use are accepted, alone:
+/// another file under other keys with the same of these opens to the same content, where its key fits.
+pub fn opens_law()
+    ensures { (count : ℕ) (old_keys new_keys : FileKeys) (old new : List ℕ) (held : Content) → HaveSamePages count old_keys old new_keys new
+        → fits new_keys (page_stored new_keys new 1) ≡ true → Opens old_keys old held → Opens new_keys new held }
+{}
+
+/// Of a file that opens and is clean nothing but the counts is due to `verify`.
+pub fn verify_done_law()
+    ensures { (profile : Profile) (secret : Secret) (file : List ℕ) (opened : Opened) → opened_with profile secret file ≡ Ok opened
+        → IsClean (keys_of profile secret file) file
+        → job_answers Verify profile secret file ≡ done (verify_report (counts (opened_pages (keys_of profile secret file) file opened.count))) ∷ [] }
+{}
+
+/// Of a file that opens nothing but the text of its content is due to `export`.
+pub fn export_done_law()
+    ensures { (profile : Profile) (secret : Secret) (file : List ℕ) (opened : Opened) (held : Content) → opened_with profile secret file ≡ Ok opened
+        → Opens (keys_of profile secret file) file held → job_answers Export profile secret file ≡ done (export_report held) ∷ [] }
+{}

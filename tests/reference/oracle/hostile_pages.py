@@ -1,0 +1,346 @@
+#!/usr/bin/env python3
+"""Files whose pages are hostile and sealed under the right key, and what `verify` may answer.
+
+    hostile_pages.py make FOLDER COUNT SEED   writes COUNT files, half of profile 3 and half of 4, and FOLDER/answers
+    hostile_pages.py check FOLDER             reads lines `NAME STATUS LINE` of the program from standard input, compares them
+
+Trees point anywhere, chains meet, freelists loop, some tags are turned. For each file the lines that `verify` may print are
+those of the earliest part that has a defect: each defect of that part is one, whatever comes before it there. The first of
+them is the reference's own answer. A line of `answers` is the name and these, with a tab between them; the lines of several
+tags stand as one, with ` | ` between them.
+"""
+import collections
+import os
+import random
+import sys
+
+from sqlcipher_formats import (
+    Codec, Database, Refused, be, draw_source, local_len, profile_of, read_record, read_tree_page, verify_lines)
+from sqlcipher_oracle import blank_plain
+
+KEY = b"x'000102030405060708090a0b0c0d0e0f101112131415161718191a1b1c1d1e1f'"
+SALT = bytes(range(16))
+KINDS = (13, 13, 13, 5, 10, 10, 2, "trunk", "link", "link", "zeros", "any")
+
+
+# ------------------------------------------------------------------ making pages
+
+def varint(value):
+    value &= (1 << 64) - 1
+    if value >> 56:
+        head, low = value >> 8, value & 0xFF
+        return bytes((head >> (7 * i) & 0x7F) | 0x80 for i in range(7, -1, -1)) + bytes([low])
+    pieces = [value & 0x7F]
+    while value >> 7:
+        value >>= 7
+        pieces.append(value & 0x7F | 0x80)
+    return bytes(reversed(pieces))
+
+
+def record(values):
+    types, body = [], b""
+    for value in values:
+        if value is None:
+            types.append(0)
+        elif isinstance(value, int):
+            types.append(4)
+            body += (value & 0xFFFFFFFF).to_bytes(4, "big")
+        else:
+            types.append(12 + 2 * len(value) + 1)
+            body += value
+    header = b"".join(map(varint, types))
+    return varint(len(header) + 1) + header + body
+
+
+class Maker:
+    def __init__(self, rng, profile):
+        self.rng, self.profile, self.usable = rng, profile, profile.usable
+        self.count = rng.choice((4, 6, 10, 24))
+        self.rowid = 0
+        # what each page is, so that most numbers lead to a page of the right kind
+        self.kinds = [None] + [rng.choice((13, 5)) if n == 1 else rng.choice(KINDS) for n in range(1, self.count + 1)]
+
+    def number(self, *kinds):
+        """A page number: mostly that of a page of these kinds, at times any of the file, or none."""
+        chance = self.rng.random()
+        if chance < 0.03:
+            return self.rng.choice((0, 1, self.count + 1, 2 ** 31, 2 ** 32 - 1))
+        fitting = [n for n in range(2, self.count + 1) if self.kinds[n] in kinds]
+        if fitting and chance < 0.92:
+            return self.rng.choice(fitting)
+        return self.rng.randint(2, self.count)
+
+    def payload(self, schema):
+        rng = self.rng
+        if rng.random() < 0.02:
+            return rng.randbytes(rng.randint(0, 40))
+        if schema:
+            root = rng.choice((0, None) + 4 * (self.number(13, 5, 10, 2),)) if rng.random() < 0.97 else b"x"
+            return record([b"table", b"t", b"t", root, b"CREATE"][:5 if rng.random() < 0.95 else 4])
+        return record([rng.randbytes(rng.choice((0, 5, 30, 300, 1500)))])
+
+    def cell(self, kind, schema):
+        rng = self.rng
+        self.rowid += rng.choice((1, 1, 1, 2, 7, 0, -3)) if rng.random() < 0.2 else 1
+        key = varint(self.rowid)
+        if kind == 5:
+            return self.number(13, 5).to_bytes(4, "big") + key
+        payload = self.payload(schema)
+        table = kind == 13
+        head = (b"" if kind in (10, 13) else self.number(10, 2).to_bytes(4, "big")) + varint(len(payload)) + (key if table else b"")
+        size = local_len(table, self.usable, len(payload))
+        more = self.number("link").to_bytes(4, "big") if size < len(payload) else b""
+        return head + payload[:size] + more
+
+    def tree_page(self, n, kind):
+        rng, base = self.rng, 100 if n == 1 else 0
+        plain = bytearray(self.usable)
+        interior = kind in (2, 5)
+        array = base + (12 if interior else 8)
+        cells, end = [], self.usable
+        for _ in range(rng.choice((0, 1, 1, 2, 3, 5))):
+            cell = self.cell(kind, n == 1)
+            if end - len(cell) < array + 2 * (len(cells) + 1):
+                break
+            end -= len(cell)
+            plain[end:end + len(cell)] = cell
+            cells.append(end)
+        plain[base] = kind if rng.random() > 0.03 else rng.randrange(256)
+        plain[base + 3:base + 5] = (len(cells) if rng.random() > 0.02 else rng.randrange(600)).to_bytes(2, "big")
+        if interior:
+            plain[base + 8:base + 12] = self.number(*((13, 5) if kind == 5 else (10, 2))).to_bytes(4, "big")
+        for i, at in enumerate(cells):
+            at = at if rng.random() > 0.02 else rng.randrange(self.usable)
+            plain[array + 2 * i:array + 2 * i + 2] = at.to_bytes(2, "big")
+        return plain
+
+    def trunk(self):
+        rng, plain = self.rng, bytearray(self.usable)
+        leaves = [self.number("zeros", "any") for _ in range(rng.choice((0, 0, 1, 1, 2)))]
+        many = len(leaves) if rng.random() > 0.05 else rng.choice((self.usable // 4 - 2, self.usable // 4 - 1, 2 ** 32 - 1))
+        plain[0:4] = (rng.choice((0, 0, 0, self.number("trunk")))).to_bytes(4, "big")
+        plain[4:8] = many.to_bytes(4, "big")
+        for i, leaf in enumerate(leaves):
+            plain[8 + 4 * i:12 + 4 * i] = leaf.to_bytes(4, "big")
+        return plain
+
+    def link(self):
+        return bytearray(self.number("link").to_bytes(4, "big") if self.rng.random() < 0.3 else bytes(4)) + bytearray(
+            self.rng.randbytes(self.usable - 4))
+
+    def file(self, codec, draw):
+        rng, pages = self.rng, []
+        for n in range(1, self.count + 1):
+            kind = self.kinds[n]
+            if kind == "trunk":
+                plain = self.trunk()
+            elif kind == "link":
+                plain = self.link()
+            elif kind == "zeros":
+                plain = bytearray(self.usable)
+            elif kind == "any":
+                plain = bytearray(rng.randbytes(self.usable))
+            else:
+                plain = self.tree_page(n, kind)
+            pages.append(plain)
+        first = blank_plain(self.profile.page_size, self.profile.reserve)
+        pages[0][:100] = first[:100]
+        pages[0][28:32] = self.count.to_bytes(4, "big")
+        if rng.random() < 0.4 and "trunk" in self.kinds:
+            trunk = self.number("trunk")
+            pages[0][32:36] = trunk.to_bytes(4, "big")
+            listed = be(pages[trunk - 1], 4) if 0 < trunk <= self.count else 0
+            pages[0][36:40] = (1 + min(listed, 9) if rng.random() < 0.8 else rng.choice((0, 2, 3))).to_bytes(4, "big")
+        stored = [codec.seal_page(n + 1, bytes(plain), draw(self.profile.reserve)) for n, plain in enumerate(pages)]
+        if rng.random() < 0.1:
+            n = rng.randrange(1, self.count)
+            at = self.profile.usable + 16
+            stored[n] = stored[n][:at] + bytes([stored[n][at] ^ 1]) + stored[n][at + 1:]
+        return b"".join(stored)
+
+
+# ------------------------------------------------------------------ all defects of a part
+
+class Parts(Database):
+    """The defects of each part, all of them: a walk goes on behind a defect wherever the page can be read."""
+
+    def tag(self, n):
+        return self.codec.tag_holds(n, self.stored(n))
+
+    def plain(self, n):
+        return self.codec.open_page(n, self.stored(n))
+
+    def free_part(self):
+        try:
+            self.freelist()
+            return []
+        except Refused as refusal:
+            return [str(refusal)]       # a walk of the freelist stops where it meets a trunk that can't be read
+        
+    def chain(self, cell, page, found):
+        """The payload, or none where its chain has a defect."""
+        pieces, missing, holder, following = [cell.local], cell.length - len(cell.local), page, cell.first
+        while missing > 0:
+            if following == 0 and holder != page:
+                found.append(f"page {holder}: chain short")
+                return None
+            if not self.in_range(following):
+                found.append(f"page {holder}: child out of range")
+                return None
+            holder = following
+            if holder in self.seen:
+                found.append(f"page {holder}: page twice")
+                return None
+            self.seen.add(holder)
+            if not self.tag(holder):
+                found.append(f"page {holder}: tag refused")
+                return None
+            plain = self.plain(holder)
+            following = be(plain, 0)
+            pieces.append(plain[4:4 + missing])
+            missing -= len(pieces[-1])
+        if holder != page and following:
+            found.append(f"page {holder}: chain long")
+            return None
+        return b"".join(pieces)
+
+    def tree(self, root, family):
+        """(entries as (page, rowid, payload), defects) of a tree."""
+        entries, found, keys = [], [], []
+
+        def visit(n, family, depth):
+            if n in self.seen:
+                found.append(f"page {n}: page twice")
+                return
+            self.seen.add(n)
+            if depth > 20:
+                found.append(f"page {n}: too deep")
+                return
+            if not self.tag(n):
+                found.append(f"page {n}: tag refused")
+                return
+            try:
+                kind, cells, right = read_tree_page(self.plain(n), n, family)
+            except Refused as refusal:
+                found.append(str(refusal))
+                return
+            family = (2, 10) if kind in (2, 10) else (5, 13)
+            for cell in cells + [None] * (kind in (2, 5)):
+                if kind in (2, 5):
+                    child = cell.left if cell else right
+                    if self.in_range(child):
+                        visit(child, family, depth + 1)
+                    else:
+                        found.append(f"page {n}: child out of range")
+                    if cell and kind == 5:
+                        keys.append(cell.rowid)
+                        found.extend(f"page {at}: rowid order" for at, rowid, _ in entries if rowid is not None and rowid > cell.rowid)
+                if cell and kind != 5:
+                    if kind == 13:
+                        if any(cell.rowid <= key for key in keys):
+                            found.append(f"page {n}: rowid order")
+                    payload = self.chain(cell, n, found)
+                    if payload is not None:
+                        if kind == 13:
+                            keys.append(cell.rowid)
+                        entries.append((n, cell.rowid, payload))
+
+        visit(root, family, 1)
+        for n, _, payload in entries:
+            if read_record(payload) is None:
+                found.append(f"page {n}: record fault")
+        return entries, found
+
+    def answers(self):
+        """The lines that `verify` may print."""
+        found = self.free_part()
+        if found:
+            return found
+        bad = [n for n in range(1, self.count + 1) if n not in self.leaves and not self.tag(n)]
+        if bad:
+            return [" | ".join(f"page {n}: tag refused" for n in bad)]
+        rows, found = self.tree(1, (5, 13))
+        roots = []
+        for _, rowid, payload in rows:
+            values = read_record(payload)
+            if values is None:
+                continue
+            if len(values) < 5 or values[3][0] not in ("int", "null"):
+                found.append(f"schema row {rowid}")
+                continue
+            root = values[3][1] or 0
+            if root and not self.in_range(root):
+                found.append(f"root fault in row {rowid}")
+            elif root:
+                roots.append(root)
+        entries = len(rows)
+        for root in roots:
+            if found:
+                break
+            more, found = self.tree(root, None)
+            entries += len(more)
+        if found:
+            return found
+        return [f"ok: {len(roots) + 1} trees, {entries} entries, {self.free} free pages, {self.count - len(self.seen)} unused pages"]
+
+
+def reference_line(main, codec):
+    """The line of the reference itself."""
+    try:
+        return " | ".join(verify_lines(Database(main, codec))[0])
+    except Refused as refusal:
+        return str(refusal)
+
+
+# ------------------------------------------------------------------ commands
+
+def make(folder, count, seed):
+    kinds = collections.Counter()
+    with open(os.path.join(folder, "answers"), "w") as answers:
+        for i in range(count):
+            rng = random.Random(f"{seed} {i}")
+            word = "34"[i % 2]
+            profile = profile_of(word)
+            codec = Codec(profile, KEY, SALT)
+            maker = Maker(rng, profile)
+            main = maker.file(codec, draw_source(seed=rng.randrange(2 ** 32)))
+            name = f"{word}-{i}.db"
+            with open(os.path.join(folder, name), "wb") as file:
+                file.write(main)
+            allowed = Parts(main, codec).answers()
+            first = reference_line(main, codec)
+            if first not in allowed:
+                sys.exit(f"{name}: the reference answers '{first}', which is none of {allowed}")
+            allowed = [first] + [line for line in allowed if line != first]
+            print("\t".join([name] + allowed), file=answers)
+            kinds["".join(c for c in first if not c.isdigit())] += 1
+    for text, many in kinds.most_common():
+        print(f"{many}\t{text}")
+
+
+def check(folder):
+    with open(os.path.join(folder, "answers")) as lines:
+        allowed = {name: rest for name, *rest in (line.rstrip("\n").split("\t") for line in lines)}
+    same = other = wrong = 0
+    for line in sys.stdin:
+        name, status, text = line.rstrip("\n").split("\t")
+        wanted = "0" if text.startswith("ok: ") else "2"
+        if status != wanted or text not in allowed[name]:
+            wrong += 1
+            print(f"{name}: '{text}' with status {status}; allowed: {allowed[name]}")
+        elif text == allowed[name][0]:
+            same += 1
+        else:
+            other += 1
+        del allowed[name]
+    print(f"hostile pages: {same} as the reference, {other} another defect of the same part, {wrong} wrong, {len(allowed)} missing")
+    sys.exit(1 if wrong or allowed else 0)
+
+
+if __name__ == "__main__":
+    if len(sys.argv) == 5 and sys.argv[1] == "make":
+        make(sys.argv[2], int(sys.argv[3]), sys.argv[4])
+    elif len(sys.argv) == 3 and sys.argv[1] == "check":
+        check(sys.argv[2])
+    else:
+        sys.exit(__doc__)
