@@ -1,5 +1,5 @@
 -- A new file, and one page more in it.
-use Rattle.std.proofs.Common.{IsTrue, ◌≡◌, ◌≢◌, ◌⊎◌, inl, inr, ⊎_elim, ℕ, ◌+◌, ◌-◌, ◌*◌, ◌==◌, ◌<◌, ◌≤◌, Bool, true, false, List, [], ◌∷◌, ◌++◌, length, take, drop, Option, Some, None, refl, sym, ◌∙◌, ap, subst, arith, rules, length-append, if◌then◌else◌}
+use Rattle.std.proofs.Common.{IsTrue, ◌≡◌, ◌≢◌, ◌⊎◌, inl, inr, ℕ, ◌+◌, ◌-◌, ◌*◌, ◌==◌, ◌≤◌, Bool, true, false, List, [], ◌∷◌, ◌++◌, length, take, drop, Option, Some, None, refl, sym, ◌∙◌, ap, subst, arith, rules, length-append, if◌then◌else◌}
 use Rattle.std.specs.Option.{option_map}
 use Rattle.std.specs.Prelude.{nat_le, ◌&&◌}
 use Rattle.std.proofs.lemmas.Bool.{eqb-true, eqb-false}
@@ -7,9 +7,8 @@ use Rattle.std.proofs.lemmas.Bool.Decides.{nat_tests}
 use Rattle.std.proofs.lemmas.List.{length-take, take-append-le}
 use Rattle.std.proofs.Math.Nat.{mul-le-mul_right}
 use Rattle.edge_model.specs.Files.{written, Torn}
-use Rattle.edge_model.specs.Bytes.{torn_written}
-use Rattle.disk_side.specs.Torn.{MayTear, IsTornAt}
-use Rattle.page_codec.specs.Page.{FileKeys, opened, sealed, stored_page}
+use Rattle.disk_side.specs.Torn.{MayTear}
+use Rattle.page_codec.specs.Page.{FileKeys, opened, sealed}
 use Rattle.db_format.specs.declared.header.Header.{Header}
 use Rattle.db_format.specs.Header.{header_bytes}
 use Rattle.db_format.specs.Pages.{Pages, Test, also, is_page, nothing}

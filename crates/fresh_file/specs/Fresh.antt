@@ -1,5 +1,5 @@
 -- A new file while its pages are put, and at its end.
-use Rattle.std.specs.Prelude.{IsTrue, ◌≡◌, ℕ, ◌*◌, ◌≤◌, ◌==◌, Bool, true, List, [], ◌++◌, length, take, drop, Option, Some, None, if◌then◌else◌}
+use Rattle.std.specs.Prelude.{IsTrue, ◌≡◌, ℕ, ◌*◌, ◌≤◌, ◌==◌, Bool, true, List, [], ◌++◌, length, drop, Option, Some, None, if◌then◌else◌}
 use Rattle.db_format.specs.declared.header.Header.{Header}
 use Rattle.db_format.specs.Header.{header_bytes}
 use Rattle.db_format.specs.Pages.{Pages, Test, is_page}

@@ -1,4 +1,4 @@
-use Rattle.std.proofs.Common.{◌≤◌, ◌+◌, arith}
+use Rattle.std.proofs.Common.{◌+◌, arith}
 use Rattle.cipher_profile.specs.Profile.{usable}
 use Rattle.db_format.specs.Seen.{marked}
 use Rattle.fresh_file.specs.State.{pages_of}

@@ -1,4 +1,4 @@
-use Rattle.std.proofs.Common.{rules, ◌≡◌, ◌∙◌, ◌≤◌, arith}
+use Rattle.std.proofs.Common.{rules, ◌∙◌, arith}
 use Rattle.fresh_file.proofs.FreshLaws.{head_first, here_next, laid_start, others_stay, well_next}
 use Rattle.fresh_file.proofs.state.FreshState.put_first.Goals as goal
 

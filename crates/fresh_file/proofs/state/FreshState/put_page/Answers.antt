@@ -1,4 +1,4 @@
-use Rattle.std.proofs.Common.{rules, ◌≡◌, ◌∙◌, ◌≤◌, length, arith}
+use Rattle.std.proofs.Common.{rules, ◌∙◌, arith}
 use Rattle.fresh_file.proofs.FreshLaws.{here_next, others_stay, taken_next, well_as, well_next, written_back}
 use Rattle.fresh_file.proofs.state.FreshState.put_page.Goals as goal
 

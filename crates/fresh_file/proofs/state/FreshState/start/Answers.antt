@@ -1,4 +1,4 @@
-use Rattle.std.proofs.Common.{rules, ◌≡◌, ◌≤◌, ℕ, List, length, arith, ap}
+use Rattle.std.proofs.Common.{ℕ, List, length, arith, ap}
 use Rattle.fresh_file.proofs.FreshLaws.{none_accepted, well_none}
 use Rattle.fresh_file.proofs.state.FreshState.start.Goals as goal
 
