@@ -30,7 +30,7 @@ pub fn changed(
         for (page, at, bytes) in changes {
             if *page == n {
                 for (i, byte) in bytes.iter().enumerate() {
-                    put_byte(plain, *at + i, *byte);
+                    put_byte(plain, at.wrapping_add(i), *byte);
                 }
             }
         }
