@@ -76,6 +76,7 @@ make "$sound" "$k0" 4 400
 [ "$(pages "$sound")" -ge 200 ] || { echo "real files: the file has only $(pages "$sound") pages"; exit 1; }
 compare "$sound" "$k0" tags 4
 compare "$sound" "$k0" verify 4
+compare "$sound" "$k0" export 4
 compare "$sound" "${k0^^}" tags 4
 compare "$sound" "$k1" tags 4
 
@@ -87,6 +88,7 @@ for at in 5000 $((4096 * 9 + 4020)) $((4096 * 10 + 4032)) $((4096 * 57 + 4095)) 
 done
 compare "$damaged" "$k0" tags 4
 compare "$damaged" "$k0" verify 4
+compare "$damaged" "$k0" export 4
 
 # Every page but the first.
 all=$folder/all.db
@@ -96,6 +98,7 @@ for n in $(seq 1 $(($(pages "$sound") - 1))); do
 done
 compare "$all" "$k0" tags 4
 compare "$all" "$k0" verify 4
+compare "$all" "$k0" export 4
 
 # Two pages in each other's place, bytes past the last page, and page 1 alone.
 swapped=$folder/swapped.db
@@ -104,6 +107,7 @@ dd if="$sound" of="$swapped" bs=4096 skip=20 seek=30 count=1 conv=notrunc status
 dd if="$sound" of="$swapped" bs=4096 skip=30 seek=20 count=1 conv=notrunc status=none
 compare "$swapped" "$k0" tags 4
 compare "$swapped" "$k0" verify 4
+compare "$swapped" "$k0" export 4
 longer=$folder/longer.db
 cp "$sound" "$longer"
 head -c 4000 /dev/zero >> "$longer"
@@ -123,7 +127,7 @@ for profile in 1 2 3 4; do
     for key in "$k0" "it's a pässwörd"; do
         file=$folder/profile-$profile.db
         make "$file" "$key" "$profile" 40
-        for words in "tags $profile" "header $profile" "verify $profile" probe; do
+        for words in "tags $profile" "header $profile" "verify $profile" "export $profile" probe; do
             # shellcheck disable=SC2086
             compare "$file" "$key" $words
         done
@@ -137,6 +141,7 @@ for len in 0 1 1023 1024 4095 4096 4097; do
     compare "$folder/cut.db" "$k0" tags 4
     compare "$folder/cut.db" "$k0" header 4
     compare "$folder/cut.db" "$k0" verify 4
+    compare "$folder/cut.db" "$k0" export 4
     compare "$folder/cut.db" "$k0" probe
 done
 
@@ -179,6 +184,31 @@ four() { # four: the product built for version 4, nothing where it can't be buil
     esac
 }
 
+dump() { # dump PROGRAM FILE STATEMENTS: the lines of its dump, sorted, since objects stand in another order
+    printf '%s\n' ".output /dev/null" "$3" ".output stdout" ".dump" | "$1" -batch "$2" | sort
+}
+
+# What the product dumps of a sound file, and of the plain database that SQLite makes of the program's export, has the same lines.
+compare_dump() { # compare_dump FILE KEYFILE PROFILE
+    local file=$1 key=$2 profile=$3 program=sqlcipher opening
+    "$tool" "$file" export "$profile" < "$key" > "$folder/text" 2> /dev/null || return 0
+    [ "$profile" != 4 ] || program=$(four)
+    opening="PRAGMA key = '$(sed "s/'/''/g" "$key")';"
+    case $profile in
+        1) opening+=" PRAGMA cipher_use_hmac = OFF; PRAGMA kdf_iter = 4000;" ;;
+        2) opening+=" PRAGMA kdf_iter = 4000;" ;;
+    esac
+    rm -f "$folder/plain.db"
+    compared=$((compared + 1))
+    if ! "$top/tools/export_to_sql.py" < "$folder/text" | sqlite3 -bail "$folder/plain.db" ||
+        ! dump "$program" "$file" "$opening" > "$folder/expected" || ! dump "$program" "$folder/plain.db" "" > "$folder/found" ||
+        ! cmp -s "$folder/expected" "$folder/found"; then
+        differ=$((differ + 1))
+        echo "real files: $(basename "$file"): the dump of what export and export_to_sql.py give is another one than the product's"
+        diff "$folder/expected" "$folder/found" | cut -c 1-200 | head -n 10
+    fi
+}
+
 product_files() {
     local product=$folder/product table=$folder/table.tsv program name profile journal file key
     program=$(four) || fail "the product of version 4 is not built"
@@ -210,11 +240,14 @@ product_files() {
             compare_recovered "$file" "$key" tags "$profile"
             compare_recovered "$file" "$key" header "$profile"
             compare_recovered "$file" "$key" verify "$profile"
+            compare_recovered "$file" "$key" export "$profile"
             continue
         fi
         compare_with "$file" "$key" tags "$profile"
         compare_with "$file" "$key" header "$profile"
         compare_with "$file" "$key" verify "$profile"
+        compare_with "$file" "$key" export "$profile"
+        compare_dump "$file" "$key" "$profile"
     done < "$table"
     # The program stopped at each of its writing calls, and run again.
     for name in v3-raw-hot-grow v4-raw-hot-grow v3-raw-cold-persist; do
