@@ -11,7 +11,7 @@ use Rattle.sqlcipher_tool.specs.Answer.{Answer, IsAnswer, IsAnswered, IsFault, P
 use Rattle.sqlcipher_tool.specs.Crash.{KeepsHeld}
 use Rattle.sqlcipher_tool.specs.Due.{and_secrets, key_lines, keyed_answers}
 use Rattle.sqlcipher_tool.specs.declared.command.Command.{Command}
-use Rattle.sqlcipher_tool.specs.declared.command.Command.TheVariants.{Tags, Header, Verify, Export, Probe, Recover}
+use Rattle.sqlcipher_tool.specs.declared.command.Command.TheVariants.{Tags, Header, Verify, Export, Probe, Recover, Stamp}
 use Rattle.sqlcipher_tool.specs.declared.job.Job.TheVariants.{Verify as VerifyPages, Export as ExportPages}
 use Rattle.sqlcipher_tool.specs.declared.status.Status.{Status}
 use Rattle.sqlcipher_tool.specs.declared.status.Status.TheVariants.{Done, Usage, Refused, KeyRefused, DiskFault, OutputFault, InputFault, EntropyFault, OutOfMemory}
@@ -54,7 +54,7 @@ pub answers_one : (answer : Answer) (status : Status) (tells : Bool) (before aft
 answers_one answer status tells before after = answers_among (answer ∷ []) answer status tells before after (0, omega arith, refl)
 
 -- an image that comes of another by a step of the recovery holds what that one held
-holds_on : (size : ℕ) (held : Held) (d c : Files) → held.keys.profile.page_size ≡ size → KeepsRecovered size d c → HoldsOnly held d → HoldsOnly held c
+pub holds_on : (size : ℕ) (held : Held) (d c : Files) → held.keys.profile.page_size ≡ size → KeepsRecovered size d c → HoldsOnly held d → HoldsOnly held c
 holds_on size held d c same keeps was =
     let at : ℕ → Files → List ℕ → Type 0 = λ s image file. Recovers s image file in
     let still = keeps.still was.some.0 (subst (λ (s : ℕ). at s d was.some.0) same was.some.1) in
@@ -108,6 +108,7 @@ one_due (Verify profile) (Ok secret) files = recovered_some VerifyPages profile 
 one_due (Export profile) (Ok secret) files = recovered_some ExportPages profile secret files
 one_due Probe (Ok secret) files = omega arith
 one_due (Recover profile) (Ok secret) files = omega arith
+one_due (Stamp profile field value) (Ok secret) files = omega arith
 one_due command (Err error) files = omega arith
 
 pub first_due : (answers : List Answer) → 0 < length answers → (answer : Answer) × Contains answers answer

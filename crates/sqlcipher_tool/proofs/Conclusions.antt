@@ -65,7 +65,7 @@ told_text outcome due status before after is text failed =
     (λ (same : outcome_answer outcome ≡ Some due). text due same) is
 
 -- what is answered to a recovery that stops
-refused_is : (r : Result Recovery RecoverError) (given : Answer) (otherwise : Answer) → Some given ≡ refused_answer r → given ≡ after_recovery r otherwise
+pub refused_is : (r : Result Recovery RecoverError) (given : Answer) (otherwise : Answer) → Some given ≡ refused_answer r → given ≡ after_recovery r otherwise
 refused_is (Ok did) given otherwise is = cc
 refused_is (Err error) given otherwise is = cc
 

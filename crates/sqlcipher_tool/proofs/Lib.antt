@@ -11,3 +11,12 @@ pub mod Verified
 pub mod VerifiedFile
 pub mod SamePages
 pub mod DoneAnswers
+pub mod StampedFields
+pub mod OpenedParts
+pub mod Databases
+pub mod StampedPages
+pub mod Changing
+pub mod Stamping
+pub mod Stamped
+pub mod Asked
+pub mod Numbers

@@ -169,6 +169,18 @@ pub record HasCauses (status : Status) (disk_before disk_after output_before out
   pub disk_later : disk_before ≤ disk_after
   pub output_later : output_before ≤ output_after
 
+-- The same of a command that may draw: a fault of the entropy is answered where its count rose too.
+pub record HasDrawnCauses (status : Status) (draws : Bool) (disk_before disk_after output_before output_after entropy_before entropy_after : ℕ) : Type 0 where
+  pub disk : status ≡ DiskFault → Rose disk_before disk_after
+  pub output : status ≡ OutputFault → Rose output_before output_after
+  pub entropy : status ≡ EntropyFault → Rose entropy_before entropy_after × (draws ≡ true)
+  pub input : status ≡ InputFault → ⊥
+  pub usage : status ≡ Usage → ⊥
+  pub late : IsEarly status → ⊥
+  pub disk_later : disk_before ≤ disk_after
+  pub output_later : output_before ≤ output_after
+  pub entropy_later : entropy_before ≤ entropy_after
+
 -- the answer that is due, or a fault in its place
 abbrev pub IsAnswered : Status → Answer → Type 0
 IsAnswered status due = (status ≡ due.status) ⊎ IsFault status

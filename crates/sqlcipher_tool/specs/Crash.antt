@@ -1,28 +1,96 @@
 -- What a crash at any moment of a run leaves, and what the run leaves at its end.
-use Rattle.std.specs.Prelude.{◌≡◌, ◌<◌, ℕ, List, length}
-use Rattle.edge_model.specs.Files.{bytes_of}
+use Rattle.std.specs.Prelude.{◌≡◌, ◌⊎◌, ◌<◌, ℕ, Bool, IsTrue, List, length, Option, Some, None, Result, Ok}
+use Rattle.edge_model.specs.Files.{Files, bytes_of}
 use Rattle.edge_model.specs.Images.{Each, From}
+use Rattle.cipher_profile.specs.declared.key_line.KeyError.{KeyError}
+use Rattle.cipher_profile.specs.declared.keys.Secret.{Secret}
 use Rattle.cipher_profile.specs.declared.profile.Profile.{Profile}
 use Rattle.rollback_journal.specs.Recovery.{IsDone, Keeps as KeepsRecovered}
 use Rattle.sqlcipher_tool.specs.declared.command.Command.{Command}
-use Rattle.sqlcipher_tool.specs.declared.command.Command.TheVariants.{Tags, Header, Verify, Export, Probe, Recover}
+use Rattle.sqlcipher_tool.specs.declared.command.Command.TheVariants.{Tags, Header, Verify, Export, Probe, Recover, Stamp}
 use Rattle.sqlcipher_tool.specs.declared.status.Status.{Status}
-use Rattle.sqlcipher_tool.specs.declared.status.Status.TheVariants.{Done}
-use Rattle.sqlcipher_tool.specs.Holding.{Held, HoldsOneOf, AreOfSize, DiskRun}
+use Rattle.sqlcipher_tool.specs.declared.status.Status.TheVariants.{Done, Usage, Refused, KeyRefused, DiskFault, OutputFault, InputFault, EntropyFault, OutOfMemory}
+use Rattle.sqlcipher_tool.specs.Holding.{Held, HoldsOnly, HoldsOneOf, AreOfSize, DiskRun, held_by}
+use Rattle.sqlcipher_tool.specs.Recovered.{recovered_main}
+use Rattle.sqlcipher_tool.specs.Renewal.{Renewal, renewal, old_keys, new_keys, IsNew, AreDrawn}
 use Rattle.pager.specs.File.{main_of}
+use Rattle.transaction.specs.Facts.{SameFresh}
 
--- Recovery, and the commands that only read after it.
+-- ---- recovery, and the commands that only read after it
+
 pub record KeepsHeld (size : ℕ) (run : DiskRun) : Type 0 where
   -- each image comes from one at the start: it recovers to no other file than that one, and still to one; Fresh is the same
   pub comes : Each run.ever (From (KeepsRecovered size) run.at_start)
   -- whatever databases of pages of this size the disk held at the start, it holds at every moment
   pub holds : (list : List Held) → AreOfSize size list → Each run.at_start (HoldsOneOf list) → Each run.ever (HoldsOneOf list)
 
+-- Fresh is in each image as in an image at the start
+abbrev pub KeepsFresh : DiskRun → Type 0
+KeepsFresh run = Each run.ever (From SameFresh run.at_start)
+
 -- nothing changes: the disk reads as before, and no crash leaves another image
 pub record Stays (run : DiskRun) : Type 0 where
   pub reads : run.after ≡ run.before
   pub no_more : Each run.ever run.at_start
   pub no_fewer : Each run.at_start run.at_exit
+
+-- ---- a new database in place of the old one
+
+-- After Done it is the new one, after an output fault the one or the other in every image, after a disk fault either, and
+-- after every other status the old one.
+abbrev pub AtExit : Status → (Files → Type 0) → (Files → Type 0) → (Files → Type 0) → Type 0
+AtExit Done old new images = Each images new
+AtExit Usage old new images = Each images old
+AtExit (Refused refusal) old new images = Each images old
+AtExit KeyRefused old new images = Each images old
+AtExit DiskFault old new images = Each images (λ image. old image ⊎ new image)
+AtExit OutputFault old new images = Each images old ⊎ Each images new
+AtExit InputFault old new images = Each images old
+AtExit EntropyFault old new images = Each images old
+AtExit OutOfMemory old new images = Each images old
+
+-- no image had anything but the old one, and the command was not carried out
+pub record StaysOld (status : Status) (old : Files → Type 0) (run : DiskRun) : Type 0 where
+  pub any_moment : Each run.ever old
+  pub not_done : status ≡ Done → ⊥
+
+-- each image had the old one or the new one, and at the exit as the status says
+pub record GoesOver (status : Status) (old new : Files → Type 0) (run : DiskRun) : Type 0 where
+  pub any_moment : Each run.ever (λ image. old image ⊎ new image)
+  pub at_exit : AtExit status old new run.at_exit
+
+-- One new file for the whole run: it is Main after Done. `new` says what an image holds that has it.
+pub record Renews (status : Status) (new_file : List ℕ → Type 0) (old : Files → Type 0) (new : List ℕ → Files → Type 0) (run : DiskRun) : Type 0 where
+  pub file : List ℕ
+  pub is_new : new_file file
+  pub goes_over : GoesOver status old (new file) run
+  pub is_main : status ≡ Done → bytes_of run.after.main ≡ Some file
+  pub no_journal : status ≡ Done → Each run.at_exit (λ image. image.journal ≡ None)
+
+-- there is never another than the old one, or there is one new file
+abbrev pub StaysOrRenews : Status → (List ℕ → Type 0) → (Files → Type 0) → (List ℕ → Files → Type 0) → DiskRun → Type 0
+StaysOrRenews status new_file old new run = StaysOld status old run ⊎ Renews status new_file old new run
+
+-- the old database: that of the recovered file under the old keys
+abbrev pub old_held : Renewal → Files → Held
+old_held renewal files = let file = recovered_main renewal.old_profile files in held_by (old_keys renewal file) file
+
+abbrev pub new_held : Renewal → List ℕ → Held
+new_held renewal file = held_by (new_keys renewal file) file
+
+-- where each image at the start holds the old database alone, there is never another, or there is one new file
+abbrev pub IsSafely : Status → Command → DiskRun → Option Renewal → Type 0
+IsSafely status command run None = Unit {0}
+IsSafely status command run (Some renewal) =
+    Each run.at_start (HoldsOnly (old_held renewal run.before))
+    → StaysOrRenews status (IsNew command renewal (recovered_main renewal.old_profile run.before)) (HoldsOnly (old_held renewal run.before))
+    (λ file. HoldsOnly (new_held renewal file)) run
+
+-- ---- by command
+
+-- the input told these secrets
+abbrev pub GaveKeys : Bool → Result (List Secret) KeyError → List Secret → Type 0
+GaveKeys tells lines secrets = IsTrue tells × (lines ≡ Ok secrets)
 
 -- what a command keeps, whatever its status
 abbrev pub Keeps : Command → DiskRun → Type 0
@@ -32,6 +100,7 @@ Keeps (Verify profile) run = KeepsHeld profile.page_size run
 Keeps (Export profile) run = KeepsHeld profile.page_size run
 Keeps Probe run = Stays run
 Keeps (Recover profile) run = KeepsHeld profile.page_size run
+Keeps (Stamp profile field value) run = KeepsFresh run
 
 -- after Done, where Main had a byte, every image has the recovered file as Main and no journal
 abbrev pub IsRecovered : Profile → Status → DiskRun → Type 0
@@ -39,11 +108,24 @@ IsRecovered profile status run =
     status ≡ Done → 0 < length (main_of run.before)
     → Each run.at_exit (IsDone profile.page_size (bytes_of run.before.main) (bytes_of run.before.journal))
 
--- what a command changes, by its status
-abbrev pub Changes : Status → Command → DiskRun → Type 0
-Changes status (Tags profile) run = Unit {0}
-Changes status (Header profile) run = Unit {0}
-Changes status (Verify profile) run = Unit {0}
-Changes status (Export profile) run = Unit {0}
-Changes status Probe run = Unit {0}
-Changes status (Recover profile) run = IsRecovered profile status run
+-- what a command changes with the secrets that it was given, at every moment and by its status
+abbrev pub Changes : Status → Command → (List Secret → Type 0) → DiskRun → Type 0
+Changes status (Tags profile) gave run = Unit {0}
+Changes status (Header profile) gave run = Unit {0}
+Changes status (Verify profile) gave run = Unit {0}
+Changes status (Export profile) gave run = Unit {0}
+Changes status Probe gave run = Unit {0}
+Changes status (Recover profile) gave run = IsRecovered profile status run
+Changes status (Stamp profile field value) gave run =
+    (secrets : List Secret) → gave secrets
+    → IsSafely status (Stamp profile field value) run (renewal (Stamp profile field value) secrets)
+
+-- what was drawn for the new file
+abbrev pub IsDrawnFor : Command → Option Renewal → List ℕ → List ℕ → Type 0
+IsDrawnFor command None file drawn = Unit {0}
+IsDrawnFor command (Some renewal) file drawn = AreDrawn command renewal file drawn
+
+-- after Done, each page that the command sealed has drawn bytes of its own
+abbrev pub HasOwnDraws : Command → (List Secret → Type 0) → List ℕ → List ℕ → Type 0
+HasOwnDraws command gave file drawn =
+    (secrets : List Secret) → gave secrets → IsDrawnFor command (renewal command secrets) file drawn

@@ -7,7 +7,7 @@ use Rattle.cipher_profile.specs.declared.keys.Secret.{Secret}
 use Rattle.cipher_profile.specs.KeyLine.{after_line, key_line}
 use Rattle.sqlcipher_tool.specs.Answer.{Answer, refused, usage}
 use Rattle.sqlcipher_tool.specs.declared.command.Command.{Command}
-use Rattle.sqlcipher_tool.specs.declared.command.Command.TheVariants.{Tags, Header, Verify, Export, Probe, Recover}
+use Rattle.sqlcipher_tool.specs.declared.command.Command.TheVariants.{Tags, Header, Verify, Export, Probe, Recover, Stamp}
 use Rattle.sqlcipher_tool.specs.declared.status.Refusal.{Refusal}
 use Rattle.sqlcipher_tool.specs.declared.status.Refusal.TheVariants.{NoTags, KeyMissing as RefusedMissing, KeyEmpty as RefusedEmpty, KeyTooLong as RefusedLong, KeyForm as RefusedForm}
 use Rattle.sqlcipher_tool.specs.declared.status.Status.TheVariants.{InputFault}
@@ -16,6 +16,7 @@ use Rattle.sqlcipher_tool.specs.Job.{job_answers}
 use Rattle.sqlcipher_tool.specs.declared.job.Job.TheVariants.{Verify as VerifyPages, Export as ExportPages}
 use Rattle.sqlcipher_tool.specs.Probe.{probe_answer}
 use Rattle.sqlcipher_tool.specs.Recovered.{recovered_answer, recovered_answers, recovery_answer, recovery_of}
+use Rattle.sqlcipher_tool.specs.Stamp.{stamp_answer}
 use Rattle.sqlcipher_tool.specs.Tags.{tags_answer}
 use Rattle.sqlcipher_tool.specs.Words.{form, keys_taken, lacks_tags}
 
@@ -58,6 +59,8 @@ secret_answers (Export profile) secrets files =
     with_one secrets (λ secret. recovered_answers profile files (job_answers ExportPages profile secret))
 secret_answers Probe secrets files = with_one secrets (λ secret. probe_answer secret files ∷ [])
 secret_answers (Recover profile) secrets files = recovery_answer (recovery_of profile files) ∷ []
+secret_answers (Stamp profile field value) secrets files =
+    with_one secrets (λ secret. recovered_answer profile files (stamp_answer profile secret) ∷ [])
 
 -- the answers to a command with what its key lines give
 abbrev pub keyed_answers : Command → Result (List Secret) KeyError → Files → List Answer

@@ -15,6 +15,10 @@ pub record HoldsOnly (held : Held) (image : Files) : Type 0 where
   pub some : (file : List ℕ) × Recovers held.keys.profile.page_size image file
   pub only : (file : List ℕ) → Recovers held.keys.profile.page_size image file → database held.keys file ≡ held.stored
 
+-- the database of this file under its keys
+abbrev pub held_by : FileKeys → List ℕ → Held
+held_by keys file = record { keys = keys; stored = database keys file }
+
 -- the image holds one of these alone
 abbrev pub HoldsOneOf : List Held → Files → Type 0
 HoldsOneOf [] image = ⊥

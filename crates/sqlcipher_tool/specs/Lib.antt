@@ -1,6 +1,8 @@
 pub mod Answer
+pub mod Change
 pub mod Crash
 pub mod Plain
+pub mod Draws
 pub mod Due
 pub mod Export
 pub mod Header
@@ -10,6 +12,8 @@ pub mod Opening
 pub mod Probe
 pub mod Promises
 pub mod Recovered
+pub mod Renewal
+pub mod Stamp
 pub mod Stop
 pub mod Tags
 pub mod Text

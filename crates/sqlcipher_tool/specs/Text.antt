@@ -110,3 +110,7 @@ abbrev pub recovery_line : Recovery → List ℕ
 recovery_line Nothing = line (codes "nothing")
 recovery_line Cold = line (codes "cold")
 recovery_line (Played records) = line (codes "played: " ++ decimal records)
+
+-- what `stamp` prints
+abbrev pub stamped_report : List ℕ
+stamped_report = line (codes "stamped")

@@ -1,19 +1,45 @@
--- The words of the command line.
+-- The words of the command line. P names a profile, and N is one to ten digits, at most 4,294,967,295.
 --
--- | words       | command           | key lines |
--- | `tags P`    | Tags profile P    | 1         |
--- | `header P`  | Header profile P  | 1         |
--- | `verify P`  | Verify profile P  | 1         |
--- | `export P`  | Export profile P  | 1         |
--- | `probe`     | Probe             | 1         |
--- | `recover P` | Recover profile P | 0         |
-use Rattle.std.specs.Prelude.{ℕ, ◌==◌, Bool, true, false, List, [], ◌∷◌, map, Option, Some, None, codes, if◌then◌else◌}
+-- | words                      | command                         | key lines | draws |
+-- | `tags P`                   | Tags profile P                  | 1         | no    |
+-- | `header P`                 | Header profile P                | 1         | no    |
+-- | `verify P`                 | Verify profile P                | 1         | no    |
+-- | `export P`                 | Export profile P                | 1         | no    |
+-- | `probe`                    | Probe                           | 1         | no    |
+-- | `recover P`                | Recover profile P               | 0         | no    |
+-- | `stamp P user-version N`   | Stamp profile P UserVersion N   | 1         | yes   |
+-- | `stamp P application-id N` | Stamp profile P ApplicationId N | 1         | yes   |
+use Rattle.std.specs.Prelude.{ℕ, ◌==◌, ◌&&◌, nat_le, nat_lt, Bool, true, false, List, [], ◌∷◌, length, map, Option, Some, None, codes, if◌then◌else◌}
 use Rattle.std.specs.Borrow.{Bor}
-use Rattle.std.specs.Option.{option_map}
+use Rattle.std.specs.Char.{digit_value}
+use Rattle.std.specs.List.{list_all}
+use Rattle.std.specs.Option.{option_map, option_and_then}
 use Rattle.std.specs.Str.{bytes_eq}
+use Rattle.std.specs.Str.Parse.{digits_value}
 use Rattle.cipher_profile.specs.Profile.{IsListed, profile_named}
 use Rattle.sqlcipher_tool.specs.declared.command.Command.{Command}
-use Rattle.sqlcipher_tool.specs.declared.command.Command.TheVariants.{Tags, Header, Verify, Export, Probe, Recover}
+use Rattle.sqlcipher_tool.specs.declared.command.Command.TheVariants.{Tags, Header, Verify, Export, Probe, Recover, Stamp}
+use Rattle.sqlcipher_tool.specs.declared.command.Field.{Field}
+use Rattle.sqlcipher_tool.specs.declared.command.Field.TheVariants.{UserVersion, ApplicationId}
+
+-- the word is a number of the table
+abbrev pub is_number : List ℕ → Bool
+is_number word =
+    nat_le 1 (length word) && nat_le (length word) 10 && list_all (λ digit. nat_lt (digit_value digit) 10) word
+    && nat_le (digits_value 10 word) 4294967295
+
+abbrev pub number_named : List ℕ → Option ℕ
+number_named word = if is_number word then Some (digits_value 10 word) else None
+
+abbrev pub field_named : List ℕ → Option Field
+field_named word =
+    if bytes_eq word (codes "user-version") then Some UserVersion
+    else (if bytes_eq word (codes "application-id") then Some ApplicationId else None)
+
+-- `stamp` with its three words
+abbrev pub stamp_form : List ℕ → List ℕ → List ℕ → Option Command
+stamp_form first second third =
+    option_and_then (λ profile. option_and_then (λ field. option_map (λ value. Stamp profile field value) (number_named third)) (field_named second)) (profile_named first)
 
 -- the command that the words make, or none
 abbrev pub form : List (List ℕ) → Option Command
@@ -25,7 +51,9 @@ form (name ∷ word ∷ []) =
     else (if bytes_eq name (codes "verify") then option_map Verify (profile_named word)
     else (if bytes_eq name (codes "export") then option_map Export (profile_named word)
     else (if bytes_eq name (codes "recover") then option_map Recover (profile_named word) else None))))
-form (name ∷ word ∷ third ∷ rest) = None
+form (name ∷ first ∷ second ∷ []) = None
+form (name ∷ first ∷ second ∷ third ∷ []) = if bytes_eq name (codes "stamp") then stamp_form first second third else None
+form (name ∷ first ∷ second ∷ third ∷ fourth ∷ rest) = None
 
 -- the command is of a profile that is served
 abbrev pub IsServed : Command → Type 0
@@ -35,6 +63,7 @@ IsServed (Verify profile) = IsListed profile
 IsServed (Export profile) = IsListed profile
 IsServed Probe = Unit {0}
 IsServed (Recover profile) = IsListed profile
+IsServed (Stamp profile field value) = IsListed profile
 
 -- it asks for tags that the profile has not
 abbrev pub lacks_tags : Command → Bool
@@ -44,6 +73,7 @@ lacks_tags (Verify profile) = false
 lacks_tags (Export profile) = false
 lacks_tags Probe = false
 lacks_tags (Recover profile) = false
+lacks_tags (Stamp profile field value) = false
 
 -- how many key lines it takes
 abbrev pub keys_taken : Command → ℕ
@@ -53,6 +83,7 @@ keys_taken (Verify profile) = 1
 keys_taken (Export profile) = 1
 keys_taken Probe = 1
 keys_taken (Recover profile) = 0
+keys_taken (Stamp profile field value) = 1
 
 -- it recovers the file first, for which it takes memory
 abbrev pub recovers : Command → Bool
@@ -62,6 +93,17 @@ recovers (Verify profile) = true
 recovers (Export profile) = true
 recovers Probe = false
 recovers (Recover profile) = true
+recovers (Stamp profile field value) = true
+
+-- it draws from the entropy
+abbrev pub draws : Command → Bool
+draws (Tags profile) = false
+draws (Header profile) = false
+draws (Verify profile) = false
+draws (Export profile) = false
+draws Probe = false
+draws (Recover profile) = false
+draws (Stamp profile field value) = true
 
 -- the words' bytes
 abbrev pub texts : List (Bor (List ℕ)) → List (List ℕ)

@@ -1,8 +1,17 @@
 // The words of the command line.
 ghost use Rattle.std.specs.Prelude.{◌≡◌, ◌∷◌, [], IfSome};
-ghost use Rattle.sqlcipher_tool.specs.Words.{form, texts, lacks_tags, IsServed};
+ghost use Rattle.sqlcipher_tool.specs.Words.{form, stamp_form, field_named, number_named, texts, lacks_tags, IsServed};
 
 use cipher_profile::{Profile, profile_of};
+
+/// A field of the database header that can be stamped.
+#[derive(Clone, Copy, Debug, PartialEq, Eq)]
+pub enum Field {
+    /// The user version.
+    UserVersion,
+    /// The application id.
+    ApplicationId,
+}
 
 /// What the words ask for.
 #[derive(Clone, Copy, Debug, PartialEq, Eq)]
@@ -19,6 +28,15 @@ pub enum Command {
     Probe,
     /// Play back a journal that a stop has left.
     Recover(Profile),
+    /// Set a field of the database header.
+    Stamp {
+        /// The file's profile.
+        profile: Profile,
+        /// The field.
+        field: Field,
+        /// Its new number.
+        value: u32,
+    },
 }
 
 impl Command {
@@ -32,7 +50,8 @@ impl Command {
             | Command::Verify(_)
             | Command::Export(_)
             | Command::Probe
-            | Command::Recover(_) => false,
+            | Command::Recover(_)
+            | Command::Stamp { .. } => false,
         }
     }
 }
@@ -45,6 +64,7 @@ pub fn parse_words(words: &[&str]) -> Option<Command>
     match words {
         [name] if *name == "probe" => Some(Command::Probe),
         [name, word] => command_on(name, word),
+        [name, first, second, third] if *name == "stamp" => stamp_with(first, second, third),
         _ => None,
     }
 }
@@ -71,4 +91,44 @@ fn command_on(name: &str, word: &str) -> Option<Command>
         return Some(Command::Recover(profile?));
     }
     None
+}
+
+// `stamp` with its three words.
+fn stamp_with(first: &str, second: &str, third: &str) -> Option<Command>
+    ensures form { result ≡ stamp_form first.now second.now third.now }
+    ensures served { IfSome result IsServed }
+{
+    let profile = profile_of(first)?;
+    let field = field_of(second)?;
+    let value = number_of(third)?;
+    Some(Command::Stamp {
+        profile,
+        field,
+        value,
+    })
+}
+
+// The field that a word names.
+fn field_of(word: &str) -> Option<Field>
+    ensures { result ≡ field_named word.now }
+{
+    match word {
+        "user-version" => Some(Field::UserVersion),
+        "application-id" => Some(Field::ApplicationId),
+        _ => None,
+    }
+}
+
+// The number that a word of one to ten digits names, where four bytes hold it.
+fn number_of(word: &str) -> Option<u32>
+    ensures { result ≡ number_named word.now }
+{
+    let digits = word.as_bytes();
+    if digits.len() == 0 || digits.len() > 10 || digits[0] == b'+' {
+        return None;
+    }
+    match word.parse::<u32>() {
+        Ok(number) => Some(number),
+        Err(_) => None,
+    }
 }

@@ -13,6 +13,7 @@ mod laws;
 mod opening;
 mod probe;
 mod recovery;
+mod stamp;
 mod status;
 mod tags;
 #[cfg(test)]

@@ -1,6 +1,6 @@
 // A file is opened for its secret: nothing stands in the way, and the key fits.
 ghost use Rattle.std.specs.Prelude.{◌≡◌, ◌⊎◌, ◌≤◌, length, None, Ok, IfOk, OnOk, IfErr, IsTrue};
-ghost use Rattle.edge_model.specs.Causes.{Rose};
+ghost use Rattle.edge_model.specs.Causes.{HasCause, Rose};
 ghost use Rattle.edge_model.specs.OnlyRead.{OnlyRead};
 ghost use Rattle.cipher_profile.specs.Profile.{IsListed};
 ghost use Rattle.page_codec.specs.Page.{keys_of};
@@ -9,12 +9,13 @@ ghost use Rattle.sqlcipher_tool.specs.Answer.{first_of};
 ghost use Rattle.sqlcipher_tool.specs.Opening.{length_causes, key_causes, opened_with, unopened_answer, AreRecovered};
 ghost use Rattle.sqlcipher_tool.specs.Stop.{stop_answer, IsLate, IsOutside};
 ghost use Rattle.sqlcipher_tool.specs.declared.opening.Stop.TheVariants.{DiskFault};
+ghost use Rattle.sqlcipher_tool.specs.declared.opening.ChangeError.TheVariants.{Stopped};
 
 use crate::status::Refusal;
-use cipher_profile::{Profile, Secret};
+use cipher_profile::{Profile, Secret, derive};
 use edge_model::{Disk, Failed};
 use page_codec::Codec;
-use pager::{OpenError, OpenedFile, codec_of};
+use pager::{OpenError, OpenedFile, codec_of, read_main};
 use std::alloc::Global;
 
 /// How many pages are held at once.
@@ -61,6 +62,23 @@ impl From<OpenError> for Stop {
             OpenError::DiskFault => Stop::DiskFault,
             OpenError::OutOfMemory => Stop::OutOfMemory,
         }
+    }
+}
+
+/// Why a file was not changed.
+#[derive(Clone, Copy, Debug, PartialEq, Eq)]
+pub enum ChangeError {
+    /// The command stopped, as one that only reads may.
+    Stopped(Stop),
+    /// The entropy failed.
+    EntropyFault,
+}
+
+impl From<Stop> for ChangeError {
+    ghost from_gives = { λ stop error. error ≡ Stopped stop };
+
+    fn from(stop: Stop) -> ChangeError {
+        ChangeError::Stopped(stop)
     }
 }
 
@@ -131,4 +149,56 @@ pub fn fitting_codec<D: Disk>(
         return Err(Stop::KeyRefused);
     }
     Ok(codec)
+}
+
+/// Opens Main with this secret, with a second codec of the same keys for a transaction.
+pub fn open_to_change<D: Disk>(
+    alloc: Global,
+    disk: &mut D,
+    profile: Profile,
+    secret: &Secret,
+) -> Result<(OpenedFile, Codec), Stop>
+    requires listed { IsListed profile }
+    requires recovered { IsTrue D.tells → AreRecovered (D.reads disk.old) (D.images disk.old) }
+    ensures opens { IfOk result (λ both. IsTrue D.tells
+        → opened_with profile secret.now (main_of (D.reads disk.old)) ≡ Ok (record { header = both.0.header; count = both.0.count })) }
+    ensures codec { IfOk result (λ both. IsTrue D.tells → both.0.codec ≡ keys_of profile secret.now (main_of (D.reads disk.old))) }
+    ensures same { IfOk result (λ both. both.1 ≡ both.0.codec) }
+    ensures profile { IfOk result (λ both. both.0.codec.profile ≡ profile) }
+    ensures stop { IfErr result (λ stop. IsTrue D.tells
+        → IsOutside stop ⊎ (stop_answer stop ≡ unopened_answer (opened_with profile secret.now (main_of (D.reads disk.old))))) }
+    ensures late { IfErr result IsLate }
+    ensures cause { IfErr result (λ stop. stop ≡ Stop.DiskFault → Rose (D.faults disk.old) (D.faults disk.new)) }
+    ensures later { D.faults disk.old ≤ D.faults disk.new }
+    ensures only_read { IsTrue D.tells → OnlyRead D.reads D.images D.moment D.since disk.old disk.new }
+{
+    pager::served_length(disk, &profile)?;
+    let (read, write) = two_codecs(disk, profile, secret)?;
+    match OpenedFile::read(alloc, disk, read, FRAMES) {
+        Ok(file) => Ok((file, write)),
+        Err(error) => Err(Stop::from(error)),
+    }
+}
+
+// The codec that the secret gives for Main, twice. The keys are derived once.
+fn two_codecs<D: Disk>(
+    disk: &mut D,
+    profile: Profile,
+    secret: &Secret,
+) -> Result<(Codec, Codec), Failed>
+    requires listed { IsListed profile }
+    requires some { IsTrue D.tells → profile.page_size ≤ length (main_of (D.reads disk.old)) }
+    ensures codec { IfOk result (λ both. IsTrue D.tells → both.0 ≡ keys_of profile secret.now (main_of (D.reads disk.old))) }
+    ensures same { IfOk result (λ both. both.1 ≡ both.0) }
+    ensures profile { IfOk result (λ both. both.0.profile ≡ profile) }
+    ensures cause { HasCause (D.faults disk.old) (D.faults disk.new) result }
+    ensures only_read { IsTrue D.tells → OnlyRead D.reads D.images D.moment D.since disk.old disk.new }
+{
+    let mut salt = [0u8; 16];
+    read_main(disk, 0, &mut salt)?;
+    let keys = derive(secret, &profile, &salt);
+    Ok((
+        Codec::new(profile, keys, salt),
+        Codec::new(profile, keys, salt),
+    ))
 }

@@ -347,7 +347,7 @@ pub fn codec_of_file(
 }
 
 // The sealed file of the profile under a key line, with these bytes put into plain page 1.
-fn sealed(
+pub fn sealed(
     rt: &impl Abort,
     alloc: Global,
     word: &str,

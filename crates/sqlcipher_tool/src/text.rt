@@ -3,7 +3,7 @@ ghost use Rattle.std.specs.Prelude.{◌≡◌, ◌+◌, ◌≤◌, ◌++◌, ◌
 ghost use Rattle.std.specs.Fmt.{signed_decimal};
 ghost use Rattle.edge_model.specs.Causes.{HasCause};
 ghost use Rattle.sqlcipher_tool.specs.Answer.{PutsPart};
-ghost use Rattle.sqlcipher_tool.specs.Text.{defect_text, of_page, verify_report, refusal_text, refusal_line, tags_report, probe_report, recovery_line, field_line, header_report, usage_line, key_refused_line};
+ghost use Rattle.sqlcipher_tool.specs.Text.{defect_text, of_page, verify_report, refusal_text, refusal_line, tags_report, probe_report, recovery_line, stamped_report, field_line, header_report, usage_line, key_refused_line};
 
 use crate::status::Refusal;
 use db_format::{Defect, Header};
@@ -230,6 +230,15 @@ pub fn recovery_line(recovery: &Recovery) -> Text
         Recovery::Cold => text.push(b"cold\n"),
         Recovery::Played { records } => text.push_around(b"played: ", *records, b"\n"),
     }
+    text
+}
+
+/// The line of a field that was stamped.
+pub fn stamped_report() -> Text
+    ensures { result ≡ stamped_report }
+{
+    let mut text = Text::new();
+    text.push(b"stamped\n");
     text
 }
 

@@ -1,17 +1,18 @@
 // The top call.
-ghost use Rattle.std.specs.Prelude.{◌≡◌, ◌⊎◌, ◌≤◌, ◌∷◌, ℕ, List, [], true, false, None, Some, Ok, Err, IsTrue, IsErr};
+ghost use Rattle.pager.specs.File.{main_of};
+ghost use Rattle.std.specs.Prelude.{◌≡◌, ◌⊎◌, ◌≤◌, ◌∷◌, ℕ, List, [], drop, length, true, false, None, Some, Ok, Err, IsTrue, IsErr};
 ghost use Rattle.edge_model.specs.Causes.{Rose};
 ghost use Rattle.cipher_profile.specs.declared.key_line.KeyError.{KeyError as KeyRefusal};
 ghost use Rattle.cipher_profile.specs.declared.keys.Secret.{Secret as Key};
-ghost use Rattle.sqlcipher_tool.specs.Answer.{IsEarly, Puts, PutsLine, HasCauses};
-ghost use Rattle.sqlcipher_tool.specs.Crash.{Keeps, Changes};
+ghost use Rattle.sqlcipher_tool.specs.Answer.{IsEarly, Puts, PutsLine, HasDrawnCauses};
+ghost use Rattle.sqlcipher_tool.specs.Crash.{Keeps, Changes, GaveKeys, HasOwnDraws};
 ghost use Rattle.sqlcipher_tool.specs.Due.{due, key_answer, key_lines, word_refusal, asked_answers, keyed_answers, secret_answers};
 ghost use Rattle.sqlcipher_tool.specs.Holding.{disk_run};
 ghost use Rattle.sqlcipher_tool.specs.Promises.{AnswersOne, AreWordsThat, ComesLate, IsAnsweredEarly, IsUnrecovered, TakesLines, WhereTaken, takes_keys};
 ghost use Rattle.sqlcipher_tool.specs.Text.{usage_line};
 ghost use Rattle.sqlcipher_tool.specs.declared.command.Command.{Command as Asked};
 ghost use Rattle.sqlcipher_tool.specs.declared.status.Refusal.{Refusal as Refused};
-ghost use Rattle.sqlcipher_tool.specs.Words.{form, texts, keys_taken, lacks_tags, recovers, IsServed};
+ghost use Rattle.sqlcipher_tool.specs.Words.{draws, form, texts, keys_taken, lacks_tags, recovers, IsServed};
 
 use crate::command::{Command, parse_words};
 use crate::conclusion::{conclude, conclude_refusal};
@@ -19,6 +20,7 @@ use crate::header::header;
 use crate::job::{Job, answer_job};
 use crate::probe::probe;
 use crate::recovery::report_recovery;
+use crate::stamp::stamp;
 use crate::status::{Refusal, Status};
 use crate::tags::tags;
 use crate::text::usage_line;
@@ -50,11 +52,12 @@ pub fn run<K: Source, S: Sink, E: Entropy, D: Disk>(
     ensures input_fault { result ≡ Status.InputFault → Rose (K.faults input.old) (K.faults input.new) × AreWordsThat takes_keys (texts words.now) }
     ensures output_fault { result ≡ Status.OutputFault → Rose (S.faults out.old) (S.faults out.new) }
     ensures disk_fault { result ≡ Status.DiskFault → Rose (D.faults disk.old) (D.faults disk.new) }
-    ensures entropy_fault { result ≡ Status.EntropyFault → ⊥ }
+    ensures entropy_fault { result ≡ Status.EntropyFault → Rose (E.faults entropy.old) (E.faults entropy.new) × AreWordsThat draws (texts words.now) }
     ensures memory { result ≡ Status.OutOfMemory → ComesLate (texts words.now) K.tells (K.left input.old) }
     ensures input_later { K.faults input.old ≤ K.faults input.new }
     ensures output_later { S.faults out.old ≤ S.faults out.new }
     ensures disk_later { D.faults disk.old ≤ D.faults disk.new }
+    ensures entropy_later { E.faults entropy.old ≤ E.faults entropy.new }
 
     // What is printed, where the input or the disk does not tell.
     ensures usage_text { IsTrue S.tells → form (texts words.now) ≡ None → Puts result usage_line (S.taken out.old) (S.taken out.new) }
@@ -70,14 +73,16 @@ pub fn run<K: Source, S: Sink, E: Entropy, D: Disk>(
     ensures early_first { IsEarly result → disk.new ≡ disk.old }
     ensures fault_first { result ≡ Status.InputFault → disk.new ≡ disk.old }
     ensures takes { IsTrue K.tells → WhereTaken (texts words.now) (λ command. TakesLines result (keys_taken command) (K.left input.old) (K.left input.new)) }
-    ensures draws { entropy.new ≡ entropy.old }
+    ensures draws { (AreWordsThat draws (texts words.now) → ⊥) → entropy.new ≡ entropy.old }
+    ensures own_draws { IsTrue D.tells → IsTrue E.tells → result ≡ Status.Done → (command : Asked) → form (texts words.now) ≡ Some command
+        → HasOwnDraws command (GaveKeys K.tells (key_lines (keys_taken command) (K.left input.old))) (main_of (D.reads disk.new)) (drop (length (E.drawn entropy.old)) (E.drawn entropy.new)) }
 
     // The disk, at every moment of the run and after every status.
     ensures unrecovered { IsTrue D.tells → IsUnrecovered result → D.reads disk.new ≡ D.reads disk.old }
     ensures keeps { IsTrue D.tells → (command : Asked) → form (texts words.now) ≡ Some command
         → Keeps command (disk_run D.reads D.images D.moment D.since disk.old disk.new) }
     ensures changes { IsTrue D.tells → (command : Asked) → form (texts words.now) ≡ Some command
-        → Changes result command (disk_run D.reads D.images D.moment D.since disk.old disk.new) }
+        → Changes result command (GaveKeys K.tells (key_lines (keys_taken command) (K.left input.old))) (disk_run D.reads D.images D.moment D.since disk.old disk.new) }
 {
     match parse_words(words) {
         None => conclude(out, &usage_line(), Status::Usage),
@@ -104,7 +109,7 @@ fn serve<K: Source, S: Sink, E: Entropy, D: Disk>(
     ensures input_fault { result ≡ Status.InputFault → Rose (K.faults input.old) (K.faults input.new) × (takes_keys command ≡ true) }
     ensures output_fault { result ≡ Status.OutputFault → Rose (S.faults out.old) (S.faults out.new) }
     ensures disk_fault { result ≡ Status.DiskFault → Rose (D.faults disk.old) (D.faults disk.new) }
-    ensures entropy_fault { result ≡ Status.EntropyFault → ⊥ }
+    ensures entropy_fault { result ≡ Status.EntropyFault → Rose (E.faults entropy.old) (E.faults entropy.new) × (draws command ≡ true) }
     ensures memory { result ≡ Status.OutOfMemory → (recovers command ≡ true) × (word_refusal command ≡ None)
         × (IsTrue K.tells → (secrets : List Key) × (key_lines (keys_taken command) (K.left input.old) ≡ Ok secrets)) }
     ensures line { IsTrue S.tells → PutsLine result (S.taken out.old) (S.taken out.new) }
@@ -114,13 +119,17 @@ fn serve<K: Source, S: Sink, E: Entropy, D: Disk>(
     ensures early_first { IsEarly result → disk.new ≡ disk.old }
     ensures fault_first { result ≡ Status.InputFault → disk.new ≡ disk.old }
     ensures takes { IsTrue K.tells → word_refusal command ≡ None → TakesLines result (keys_taken command) (K.left input.old) (K.left input.new) }
-    ensures draws { entropy.new ≡ entropy.old }
+    ensures draws { draws command ≡ false → entropy.new ≡ entropy.old }
+    ensures own_draws { IsTrue D.tells → IsTrue E.tells → result ≡ Status.Done
+        → HasOwnDraws command (GaveKeys K.tells (key_lines (keys_taken command) (K.left input.old))) (main_of (D.reads disk.new)) (drop (length (E.drawn entropy.old)) (E.drawn entropy.new)) }
     ensures unrecovered { IsTrue D.tells → IsUnrecovered result → D.reads disk.new ≡ D.reads disk.old }
     ensures keeps { IsTrue D.tells → Keeps command (disk_run D.reads D.images D.moment D.since disk.old disk.new) }
-    ensures changes { IsTrue D.tells → Changes result command (disk_run D.reads D.images D.moment D.since disk.old disk.new) }
+    ensures changes { IsTrue D.tells
+        → Changes result command (GaveKeys K.tells (key_lines (keys_taken command) (K.left input.old))) (disk_run D.reads D.images D.moment D.since disk.old disk.new) }
     ensures input_later { K.faults input.old ≤ K.faults input.new }
     ensures output_later { S.faults out.old ≤ S.faults out.new }
     ensures disk_later { D.faults disk.old ≤ D.faults disk.new }
+    ensures entropy_later { E.faults entropy.old ≤ E.faults entropy.new }
 {
     if command.lacks_tags() {
         return conclude_refusal(out, Refusal::NoTags);
@@ -131,7 +140,8 @@ fn serve<K: Source, S: Sink, E: Entropy, D: Disk>(
         | Command::Header(_)
         | Command::Verify(_)
         | Command::Export(_)
-        | Command::Probe => serve_keyed(alloc, command, input, out, entropy, disk),
+        | Command::Probe
+        | Command::Stamp { .. } => serve_keyed(alloc, command, input, out, entropy, disk),
     }
 }
 
@@ -154,7 +164,7 @@ fn serve_keyed<K: Source, S: Sink, E: Entropy, D: Disk>(
     ensures input_fault { result ≡ Status.InputFault → Rose (K.faults input.old) (K.faults input.new) }
     ensures output_fault { result ≡ Status.OutputFault → Rose (S.faults out.old) (S.faults out.new) }
     ensures disk_fault { result ≡ Status.DiskFault → Rose (D.faults disk.old) (D.faults disk.new) }
-    ensures entropy_fault { result ≡ Status.EntropyFault → ⊥ }
+    ensures entropy_fault { result ≡ Status.EntropyFault → Rose (E.faults entropy.old) (E.faults entropy.new) × (draws command ≡ true) }
     ensures memory { result ≡ Status.OutOfMemory → recovers command ≡ true }
     ensures memory_keys { result ≡ Status.OutOfMemory → IsTrue K.tells → (secrets : List Key) × (key_lines 1 (K.left input.old) ≡ Ok secrets) }
     ensures line { IsTrue S.tells → PutsLine result (S.taken out.old) (S.taken out.new) }
@@ -163,9 +173,14 @@ fn serve_keyed<K: Source, S: Sink, E: Entropy, D: Disk>(
     ensures early_first { IsEarly result → disk.new ≡ disk.old }
     ensures fault_first { result ≡ Status.InputFault → disk.new ≡ disk.old }
     ensures takes { IsTrue K.tells → TakesLines result 1 (K.left input.old) (K.left input.new) }
-    ensures draws { entropy.new ≡ entropy.old }
+    ensures draws { draws command ≡ false → entropy.new ≡ entropy.old }
+    ensures own_draws { IsTrue D.tells → IsTrue E.tells → result ≡ Status.Done
+        → HasOwnDraws command (GaveKeys K.tells (key_lines 1 (K.left input.old))) (main_of (D.reads disk.new)) (drop (length (E.drawn entropy.old)) (E.drawn entropy.new)) }
     ensures unrecovered { IsTrue D.tells → IsUnrecovered result → D.reads disk.new ≡ D.reads disk.old }
     ensures keeps { IsTrue D.tells → Keeps command (disk_run D.reads D.images D.moment D.since disk.old disk.new) }
+    ensures changes { IsTrue D.tells
+        → Changes result command (GaveKeys K.tells (key_lines 1 (K.left input.old))) (disk_run D.reads D.images D.moment D.since disk.old disk.new) }
+    ensures entropy_later { E.faults entropy.old ≤ E.faults entropy.new }
     ensures input_later { K.faults input.old ≤ K.faults input.new }
     ensures output_later { S.faults out.old ≤ S.faults out.new }
     ensures disk_later { D.faults disk.old ≤ D.faults disk.new }
@@ -195,10 +210,14 @@ fn carry_out<S: Sink, E: Entropy, D: Disk>(
         → AnswersOne (secret_answers command (secret.now ∷ []) (D.reads disk.old)) result S.tells (S.taken out.old) (S.taken out.new) }
     ensures line { IsTrue S.tells → PutsLine result (S.taken out.old) (S.taken out.new) }
     ensures memory { result ≡ Status.OutOfMemory → recovers command ≡ true }
-    ensures causes { HasCauses result (D.faults disk.old) (D.faults disk.new) (S.faults out.old) (S.faults out.new) }
-    ensures draws { entropy.new ≡ entropy.old }
+    ensures causes { HasDrawnCauses result (draws command) (D.faults disk.old) (D.faults disk.new) (S.faults out.old) (S.faults out.new) (E.faults entropy.old) (E.faults entropy.new) }
+    ensures draws { draws command ≡ false → entropy.new ≡ entropy.old }
+    ensures own_draws { IsTrue D.tells → IsTrue E.tells → result ≡ Status.Done
+        → HasOwnDraws command (λ secrets. secrets ≡ secret.now ∷ []) (main_of (D.reads disk.new)) (drop (length (E.drawn entropy.old)) (E.drawn entropy.new)) }
     ensures unrecovered { IsTrue D.tells → IsUnrecovered result → D.reads disk.new ≡ D.reads disk.old }
     ensures keeps { IsTrue D.tells → Keeps command (disk_run D.reads D.images D.moment D.since disk.old disk.new) }
+    ensures changes { IsTrue D.tells
+        → Changes result command (λ secrets. secrets ≡ secret.now ∷ []) (disk_run D.reads D.images D.moment D.since disk.old disk.new) }
 {
     match command {
         Command::Tags(profile) => tags(alloc, profile, secret, out, disk),
@@ -211,5 +230,10 @@ fn carry_out<S: Sink, E: Entropy, D: Disk>(
         }
         Command::Probe => probe(secret, out, disk),
         Command::Recover(profile) => report_recovery(alloc, profile, out, disk),
+        Command::Stamp {
+            profile,
+            field,
+            value,
+        } => stamp(alloc, profile, field, value, secret, out, entropy, disk),
     }
 }

@@ -1,5 +1,11 @@
-use Rattle.std.proofs.Common.{◌∷◌, [], sym, ap, subst}
-use Rattle.sqlcipher_tool.specs.Crash.{Keeps}
+use Rattle.std.proofs.Common.{◌≡◌, List, drop, length, refl, ◌∷◌, [], sym, ap, subst}
+use Rattle.cipher_profile.specs.declared.keys.Secret.{Secret}
+use Rattle.pager.specs.File.{main_of}
+use Rattle.sqlcipher_tool.specs.Crash.{IsDrawnFor, IsSafely, Keeps}
+use Rattle.sqlcipher_tool.specs.Renewal.{same_key}
+use Rattle.sqlcipher_tool.specs.Words.{draws}
+use Rattle.sqlcipher_tool.specs.declared.command.Command.TheVariants.{Tags, Header, Verify, Export, Probe, Recover, Stamp}
+use Rattle.sqlcipher_tool.proofs.Asked.{causes_as, changes_as, draws_as, no_draws, undrawn}
 use Rattle.sqlcipher_tool.specs.Due.{secret_answers}
 use Rattle.sqlcipher_tool.specs.Header.{header_answer}
 use Rattle.sqlcipher_tool.specs.Holding.{disk_run}
@@ -89,3 +95,102 @@ returns-in-Recover-clause-keeps g c = λ told.
     let run = disk_run g.D.Disk.reads g.D.Disk.images g.D.Disk.moment g.D.Disk.since c.args.disk.now c.report_recovery.new.disk in
     subst (λ (command : Asked). Keeps command run) (sym c.in-Recover.is)
     (keeps_held c.in-Recover.profile.page_size run (λ image ever. (c.report_recovery.ensures.keeps told).each image ever))
+
+pub returns-in-Tags-clause-causes : goal.returns-in-Tags-clause-causes
+returns-in-Tags-clause-causes g c = undrawn c.tags.result (draws c.args.command) _ _ _ _ (g.E.Entropy.faults c.args.entropy.now) (g.E.Entropy.faults c.args.entropy.now) c.tags.ensures.causes refl
+
+pub returns-in-Tags-clause-own_draws : goal.returns-in-Tags-clause-own_draws
+returns-in-Tags-clause-own_draws g c = λ told drawing done. no_draws c.args.command (Tags c.in-Tags.profile) c.in-Tags.is (λ secrets. refl) (λ secrets. secrets ≡ c.args.secret.now ∷ [])
+    (main_of (g.D.Disk.reads c.tags.new.disk)) (drop (length (g.E.Entropy.drawn c.args.entropy.now)) (g.E.Entropy.drawn c.args.entropy.now))
+
+pub returns-in-Tags-clause-changes : goal.returns-in-Tags-clause-changes
+returns-in-Tags-clause-changes g c = λ told.
+    let run = disk_run g.D.Disk.reads g.D.Disk.images g.D.Disk.moment g.D.Disk.since c.args.disk.now c.tags.new.disk in
+    changes_as c.tags.result c.args.command (Tags c.in-Tags.profile) (λ secrets. secrets ≡ c.args.secret.now ∷ []) run c.in-Tags.is tt
+
+pub returns-in-Header-clause-causes : goal.returns-in-Header-clause-causes
+returns-in-Header-clause-causes g c = undrawn c.header.result (draws c.args.command) _ _ _ _ (g.E.Entropy.faults c.args.entropy.now) (g.E.Entropy.faults c.header.new.entropy) c.header.ensures.causes (ap g.E.Entropy.faults c.header.ensures.draws)
+
+pub returns-in-Header-clause-own_draws : goal.returns-in-Header-clause-own_draws
+returns-in-Header-clause-own_draws g c = λ told drawing done. no_draws c.args.command (Header c.in-Header.profile) c.in-Header.is (λ secrets. refl) (λ secrets. secrets ≡ c.args.secret.now ∷ [])
+    (main_of (g.D.Disk.reads c.header.new.disk)) (drop (length (g.E.Entropy.drawn c.args.entropy.now)) (g.E.Entropy.drawn c.header.new.entropy))
+
+pub returns-in-Header-clause-changes : goal.returns-in-Header-clause-changes
+returns-in-Header-clause-changes g c = λ told.
+    let run = disk_run g.D.Disk.reads g.D.Disk.images g.D.Disk.moment g.D.Disk.since c.args.disk.now c.header.new.disk in
+    changes_as c.header.result c.args.command (Header c.in-Header.profile) (λ secrets. secrets ≡ c.args.secret.now ∷ []) run c.in-Header.is tt
+
+pub returns-in-Verify-clause-causes : goal.returns-in-Verify-clause-causes
+returns-in-Verify-clause-causes g c = undrawn c.answer_job.result (draws c.args.command) _ _ _ _ (g.E.Entropy.faults c.args.entropy.now) (g.E.Entropy.faults c.answer_job.new.entropy) c.answer_job.ensures.causes (ap g.E.Entropy.faults c.answer_job.ensures.draws)
+
+pub returns-in-Verify-clause-own_draws : goal.returns-in-Verify-clause-own_draws
+returns-in-Verify-clause-own_draws g c = λ told drawing done. no_draws c.args.command (Verify c.in-Verify.profile) c.in-Verify.is (λ secrets. refl) (λ secrets. secrets ≡ c.args.secret.now ∷ [])
+    (main_of (g.D.Disk.reads c.answer_job.new.disk)) (drop (length (g.E.Entropy.drawn c.args.entropy.now)) (g.E.Entropy.drawn c.answer_job.new.entropy))
+
+pub returns-in-Verify-clause-changes : goal.returns-in-Verify-clause-changes
+returns-in-Verify-clause-changes g c = λ told.
+    let run = disk_run g.D.Disk.reads g.D.Disk.images g.D.Disk.moment g.D.Disk.since c.args.disk.now c.answer_job.new.disk in
+    changes_as c.answer_job.result c.args.command (Verify c.in-Verify.profile) (λ secrets. secrets ≡ c.args.secret.now ∷ []) run c.in-Verify.is tt
+
+pub returns-in-Export-clause-causes : goal.returns-in-Export-clause-causes
+returns-in-Export-clause-causes g c = undrawn c.answer_job-in-Export.result (draws c.args.command) _ _ _ _ (g.E.Entropy.faults c.args.entropy.now) (g.E.Entropy.faults c.answer_job-in-Export.new.entropy) c.answer_job-in-Export.ensures.causes (ap g.E.Entropy.faults c.answer_job-in-Export.ensures.draws)
+
+pub returns-in-Export-clause-own_draws : goal.returns-in-Export-clause-own_draws
+returns-in-Export-clause-own_draws g c = λ told drawing done. no_draws c.args.command (Export c.in-Export.profile) c.in-Export.is (λ secrets. refl) (λ secrets. secrets ≡ c.args.secret.now ∷ [])
+    (main_of (g.D.Disk.reads c.answer_job-in-Export.new.disk)) (drop (length (g.E.Entropy.drawn c.args.entropy.now)) (g.E.Entropy.drawn c.answer_job-in-Export.new.entropy))
+
+pub returns-in-Export-clause-changes : goal.returns-in-Export-clause-changes
+returns-in-Export-clause-changes g c = λ told.
+    let run = disk_run g.D.Disk.reads g.D.Disk.images g.D.Disk.moment g.D.Disk.since c.args.disk.now c.answer_job-in-Export.new.disk in
+    changes_as c.answer_job-in-Export.result c.args.command (Export c.in-Export.profile) (λ secrets. secrets ≡ c.args.secret.now ∷ []) run c.in-Export.is tt
+
+pub returns-in-Probe-clause-causes : goal.returns-in-Probe-clause-causes
+returns-in-Probe-clause-causes g c = undrawn c.probe.result (draws c.args.command) _ _ _ _ (g.E.Entropy.faults c.args.entropy.now) (g.E.Entropy.faults c.args.entropy.now) c.probe.ensures.causes refl
+
+pub returns-in-Probe-clause-own_draws : goal.returns-in-Probe-clause-own_draws
+returns-in-Probe-clause-own_draws g c = λ told drawing done. no_draws c.args.command (Probe) c.in-Probe.is (λ secrets. refl) (λ secrets. secrets ≡ c.args.secret.now ∷ [])
+    (main_of (g.D.Disk.reads c.probe.new.disk)) (drop (length (g.E.Entropy.drawn c.args.entropy.now)) (g.E.Entropy.drawn c.args.entropy.now))
+
+pub returns-in-Probe-clause-changes : goal.returns-in-Probe-clause-changes
+returns-in-Probe-clause-changes g c = λ told.
+    let run = disk_run g.D.Disk.reads g.D.Disk.images g.D.Disk.moment g.D.Disk.since c.args.disk.now c.probe.new.disk in
+    changes_as c.probe.result c.args.command (Probe) (λ secrets. secrets ≡ c.args.secret.now ∷ []) run c.in-Probe.is tt
+
+pub returns-in-Recover-clause-causes : goal.returns-in-Recover-clause-causes
+returns-in-Recover-clause-causes g c = undrawn c.report_recovery.result (draws c.args.command) _ _ _ _ (g.E.Entropy.faults c.args.entropy.now) (g.E.Entropy.faults c.args.entropy.now) c.report_recovery.ensures.causes refl
+
+pub returns-in-Recover-clause-own_draws : goal.returns-in-Recover-clause-own_draws
+returns-in-Recover-clause-own_draws g c = λ told drawing done. no_draws c.args.command (Recover c.in-Recover.profile) c.in-Recover.is (λ secrets. refl) (λ secrets. secrets ≡ c.args.secret.now ∷ [])
+    (main_of (g.D.Disk.reads c.report_recovery.new.disk)) (drop (length (g.E.Entropy.drawn c.args.entropy.now)) (g.E.Entropy.drawn c.args.entropy.now))
+
+pub returns-in-Recover-clause-changes : goal.returns-in-Recover-clause-changes
+returns-in-Recover-clause-changes g c = λ told.
+    let run = disk_run g.D.Disk.reads g.D.Disk.images g.D.Disk.moment g.D.Disk.since c.args.disk.now c.report_recovery.new.disk in
+    changes_as c.report_recovery.result c.args.command (Recover c.in-Recover.profile) (λ secrets. secrets ≡ c.args.secret.now ∷ []) run c.in-Recover.is (c.report_recovery.ensures.done told)
+
+pub returns-in-Stamp-clause-answer : goal.returns-in-Stamp-clause-answer
+returns-in-Stamp-clause-answer g c = λ told.
+    subst (λ (command : Asked). AnswersOne (secret_answers command (c.args.secret.now ∷ []) (g.D.Disk.reads c.args.disk.now)) c.stamp.result g.S.Sink.tells (g.S.Sink.taken c.args.out.now) (g.S.Sink.taken c.stamp.new.out))
+    (sym c.in-Stamp.is) (c.stamp.ensures.answer told)
+
+pub returns-in-Stamp-clause-causes : goal.returns-in-Stamp-clause-causes
+returns-in-Stamp-clause-causes g c = causes_as c.stamp.result c.args.command (Stamp c.in-Stamp.profile c.in-Stamp.field c.in-Stamp.value) _ _ _ _ _ _ c.in-Stamp.is c.stamp.ensures.causes
+
+pub returns-in-Stamp-clause-own_draws : goal.returns-in-Stamp-clause-own_draws
+returns-in-Stamp-clause-own_draws g c = λ told drawing done.
+    let file = main_of (g.D.Disk.reads c.stamp.new.disk) in
+    let drawn = drop (length (g.E.Entropy.drawn c.args.entropy.now)) (g.E.Entropy.drawn c.stamp.new.entropy) in
+    let command = Stamp c.in-Stamp.profile c.in-Stamp.field c.in-Stamp.value in
+    draws_as c.args.command command (λ secrets. secrets ≡ c.args.secret.now ∷ []) file drawn c.in-Stamp.is
+    (λ secrets gave. subst (λ (l : List Secret). IsDrawnFor command (same_key c.in-Stamp.profile l) file drawn) (sym gave) (c.stamp.ensures.own_draws told drawing done))
+
+pub returns-in-Stamp-clause-keeps : goal.returns-in-Stamp-clause-keeps
+returns-in-Stamp-clause-keeps g c = λ told. subst (λ (command : Asked). Keeps command (disk_run g.D.Disk.reads g.D.Disk.images g.D.Disk.moment g.D.Disk.since c.args.disk.now c.stamp.new.disk)) (sym c.in-Stamp.is)
+    (λ image ever. (c.stamp.ensures.fresh told).each image ever)
+
+pub returns-in-Stamp-clause-changes : goal.returns-in-Stamp-clause-changes
+returns-in-Stamp-clause-changes g c = λ told.
+    let run = disk_run g.D.Disk.reads g.D.Disk.images g.D.Disk.moment g.D.Disk.since c.args.disk.now c.stamp.new.disk in
+    let command = Stamp c.in-Stamp.profile c.in-Stamp.field c.in-Stamp.value in
+    changes_as c.stamp.result c.args.command command (λ secrets. secrets ≡ c.args.secret.now ∷ []) run c.in-Stamp.is
+    (λ secrets gave. subst (λ (l : List Secret). IsSafely c.stamp.result command run (same_key c.in-Stamp.profile l)) (sym gave) (c.stamp.ensures.changes told))

@@ -1,11 +1,14 @@
-use Rattle.std.proofs.Common.{◌≡◌, true, Some, sym, ap, subst, rules, if◌then◌else◌, Bool, None}
-use Rattle.sqlcipher_tool.specs.Crash.{Changes, Keeps}
-use Rattle.sqlcipher_tool.specs.Due.{asked_answers, word_refusal}
+use Rattle.std.proofs.Common.{◌≡◌, drop, length, refl, true, Some, sym, ap, subst, rules, if◌then◌else◌, Bool, None}
+use Rattle.pager.specs.File.{main_of}
+use Rattle.sqlcipher_tool.specs.Crash.{GaveKeys, Keeps}
+use Rattle.sqlcipher_tool.specs.Due.{asked_answers, key_lines, word_refusal}
 use Rattle.sqlcipher_tool.specs.Holding.{disk_run}
 use Rattle.sqlcipher_tool.specs.Answer.{refused}
 use Rattle.sqlcipher_tool.specs.Promises.{AnswersOne}
 use Rattle.sqlcipher_tool.specs.Recovered.{recovery_answer, recovery_of}
-use Rattle.sqlcipher_tool.specs.Words.{lacks_tags}
+use Rattle.sqlcipher_tool.specs.Words.{keys_taken, lacks_tags}
+use Rattle.sqlcipher_tool.specs.declared.command.Command.TheVariants.{Recover}
+use Rattle.sqlcipher_tool.proofs.Asked.{changes_as, no_draws, refusal_not_done, unchanged_changes, unchanged_keeps}
 use Rattle.sqlcipher_tool.specs.declared.command.Command.{Command as Asked}
 use Rattle.sqlcipher_tool.specs.declared.status.Refusal.TheVariants.{NoTags}
 use Rattle.sqlcipher_tool.proofs.Answered.{answers_one, keeps_held, printed_one}
@@ -47,4 +50,20 @@ returns-in-Recover-clause-keeps g c = λ told.
 pub returns-in-Recover-clause-changes : goal.returns-in-Recover-clause-changes
 returns-in-Recover-clause-changes g c = λ told.
     let run = disk_run g.D.Disk.reads g.D.Disk.images g.D.Disk.moment g.D.Disk.since c.args.disk.now c.report_recovery.new.disk in
-    subst (λ (command : Asked). Changes c.report_recovery.result command run) (sym c.in-Recover.is) (c.report_recovery.ensures.done told)
+    changes_as c.report_recovery.result c.args.command (Recover c.in-Recover.profile)
+    (λ secrets. GaveKeys g.K.Source.tells (key_lines (keys_taken c.args.command) (g.K.Source.left c.args.input.now)) secrets) run c.in-Recover.is (c.report_recovery.ensures.done told)
+
+pub returns-in-Recover-clause-own_draws : goal.returns-in-Recover-clause-own_draws
+returns-in-Recover-clause-own_draws g c = λ told drawing done. no_draws c.args.command (Recover c.in-Recover.profile) c.in-Recover.is (λ secrets. refl)
+    (λ secrets. GaveKeys g.K.Source.tells (key_lines (keys_taken c.args.command) (g.K.Source.left c.args.input.now)) secrets)
+    (main_of (g.D.Disk.reads c.report_recovery.new.disk)) (drop (length (g.E.Entropy.drawn c.args.entropy.now)) (g.E.Entropy.drawn c.args.entropy.now))
+
+pub returns-then-lacks_tags-clause-keeps : goal.returns-then-lacks_tags-clause-keeps
+returns-then-lacks_tags-clause-keeps g c = λ told. unchanged_keeps g.D.Disk.reads g.D.Disk.images g.D.Disk.moment g.D.Disk.since g.met.D.Disk.only_now c.args.command c.args.disk.now
+
+pub returns-then-lacks_tags-clause-changes : goal.returns-then-lacks_tags-clause-changes
+returns-then-lacks_tags-clause-changes g c = λ told. unchanged_changes g.D.Disk.reads g.D.Disk.images g.D.Disk.moment g.D.Disk.since g.met.D.Disk.only_now c.conclude_refusal.result c.args.command
+    (λ secrets. GaveKeys g.K.Source.tells (key_lines (keys_taken c.args.command) (g.K.Source.left c.args.input.now)) secrets) c.args.disk.now (refusal_not_done NoTags c.conclude_refusal.result c.conclude_refusal.ensures.status)
+
+pub returns-then-lacks_tags-clause-own_draws : goal.returns-then-lacks_tags-clause-own_draws
+returns-then-lacks_tags-clause-own_draws g c = λ told drawing done. absurd (refusal_not_done NoTags c.conclude_refusal.result c.conclude_refusal.ensures.status done)

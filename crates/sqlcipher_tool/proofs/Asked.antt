@@ -1,0 +1,118 @@
+-- What a command that was asked for keeps, changes and draws, by cases on the command.
+use Rattle.std.proofs.Common.{◌≡◌, ◌⊎◌, ⊎_elim, inl, ◌≤◌, ℕ, Bool, true, false, List, [], ◌∷◌, Option, Some, None, Result, Ok, Err, IsTrue, refl, sym, ap, subst, ◌∙◌, arith}
+use Rattle.cipher_profile.specs.declared.key_line.KeyError.{KeyError}
+use Rattle.cipher_profile.specs.declared.keys.Secret.{Secret}
+use Rattle.edge_model.specs.Files.{Files}
+use Rattle.edge_model.specs.Images.{Each, From}
+use Rattle.rollback_journal.specs.Recovery.{Keeps as KeepsRecovered}
+use Rattle.sqlcipher_tool.specs.Answer.{HasCauses, HasDrawnCauses}
+use Rattle.sqlcipher_tool.specs.Crash.{Changes, GaveKeys, HasOwnDraws, IsDrawnFor, IsSafely, Keeps, KeepsHeld, Stays}
+use Rattle.sqlcipher_tool.specs.Holding.{DiskRun, disk_run}
+use Rattle.sqlcipher_tool.specs.Renewal.{Renewal, renewal, same_key}
+use Rattle.sqlcipher_tool.specs.Words.{draws}
+use Rattle.sqlcipher_tool.specs.declared.command.Command.{Command}
+use Rattle.sqlcipher_tool.specs.declared.command.Command.TheVariants.{Tags, Header, Verify, Export, Probe, Recover, Stamp}
+use Rattle.sqlcipher_tool.specs.declared.status.Refusal.{Refusal}
+use Rattle.sqlcipher_tool.specs.declared.status.Status.{Status}
+use Rattle.sqlcipher_tool.specs.declared.status.Status.TheVariants.{Done, Refused, OutputFault}
+
+abbrev keys_ok : List Secret → Result (List Secret) KeyError
+keys_ok secrets = Ok secrets
+
+-- a refusal is not Done
+pub refusal_not_done : (refusal : Refusal) (status : Status) → (status ≡ Refused refusal) ⊎ (status ≡ OutputFault) → status ≡ Done → ⊥
+refusal_not_done refusal status is done = ⊎_elim (λ (same : status ≡ Refused refusal). refused (sym same ∙ done)) (λ (out : status ≡ OutputFault). output (sym out ∙ done)) is
+  where
+    refused : Refused refusal ≡ Done → ⊥
+    refused is = cc
+
+    output : OutputFault ≡ Done → ⊥
+    output is = cc
+
+ok_same : (a b : List Secret) → keys_ok a ≡ keys_ok b → a ≡ b
+ok_same a b is = cc
+
+-- the one secret that a key line gave
+pub one_secret : (tells : Bool) (lines : Result (List Secret) KeyError) (secret : Secret) → (IsTrue tells → lines ≡ Ok (secret ∷ [])) → (secrets : List Secret)
+    → GaveKeys tells lines secrets → secrets ≡ secret ∷ []
+one_secret tells lines secret is secrets gave = ok_same secrets (secret ∷ []) (sym gave.1 ∙ is gave.0)
+
+-- what holds of all secrets that may have been given holds of those that were
+pub changes_of : (status : Status) (command : Command) (run : DiskRun) (gave given : List Secret → Type 0) → ((secrets : List Secret) → given secrets → gave secrets)
+    → Changes status command gave run → Changes status command given run
+changes_of status (Tags profile) run gave given more was = was
+changes_of status (Header profile) run gave given more was = was
+changes_of status (Verify profile) run gave given more was = was
+changes_of status (Export profile) run gave given more was = was
+changes_of status Probe run gave given more was = was
+changes_of status (Recover profile) run gave given more was = was
+changes_of status (Stamp profile field value) run gave given more was = λ secrets has. was secrets (more secrets has)
+
+pub draws_of : (command : Command) (file drawn : List ℕ) (gave given : List Secret → Type 0) → ((secrets : List Secret) → given secrets → gave secrets)
+    → HasOwnDraws command gave file drawn → HasOwnDraws command given file drawn
+draws_of command file drawn gave given more was = λ secrets has. was secrets (more secrets has)
+
+-- a command that renews no file
+pub no_draws : (command other : Command) → command ≡ other → ((secrets : List Secret) → renewal other secrets ≡ None) → (gave : List Secret → Type 0) (file drawn : List ℕ)
+    → HasOwnDraws command gave file drawn
+no_draws command other is none gave file drawn = λ secrets has.
+    subst (λ (r : Option Renewal). IsDrawnFor command r file drawn) (sym (ap (λ (c : Command). renewal c secrets) is ∙ none secrets)) tt
+
+-- what holds of a command holds of the same one
+pub changes_as : (status : Status) (command other : Command) (gave : List Secret → Type 0) (run : DiskRun) → command ≡ other → Changes status other gave run → Changes status command gave run
+changes_as status command other gave run is was = subst (λ (c : Command). Changes status c gave run) (sym is) was
+
+pub draws_as : (command other : Command) (gave : List Secret → Type 0) (file drawn : List ℕ) → command ≡ other → HasOwnDraws other gave file drawn → HasOwnDraws command gave file drawn
+draws_as command other gave file drawn is was = subst (λ (c : Command). HasOwnDraws c gave file drawn) (sym is) was
+
+pub causes_as : (status : Status) (command other : Command) (a b d e f g : ℕ) → command ≡ other → HasDrawnCauses status (draws other) a b d e f g → HasDrawnCauses status (draws command) a b d e f g
+causes_as status command other a b d e f g is was = subst (λ (c : Command). HasDrawnCauses status (draws c) a b d e f g) (sym is) was
+
+-- the causes of a command that draws nothing
+pub undrawn : (status : Status) (draws : Bool) (a b d e f g : ℕ) → HasCauses status a b d e → g ≡ f → HasDrawnCauses status draws a b d e f g
+undrawn status draws a b d e f g causes same = record {
+  disk = causes.disk;
+  output = causes.output;
+  entropy = λ is. absurd (causes.entropy is);
+  input = causes.input;
+  usage = causes.usage;
+  late = causes.late;
+  disk_later = causes.disk_later;
+  output_later = causes.output_later;
+  entropy_later = omega (arith, same);
+}
+
+-- ---- no call of the disk
+
+module _ {D : Type 0} (reads : D → Files) (images : D → Files → Type 0) (moment : D → ℕ) (since : D → ℕ → Files → Type 0)
+    (only_now : (disk : D) (c : Files) → since disk (moment disk) c → images disk c) where
+  abbrev pub still : D → DiskRun
+  still disk = disk_run reads images moment since disk disk
+
+  held : (size : ℕ) (disk : D) → KeepsHeld size (still disk)
+  held size disk = record {
+    comes = λ c ever. (c, only_now disk c ever, record { no_other = λ file to. to; still = λ file to. (file, to); fresh = refl });
+    holds = λ list sizes start c ever. start c (only_now disk c ever);
+  }
+
+  pub unchanged_keeps : (command : Command) (disk : D) → Keeps command (still disk)
+  unchanged_keeps (Tags profile) disk = held profile.page_size disk
+  unchanged_keeps (Header profile) disk = held profile.page_size disk
+  unchanged_keeps (Verify profile) disk = held profile.page_size disk
+  unchanged_keeps (Export profile) disk = held profile.page_size disk
+  unchanged_keeps Probe disk = record { reads = refl; no_more = λ c ever. only_now disk c ever; no_fewer = λ c now. now }
+  unchanged_keeps (Recover profile) disk = held profile.page_size disk
+  unchanged_keeps (Stamp profile field value) disk = λ c ever. (c, only_now disk c ever, refl)
+
+  safely : (status : Status) (command : Command) (disk : D) (renewal : Option Renewal) → (status ≡ Done → ⊥) → IsSafely status command (still disk) renewal
+  safely status command disk None never = tt
+  safely status command disk (Some renewal) never = λ start. inl (record { any_moment = λ c ever. start c (only_now disk c ever); not_done = never })
+
+  pub unchanged_changes : (status : Status) (command : Command) (gave : List Secret → Type 0) (disk : D) → (status ≡ Done → ⊥) → Changes status command gave (still disk)
+  unchanged_changes status (Tags profile) gave disk never = tt
+  unchanged_changes status (Header profile) gave disk never = tt
+  unchanged_changes status (Verify profile) gave disk never = tt
+  unchanged_changes status (Export profile) gave disk never = tt
+  unchanged_changes status Probe gave disk never = tt
+  unchanged_changes status (Recover profile) gave disk never = λ done. absurd (never done)
+  unchanged_changes status (Stamp profile field value) gave disk never = λ secrets has. safely status (Stamp profile field value) disk (same_key profile secrets) never

@@ -1,0 +1,145 @@
+-- A change of the file as its disk shows it: old or new at every moment, and at the exit by the status.
+use Rattle.std.proofs.Common.{◌≡◌, ◌⊎◌, ⊎_elim, inl, inr, ◌≤◌, ℕ, List, Some, None, refl, sym, ap, subst, ◌∙◌}
+use Rattle.edge_model.specs.Files.{Files, bytes_of}
+use Rattle.edge_model.specs.Images.{Each, From, LeavesOnly}
+use Rattle.edge_model.specs.Moments.{and_then, at_exit, goes_less, started, weaker}
+use Rattle.edge_model.specs.OnlyRead.{OnlyRead}
+use Rattle.transaction.specs.Facts.{SameFresh}
+use Rattle.sqlcipher_tool.specs.Change.{Commits, KeepsOld, KeepsOrCommits}
+use Rattle.sqlcipher_tool.specs.Crash.{AtExit, StaysOrRenews}
+use Rattle.sqlcipher_tool.specs.Holding.{disk_run}
+use Rattle.sqlcipher_tool.specs.declared.status.Refusal.{Refusal}
+use Rattle.sqlcipher_tool.specs.declared.status.Status.{Status}
+use Rattle.sqlcipher_tool.specs.declared.status.Status.TheVariants.{Done, Usage, Refused, KeyRefused, DiskFault, OutputFault, InputFault, EntropyFault, OutOfMemory}
+
+-- an answer that is printed
+abbrev pub IsPrinted : Status → Type 0
+IsPrinted Done = Unit {0}
+IsPrinted Usage = Unit {0}
+IsPrinted (Refused refusal) = Unit {0}
+IsPrinted KeyRefused = Unit {0}
+IsPrinted DiskFault = ⊥
+IsPrinted OutputFault = ⊥
+IsPrinted InputFault = ⊥
+IsPrinted EntropyFault = ⊥
+IsPrinted OutOfMemory = ⊥
+
+output_exit : (status : Status) (old new images : Files → Type 0) → IsPrinted status → AtExit status old new images → AtExit OutputFault old new images
+output_exit Done old new images printed now = inr now
+output_exit Usage old new images printed now = inl now
+output_exit (Refused refusal) old new images printed now = inl now
+output_exit KeyRefused old new images printed now = inl now
+output_exit DiskFault old new images printed now = absurd printed
+output_exit OutputFault old new images printed now = absurd printed
+output_exit InputFault old new images printed now = absurd printed
+output_exit EntropyFault old new images printed now = absurd printed
+output_exit OutOfMemory old new images printed now = absurd printed
+
+output_not_done : OutputFault ≡ Done → ⊥
+output_not_done is = cc
+
+failed_not_done : DiskFault ≡ Done → ⊥
+failed_not_done is = cc
+
+module _ {D : Type 0} (reads : D → Files) (images : D → Files → Type 0) (moment : D → ℕ) (since : D → ℕ → Files → Type 0)
+    (counts_now : (disk : D) (t : ℕ) (c : Files) → t ≤ moment disk → images disk c → since disk t c)
+    (only_now : (disk : D) (c : Files) → since disk (moment disk) c → images disk c) where
+  -- the disk was only read
+  pub read_only : {old new : D} {P : Files → Type 0} → Each (images old) P → OnlyRead reads images moment since old new → LeavesOnly moment since old new P
+  read_only {old} {new} {P} start read = goes_less counts_now (started only_now old P start) read.time (λ c now. read.same_images.no_more c now)
+
+  pub read_fresh : {old new : D} → OnlyRead reads images moment since old new → LeavesOnly moment since old new (From SameFresh (images old))
+  read_fresh {old} read = read_only (λ c now. (c, now, refl)) read
+
+  module _ {P : Files → Type 0} {Q : List ℕ → Files → Type 0} {is_new : List ℕ → Type 0} where
+    -- the commit was done
+    pub commits_done : {old new : D} (file : List ℕ) → is_new file → LeavesOnly moment since old new (λ c. P c ⊎ Q file c)
+        → Each (images new) (λ c. Q file c × (c.journal ≡ None)) → bytes_of (reads new).main ≡ Some file → Commits reads images moment since Done is_new P Q old new
+    commits_done file is run now main = record {
+      file = file;
+      is_new = is;
+      any_moment = run;
+      at_exit = λ c here. (now c here).0;
+      is_main = λ done. main;
+      no_journal = λ done c here. (now c here).1;
+    }
+
+    -- the disk failed in it
+    pub commits_failed : {old new : D} (file : List ℕ) → is_new file → LeavesOnly moment since old new (λ c. P c ⊎ Q file c)
+        → Commits reads images moment since DiskFault is_new P Q old new
+    commits_failed file is run = record {
+      file = file;
+      is_new = is;
+      any_moment = run;
+      at_exit = at_exit counts_now run;
+      is_main = λ done. absurd (failed_not_done done);
+      no_journal = λ done. absurd (failed_not_done done);
+    }
+
+    -- a run before it, in which each image had the old one
+    pub after_old : {old mid new : D} (status : Status) → LeavesOnly moment since old mid P → KeepsOrCommits reads images moment since status is_new P Q mid new
+        → KeepsOrCommits reads images moment since status is_new P Q old new
+    after_old {old} {mid} {new} status first next = ⊎_elim
+        (λ (keeps : KeepsOld moment since status P mid new). inl (record { any_moment = and_then first keeps.any_moment; not_done = keeps.not_done }))
+        (λ (commits : Commits reads images moment since status is_new P Q mid new). inr (record {
+          file = commits.file;
+          is_new = commits.is_new;
+          any_moment = and_then (weaker (λ c holds. inl holds) first) commits.any_moment;
+          at_exit = commits.at_exit;
+          is_main = commits.is_main;
+          no_journal = commits.no_journal;
+        })) next
+
+    -- its last line is printed, or the output fails
+    pub printed : {old new : D} (status last : Status) → (last ≡ status) ⊎ ((last ≡ OutputFault) × IsPrinted status)
+        → KeepsOrCommits reads images moment since status is_new P Q old new → KeepsOrCommits reads images moment since last is_new P Q old new
+    printed {old} {new} status last is was = ⊎_elim
+        (λ (same : last ≡ status). subst (λ (s : Status). KeepsOrCommits reads images moment since s is_new P Q old new) (sym same) was)
+        (λ out. subst (λ (s : Status). KeepsOrCommits reads images moment since s is_new P Q old new) (sym out.0) (⊎_elim
+        (λ (keeps : KeepsOld moment since status P old new). inl (record { any_moment = keeps.any_moment; not_done = output_not_done }))
+        (λ (commits : Commits reads images moment since status is_new P Q old new). inr (record {
+          file = commits.file;
+          is_new = commits.is_new;
+          any_moment = commits.any_moment;
+          at_exit = output_exit status P (Q commits.file) (images new) out.1 commits.at_exit;
+          is_main = λ done. absurd (output_not_done done);
+          no_journal = λ done. absurd (output_not_done done);
+        })) was)) is
+
+    -- the same, as a run shows it
+    pub as_run : {old new : D} (status : Status) → KeepsOrCommits reads images moment since status is_new P Q old new
+        → StaysOrRenews status is_new P Q (disk_run reads images moment since old new)
+    as_run {old} {new} status was = ⊎_elim
+        (λ (keeps : KeepsOld moment since status P old new). inl (record { any_moment = keeps.any_moment.each; not_done = keeps.not_done }))
+        (λ (commits : Commits reads images moment since status is_new P Q old new). inr (record {
+          file = commits.file;
+          is_new = commits.is_new;
+          goes_over = record { any_moment = commits.any_moment.each; at_exit = commits.at_exit };
+          is_main = commits.is_main;
+          no_journal = commits.no_journal;
+        })) was
+
+  either_exit : (status : Status) (old new other here : Files → Type 0) → ((c : Files) → new c → other c) → AtExit status old new here → AtExit status old other here
+  either_exit Done old new other here gives now = λ c is. gives c (now c is)
+  either_exit Usage old new other here gives now = now
+  either_exit (Refused refusal) old new other here gives now = now
+  either_exit KeyRefused old new other here gives now = now
+  either_exit DiskFault old new other here gives now = λ c is. ⊎_elim (λ was. inl was) (λ has. inr (gives c has)) (now c is)
+  either_exit OutputFault old new other here gives now = ⊎_elim (λ was. inl was) (λ has. inr (λ c is. gives c (has c is))) now
+  either_exit InputFault old new other here gives now = now
+  either_exit EntropyFault old new other here gives now = now
+  either_exit OutOfMemory old new other here gives now = now
+
+  -- what is said of the new file may be said otherwise
+  pub said_so : {P : Files → Type 0} {Q R : List ℕ → Files → Type 0} {is_new is_other : List ℕ → Type 0} {old new : D} (status : Status)
+      → ((file : List ℕ) → is_new file → is_other file) → ((file : List ℕ) → is_new file → (c : Files) → Q file c → R file c)
+      → KeepsOrCommits reads images moment since status is_new P Q old new → KeepsOrCommits reads images moment since status is_other P R old new
+  said_so {P} {Q} {R} {is_new} {is_other} {old} {new} status other gives was = ⊎_elim (λ (keeps : KeepsOld moment since status P old new). inl keeps)
+      (λ (commits : Commits reads images moment since status is_new P Q old new). inr (record {
+        file = commits.file;
+        is_new = other commits.file commits.is_new;
+        any_moment = weaker (λ c had. ⊎_elim (λ was. inl was) (λ has. inr (gives commits.file commits.is_new c has)) had) commits.any_moment;
+        at_exit = either_exit status P (Q commits.file) (R commits.file) (images new) (gives commits.file commits.is_new) commits.at_exit;
+        is_main = commits.is_main;
+        no_journal = commits.no_journal;
+      })) was

@@ -1,0 +1,255 @@
+-- What a transaction leaves that changed page 1 to the stamped one.
+use Rattle.std.proofs.Common.{◌≡◌, ◌≢◌, ◌⊎◌, ⊎_elim, inl, inr, ◌==◌, ◌≤◌, ◌<◌, ◌+◌, ◌-◌, ◌*◌, ◌^◌, ◌%◌, ◌++◌, ℕ, suc, zero, Bool, true, false, IsTrue, List, [], ◌∷◌, length, take, drop, Option, Some, None, Result, Ok, Err, refl, sym, ap, subst, ◌∙◌, arith, rules, length-append, length-take, length-drop}
+use Rattle.std.specs.Prelude.{slice_index, unwrap_or}
+use Rattle.std.specs.List.{Contains}
+use Rattle.std.proofs.lemmas.List.{take-append-le, take-take, take_all}
+use Rattle.std.proofs.Math.Seq.{take-append_seam, drop-append_seam}
+use Rattle.cipher_profile.specs.Profile.{usable}
+use Rattle.db_format.specs.Bytes.{u32_at}
+use Rattle.db_format.specs.Count.{count_of_pages, largest_database}
+use Rattle.db_format.specs.Header.{header_fields, header_read}
+use Rattle.db_format.specs.declared.header.Header.{Header}
+use Rattle.db_format.specs.declared.header.HeaderRefusal.{HeaderRefusal}
+use Rattle.page_cache.specs.Pages.{bytes_at}
+use Rattle.page_codec.specs.Page.{FileKeys, accepts, opened, salt_of, sealed, tag, untagged, with_tag}
+use Rattle.pager.specs.Changed.{Changed, HasNewPages, IsDrawn, IsSealed, draw_of}
+use Rattle.pager.specs.Database.{count_by, count_of, counted, ok_count}
+use Rattle.pager.specs.File.{page_stored}
+use Rattle.pager.specs.Held.{bytes_of_page}
+use Rattle.transaction.specs.Commit.{IsChanged}
+use Rattle.transaction.specs.Database.{stored_page}
+use Rattle.sqlcipher_tool.specs.Draws.{OwnDraws, draw_at}
+use Rattle.sqlcipher_tool.specs.Stamp.{IsStamped, field_at, next_change, stamped_page, with_field}
+use Rattle.sqlcipher_tool.specs.declared.command.Field.{Field}
+use Rattle.sqlcipher_tool.specs.declared.command.Field.TheVariants.{UserVersion, ApplicationId}
+use Rattle.sqlcipher_tool.proofs.Databases.{base_of, counted_pages}
+use Rattle.sqlcipher_tool.proofs.OpenedParts.{IsOpen, header_size, open_count}
+use Rattle.sqlcipher_tool.proofs.StampedFields.{stamped, stamped_count, stamped_length, stamped_read}
+
+-- ---- lengths
+
+short_stays : (at value : ℕ) (page : List ℕ) → at ≤ 92 → length page < 100 → length (with_field at value page) < 100
+short_stays at value page to short = omega (
+  arith,
+  short,
+  to,
+  length-append (take at page) (Rattle.std.specs.Int.to_be_bytes Rattle.std.specs.Int.w32 value ++ drop (at + 4) page),
+  length-append (Rattle.std.specs.Int.to_be_bytes Rattle.std.specs.Int.w32 value) (drop (at + 4) page),
+  length-take at page,
+  length-drop (at + 4) page,
+)
+
+order : (a b : ℕ) → (a < b) ⊎ (b ≤ a)
+order a b = search arith
+
+-- a page is long that was stamped to a long one
+pub long_before : (at value count change : ℕ) (plain : List ℕ) → at ≤ 68
+    → 100 ≤ length (with_field 92 change (with_field 28 count (with_field 24 change (with_field at value plain)))) → 100 ≤ length plain
+long_before at value count change plain to long = ⊎_elim
+    (λ (short : length plain < 100).
+    let one = short_stays at value plain (omega (arith, to)) short in
+    let two = short_stays 24 change (with_field at value plain) (omega arith) one in
+    let three = short_stays 28 count (with_field 24 change (with_field at value plain)) (omega arith) two in
+    absurd (omega (arith, long, short_stays 92 change (with_field 28 count (with_field 24 change (with_field at value plain))) (omega arith) three)))
+    (λ long. long) (order (length plain) 100)
+
+pub field_place : (field : Field) → (60 ≤ field_at field) × (field_at field ≤ 68)
+field_place UserVersion = (omega arith, omega arith)
+field_place ApplicationId = (omega arith, omega arith)
+
+count_few : (n size : ℕ) → 120 ≤ size → n * size ≤ largest_database → n < 2 ^ 32
+count_few n size some small =
+    let each : n ≤ n * size = Rattle.std.proofs.Math.Nat.le-mul_of_pos_right {m = size} n (omega (arith, some)) in
+    let within : n * size ≤ 1073741824 = small in
+    omega (arith, each, within)
+
+one_page : (n size len : ℕ) → 1 ≤ n → n * size ≤ len → size ≤ len
+one_page n size len some there =
+    let each : size ≤ size * n = Rattle.std.proofs.Math.Nat.le-mul_of_pos_right {m = n} size (omega (arith, some)) in
+    omega (arith, each, there, Rattle.std.proofs.Math.Nat.mul_comm size n)
+
+-- a page 1 that is read and counts
+pub count_read : (keys : FileKeys) (first : List ℕ) (len : ℕ) → keys.profile.page_size ≤ len → (h : Header) (n : ℕ)
+    → header_read (opened keys 1 first) keys.profile.page_size keys.profile.reserve ≡ Ok h → count_of_pages h len ≡ Ok n → count_by keys first len ≡ Some n
+count_read keys first len long h n read counts =
+    let enough : Rattle.std.specs.Prelude.nat_lt len keys.profile.page_size ≡ false = more len keys.profile.page_size long in
+    rw enough (ap (λ (r : Result Header HeaderRefusal). counted len r) read ∙ ap ok_count counts)
+  where
+    more : (a b : ℕ) → b ≤ a → Rattle.std.specs.Prelude.nat_lt a b ≡ false
+    more a b le = search (rules, le)
+
+-- a file whose page 1 is whole, and whose other pages are those of a whole file, has all of them
+all_long : (keys : FileKeys) (n : ℕ) (file main : List ℕ) → 1 ≤ n → 1 ≤ keys.profile.page_size → n * keys.profile.page_size ≤ length file
+    → length (page_stored keys main 1) ≡ keys.profile.page_size
+    → ((m : ℕ) → 2 ≤ m → m ≤ n → page_stored keys main m ≡ page_stored keys file m) → n * keys.profile.page_size ≤ length main
+all_long keys n file main some sized within first others = ⊎_elim
+    (λ (single : n ≡ 1). subst (λ (k : ℕ). k * keys.profile.page_size ≤ length main) (sym single) (last_long keys 1 main first (omega arith) sized))
+    (λ (more : 2 ≤ n). last_long keys n main (ap length (others n more (omega arith)) ∙ whole keys n file some within) some sized) (which n some)
+  where
+    which : (n : ℕ) → 1 ≤ n → (n ≡ 1) ⊎ (2 ≤ n)
+    which n some = search (arith, some)
+
+    pages_before : (n size : ℕ) → 1 ≤ n → (n - 1) * size + size ≡ n * size
+    pages_before zero size some = absurd (omega (arith, some))
+    pages_before (suc m) size some =
+        let last : suc m - 1 ≡ m = omega arith in
+        ap (λ (k : ℕ). k * size + size) last ∙ sym (Rattle.std.proofs.Math.Nat.suc-mul m size)
+
+    whole : (keys : FileKeys) (n : ℕ) (file : List ℕ) → 1 ≤ n → n * keys.profile.page_size ≤ length file → length (page_stored keys file n) ≡ keys.profile.page_size
+    whole keys n file some within = omega (
+      arith,
+      within,
+      pages_before n keys.profile.page_size some,
+      length-take keys.profile.page_size (drop ((n - 1) * keys.profile.page_size) file),
+      length-drop ((n - 1) * keys.profile.page_size) file,
+    )
+
+    last_long : (keys : FileKeys) (n : ℕ) (main : List ℕ) → length (page_stored keys main n) ≡ keys.profile.page_size → 1 ≤ n → 1 ≤ keys.profile.page_size → n * keys.profile.page_size ≤ length main
+    last_long keys n main is some sized = omega (
+      arith,
+      is,
+      sized,
+      pages_before n keys.profile.page_size some,
+      length-take keys.profile.page_size (drop ((n - 1) * keys.profile.page_size) main),
+      length-drop ((n - 1) * keys.profile.page_size) main,
+    )
+
+-- ---- the salt
+
+page_first : (salt text draw : List ℕ) → length salt ≡ 16 → (take 16 ((take 16 salt ++ text) ++ draw) ≡ salt) × (16 ≤ length ((take 16 salt ++ text) ++ draw))
+page_first salt text draw long =
+    let head : 16 ≤ length (take 16 salt) = omega (arith, long, length-take 16 salt) in
+    let more : 16 ≤ length (take 16 salt ++ text) = omega (arith, head, length-append (take 16 salt) text) in (
+      take-append-le 16 (take 16 salt ++ text) draw more
+          ∙ (take-append-le 16 (take 16 salt) text head ∙ (take-take 16 16 salt (omega arith) ∙ take_all 16 salt (omega (arith, long)))),
+      omega (arith, more, length-append (take 16 salt ++ text) draw),
+    )
+
+untagged_first : (keys : FileKeys) (plain draw : List ℕ) → length keys.salt ≡ 16
+    → (take 16 (untagged keys 1 plain draw) ≡ keys.salt) × (16 ≤ length (untagged keys 1 plain draw))
+unfolding untagged
+untagged_first keys plain draw long = page_first keys.salt _ draw long
+
+behind_first : (page tag rest : List ℕ) (u : ℕ) → 16 ≤ u → 16 ≤ length page → take 16 ((take u page ++ tag) ++ rest) ≡ take 16 page
+behind_first page tag rest u le long =
+    let head : 16 ≤ length (take u page) = omega (arith, le, long, length-take u page) in
+    take-append-le 16 (take u page ++ tag) rest (omega (arith, head, length-append (take u page) tag))
+    ∙ (take-append-le 16 (take u page) tag head ∙ take-take 16 u page le)
+
+-- a sealed page 1 begins with the salt
+pub salt_stands : (keys : FileKeys) (plain draw : List ℕ) → length keys.salt ≡ 16 → take 16 (sealed keys 1 plain draw) ≡ keys.salt
+unfolding sealed
+salt_stands keys plain draw long =
+    let page = untagged keys 1 plain draw in
+    let first = untagged_first keys plain draw long in
+    behind_first page (tag keys 1 page) (drop (usable keys.profile + 16 + keys.profile.tag_len) page) (usable keys.profile + 16) (omega arith) first.1 ∙ first.0
+
+-- ---- the stamped file
+
+-- A file that opens, and what a transaction leaves of it that changed page 1 alone, to this page.
+module _ (keys : FileKeys) (field : Field) (value n : ℕ) (file : List ℕ) (header : Header) (is_open : IsOpen keys file header n) (some : 1 ≤ n)
+    (salt : length keys.salt ≡ 16) (room : 120 ≤ usable keys.profile)
+    (c : Changed) (tells : Bool) (before after main : List ℕ)
+    (is_page : bytes_at 1 c.held ≡ Some (stamped_page field value n (opened keys 1 (page_stored keys file 1))))
+    (numbers : c.numbers ≡ 1 ∷ [])
+    (new : HasNewPages (base_of keys file n) keys c (IsDrawn tells before after) main) where
+  abbrev plain : List ℕ
+  plain = opened keys 1 (page_stored keys file 1)
+
+  abbrev first : List ℕ
+  first = page_stored keys main 1
+
+  abbrev change : ℕ
+  change = next_change (u32_at plain 24)
+
+  -- page 1 as it was sealed
+  one : IsSealed keys (record c { numbers = 1 ∷ [] }) new.draws 0 first
+  one = subst (λ (l : List ℕ). IsSealed keys (record c { numbers = l }) new.draws 0 (stored_page keys.profile.page_size (slice_index l 0) main)) numbers
+      (new.changed.sealed 0 (subst (λ (l : List ℕ). 0 < length l) (sym numbers) (omega arith)))
+
+  held : bytes_of_page 1 c.held ≡ stamped_page field value n plain
+  held = ap (λ (o : Option (List ℕ)). unwrap_or o []) is_page
+
+  pub first_opened : opened keys 1 first ≡ stamped_page field value n plain
+  first_opened = one.opens_to ∙ held
+
+  place : (60 ≤ field_at field) × (field_at field ≤ 68)
+  place = field_place field
+
+  long : 100 ≤ length plain
+  long = long_before (field_at field) value n change plain place.1 (omega (arith, room, one.plain, ap length held))
+
+  fits : change < 2 ^ 32
+  fits = Rattle.std.proofs.Math.Nat.mod-lt (u32_at plain 24 + 1) (omega arith)
+
+  sized : (header_fields plain ≡ header) × (header.page_size ≡ keys.profile.page_size)
+  sized = header_size plain keys.profile.page_size keys.profile.reserve header is_open.read
+
+  small : n * header.page_size ≤ largest_database
+  small = (counted_pages header (length file) n is_open.counts).small
+
+  size_some : 120 ≤ keys.profile.page_size
+  size_some = omega (arith, room)
+
+  few : n < 2 ^ 32
+  few = count_few n header.page_size (omega (arith, size_some, sized.1)) small
+
+  -- the new page 1 counts as many pages in each file that has them
+  pub new_count : (len : ℕ) → n * keys.profile.page_size ≤ len → count_by keys first len ≡ Some n
+  new_count len there =
+      let read = ap (λ (page : List ℕ). header_read page keys.profile.page_size keys.profile.reserve) first_opened
+      ∙ stamped_read (field_at field) value n change keys.profile.page_size keys.profile.reserve plain header place.0 place.1 long few fits is_open.read in
+      let counts = stamped_count (field_at field) value n change keys.profile.page_size keys.profile.reserve plain header place.0 place.1 long few fits is_open.read
+      len some small (subst (λ (k : ℕ). n * k ≤ len) (sym sized.1) there) in
+      let enough : keys.profile.page_size ≤ len = one_page n keys.profile.page_size len some there in
+      count_read keys first len enough _ n read counts
+
+  -- all other pages stay
+  pub others : (m : ℕ) → 2 ≤ m → m ≤ n → page_stored keys main m ≡ page_stored keys file m
+  others m from to = new.changed.others m (omega (arith, from)) to
+      (λ k less same. let two : k ≡ 0 = omega (arith, less, ap length numbers) in
+      let is_one : slice_index c.numbers k ≡ 1 = ap (λ (l : List ℕ). slice_index l k) numbers ∙ ap (λ (i : ℕ). slice_index (1 ∷ []) i) two in
+      omega (arith, from, same, is_one))
+
+  within : n * keys.profile.page_size ≤ length file
+  within = subst (λ (k : ℕ). n * k ≤ length file) sized.1 (counted_pages header (length file) n is_open.counts).within
+
+  -- and the new file has all pages
+  pub new_long : n * keys.profile.page_size ≤ length main
+  new_long = all_long keys n file main some (omega (arith, size_some)) within one.size others
+
+  pub is_stamped : IsStamped keys field value file main
+  is_stamped = record {
+    count = n;
+    was = open_count keys file header n is_open;
+    is = new_count (length main) new_long;
+    first = first_opened;
+    accepted = one.accepted;
+    others = others;
+  }
+
+  pub same_salt : salt_of main ≡ keys.salt
+  same_salt =
+      sym (take-take 16 keys.profile.page_size main (omega (arith, size_some)))
+      ∙ (ap (λ (at : ℕ). take 16 (take keys.profile.page_size (drop at main))) {x = 0} {y = (1 - 1) * keys.profile.page_size} (omega arith)
+      ∙ (ap (λ (l : List ℕ). take 16 l) one.is ∙ salt_stands keys (bytes_of_page 1 c.held) (draw_of keys.profile.reserve new.draws 0) salt))
+
+  -- its page 1 has the first bytes that were drawn
+  pub own_draws : IsTrue tells → OwnDraws keys main (1 ∷ []) 0 (drop (length before) after)
+  own_draws told = subst (λ (l : List ℕ). OwnDraws keys main (1 ∷ []) 0 l) (sym drawn) (record {
+    places = λ m. 0;
+    within = λ m has. (omega arith, omega (arith, many));
+    sealed_so = λ m has. subst (λ (k : ℕ). page_stored keys main k ≡ sealed keys k (opened keys k (page_stored keys main k)) (draw_at keys new.draws 0)) (sym (the_one m has))
+        (one.is ∙ ap (λ (l : List ℕ). sealed keys 1 l (draw_of keys.profile.reserve new.draws 0)) (sym one.opens_to)
+        ∙ ap (λ (at : ℕ). sealed keys 1 (opened keys 1 first) (take keys.profile.reserve (drop at new.draws))) {x = 0 * keys.profile.reserve} {y = 0} (omega arith));
+    apart = λ m k has_m has_k other. absurd (other (the_one m has_m ∙ sym (the_one k has_k)));
+  })
+    where
+      drawn : drop (length before) after ≡ new.draws
+      drawn = ap (λ (l : List ℕ). drop (length before) l) (new.own.told told) ∙ drop-append_seam before new.draws
+
+      many : length new.draws ≡ 1 * keys.profile.reserve
+      many = new.own.many ∙ ap (λ (l : List ℕ). length l * keys.profile.reserve) numbers
+
+      the_one : (m : ℕ) → Contains (1 ∷ []) m → m ≡ 1
+      the_one m has = search (rules, has)

@@ -1,0 +1,88 @@
+use Rattle.std.proofs.Common.{◌≡◌, ◌⊎◌, ⊎_elim, inl, inr, ◌≤◌, ℕ, List, length, Some, Ok, Result, IsTrue, refl, sym, ap, subst, ◌∙◌, rules}
+use Rattle.edge_model.specs.Files.{Files}
+use Rattle.edge_model.specs.Images.{Each, From, LeavesOnly}
+use Rattle.edge_model.specs.Moments.{then_from}
+use Rattle.page_codec.specs.Page.{FileKeys, keys_of, salt_of}
+use Rattle.pager.specs.File.{main_of}
+use Rattle.pager.specs.Opening.{Opened}
+use Rattle.pager.specs.declared.opening.OpenError.{OpenError}
+use Rattle.transaction.specs.Facts.{SameFresh}
+use Rattle.sqlcipher_tool.specs.Change.{IsAlone, KeepsOrCommits, change_answer, change_status, stop_status}
+use Rattle.sqlcipher_tool.specs.Holding.{HoldsOnly, held_by}
+use Rattle.sqlcipher_tool.specs.Opening.{opened_with}
+use Rattle.sqlcipher_tool.specs.Stamp.{IsStamped, stamped_answer}
+use Rattle.sqlcipher_tool.specs.Text.{stamped_report}
+use Rattle.sqlcipher_tool.proofs.Changing.{after_old, read_fresh, read_only, said_so}
+use Rattle.sqlcipher_tool.proofs.OpenedParts.{open_parts}
+use Rattle.sqlcipher_tool.proofs.Stamping.{same_keys, stop_not_done, unopened_stamp}
+use Rattle.sqlcipher_tool.proofs.stamp.stamp_file.Goals as goal
+
+pub returns-in-Err-clause-told : goal.returns-in-Err-clause-told
+returns-in-Err-clause-told g c = λ told.
+    unopened_stamp c.in-Err.stop (opened_with c.args.profile c.args.secret.now (main_of (g.D.Disk.reads c.args.disk.now))) (c.in-Err.ensures.stop told)
+
+pub returns-in-Err-clause-safely : goal.returns-in-Err-clause-safely
+returns-in-Err-clause-safely g c = λ told start.
+    let d = g.D.Disk in
+    inl (record {
+      any_moment = read_only d.reads d.images d.moment d.since g.met.D.Disk.counts_now g.met.D.Disk.only_now start (c.open_to_change.ensures.only_read told);
+      not_done = stop_not_done c.in-Err.stop;
+    })
+
+pub returns-in-Err-clause-fresh : goal.returns-in-Err-clause-fresh
+returns-in-Err-clause-fresh g c = λ told.
+    let d = g.D.Disk in
+    read_fresh d.reads d.images d.moment d.since g.met.D.Disk.counts_now g.met.D.Disk.only_now (c.open_to_change.ensures.only_read told)
+
+pub stamp_pages-disk-requires-clause-alone : goal.stamp_pages-disk-requires-clause-alone
+stamp_pages-disk-requires-clause-alone g c = λ told image now.
+    let d = g.D.Disk in
+    let read = c.open_to_change.ensures.only_read told in
+    let file = main_of (d.reads c.args.disk.now) in
+    let keys = keys_of c.args.profile c.args.secret.now file in
+    let made = c.into_pager-pager.ensures.disk.1 in
+    let opened = open_parts keys file _ _ (c.in-Ok.ensures.opens told) in
+    let at_first = read.same_images.no_more image (subst (λ (x : _). d.images x image) made now) in
+    subst (λ (x : _). IsAlone (main_of (d.reads x)) image) (sym made)
+    (subst (λ (files : Files). IsAlone (main_of files) image) (sym read.stays) (c.requires.alone told opened.long image at_first))
+
+pub returns-clause-told : goal.returns-clause-told
+returns-clause-told g c = λ told. ⊎_elim (λ fault. inl fault)
+    (λ is. inr (ap (λ (r : _). change_answer stamped_report r) is ∙ sym (ap (λ (r : Result Opened OpenError). Some (stamped_answer r)) (c.in-Ok.ensures.opens told))))
+    (c.stamp_pages-disk.ensures.told told)
+
+pub returns-clause-safely : goal.returns-clause-safely
+returns-clause-safely g c = λ told start.
+    let d = g.D.Disk in
+    let p = c.into_pager-pager.result in
+    let read = c.open_to_change.ensures.only_read told in
+    let made = c.into_pager-pager.ensures.disk.1 in
+    let file = main_of (d.reads c.args.disk.now) in
+    let secret = c.args.secret.now in
+    let profile = c.args.profile in
+    let keys = keys_of profile secret file in
+    let status = change_status c.stamp_pages-disk.result.2 in
+    let end = c.stamp_pages-disk.result.0.now in
+    let codec : p.codec ≡ keys = c.into_pager-pager.ensures.file.0 ∙ c.in-Ok.ensures.codec told in
+    let same : main_of (d.reads p.disk.now) ≡ file = ap (λ (x : _). main_of (d.reads x)) made ∙ ap (λ (files : Files). main_of files) read.stays in
+    let one = subst (λ (k : FileKeys). KeepsOrCommits d.reads d.images d.moment d.since status (λ n. IsStamped k c.args.field c.args.value (main_of (d.reads p.disk.now)) n × (salt_of n ≡ k.salt))
+    (HoldsOnly (held_by k (main_of (d.reads p.disk.now)))) (λ n. HoldsOnly (held_by k n)) p.disk.now end) codec (c.stamp_pages-disk.ensures.safely told) in
+    let two = subst (λ (l : List ℕ). KeepsOrCommits d.reads d.images d.moment d.since status (λ n. IsStamped keys c.args.field c.args.value l n × (salt_of n ≡ keys.salt))
+    (HoldsOnly (held_by keys l)) (λ n. HoldsOnly (held_by keys n)) p.disk.now end) same one in
+    let three = said_so d.reads d.images d.moment d.since g.met.D.Disk.counts_now g.met.D.Disk.only_now {R = λ n. HoldsOnly (held_by (keys_of profile secret n) n)} {is_other = IsStamped keys c.args.field c.args.value file}
+    status (λ n is. is.0) (λ n is image holds. subst (λ (k : FileKeys). HoldsOnly (held_by k n) image) (sym (same_keys profile secret n file is.1)) holds) two in
+    let first : LeavesOnly d.moment d.since c.args.disk.now p.disk.now (HoldsOnly (held_by keys file)) =
+    rw made (read_only d.reads d.images d.moment d.since g.met.D.Disk.counts_now g.met.D.Disk.only_now start read) in
+    let last : c.disk-1.given.0 ≡ end = search rules in
+    rw last (after_old d.reads d.images d.moment d.since g.met.D.Disk.counts_now g.met.D.Disk.only_now status first three)
+
+pub returns-clause-fresh : goal.returns-clause-fresh
+returns-clause-fresh g c = λ told.
+    let d = g.D.Disk in
+    let p = c.into_pager-pager.result in
+    let made = c.into_pager-pager.ensures.disk.1 in
+    let end = c.stamp_pages-disk.result.0.now in
+    let first : LeavesOnly d.moment d.since c.args.disk.now p.disk.now (From SameFresh (d.images c.args.disk.now)) =
+    rw made (read_fresh d.reads d.images d.moment d.since g.met.D.Disk.counts_now g.met.D.Disk.only_now (c.open_to_change.ensures.only_read told)) in
+    let last : c.disk-1.given.0 ≡ end = search rules in
+    rw last (then_from g.met.D.Disk.counts_now (λ a b e ab be. be ∙ ab) first (c.stamp_pages-disk.ensures.fresh told))
