@@ -4,12 +4,12 @@
 #![tactic(auto)]
 
 mod finishing;
-mod out;
+mod fresh_out;
 mod sealing;
 mod state;
 #[cfg(test)]
 mod tests;
 
-pub use out::FreshOut;
+pub use fresh_out::FreshOut;
 pub use sealing::CommitFault;
 pub use state::{FreshState, StartError};

@@ -7,7 +7,7 @@ ghost use Rattle.db_format.specs.Seen.{marked};
 ghost use Rattle.fresh_file.specs.Fresh.{contents};
 ghost use Rattle.fresh_file.specs.Sealed.{plain_page};
 
-use crate::out::FreshOut;
+use crate::fresh_out::FreshOut;
 use crate::sealing::{CommitFault, seal_page_to};
 use bulk_load::OutError;
 use cipher_profile::Profile;
