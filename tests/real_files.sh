@@ -266,4 +266,6 @@ fi
 echo "real files: $((compared - differ)) of $compared comparisons are the same"
 [ "$differ" -eq 0 ] || exit 1
 "$top/tests/export_to_sql.py" || exit 1
+"$top/tests/hostile_pages.sh" || exit 1
+"$top/tests/stamp.sh" || exit 1
 "$top/tests/edges.sh"

@@ -2,10 +2,10 @@
 
 /// The text of `--help`.
 pub const HELP: &str = "\
-sqlcipher-tool checks SQLCipher database files, and plays back the journal that a
-stop has left. It writes nothing else to them.
+sqlcipher-tool checks SQLCipher database files, plays back the journal that a stop
+has left, and sets two numbers of their header. It writes nothing else to them.
 
-usage: sqlcipher-tool FILE COMMAND [PROFILE] < KEYS
+usage: sqlcipher-tool FILE COMMAND [PROFILE [FIELD N]] < KEYS
        sqlcipher-tool --help | --version
 
 commands
@@ -19,7 +19,12 @@ commands
   probe           find the profile whose key fits; prints `profile N`
   recover PROFILE play the journal beside the file back into it and remove it;
                   prints `played: N`, `cold` or `nothing`, and takes no key
-                  (`tags`, `header`, `verify` and `export` recover first)
+                  (every command but `probe` recovers first)
+  stamp PROFILE user-version N
+  stamp PROFILE application-id N
+                  set this number of the database header, at most 4294967295;
+                  prints `stamped`. A stop at any moment leaves the old file or
+                  the stamped one
 
 profiles
   1, 2, 3, 4      the version of SQLCipher that wrote the file (1 has no tags)

@@ -14,6 +14,8 @@ mod opening;
 mod probe;
 mod recovery;
 mod stamp;
+#[cfg(test)]
+mod stamp_tests;
 mod status;
 mod tags;
 #[cfg(test)]

@@ -1,0 +1,130 @@
+#!/usr/bin/env bash
+# `stamp` on files that the product itself makes, of versions 1 to 4: the product then reads the new numbers, finds the file
+# sound, and dumps the same rows. Then the built program is stopped at each writing call of the system of a `stamp`: what is
+# left is recovered by the program, and on a copy by the product, to the old number or the new one, and is sound to both.
+#
+#     tests/stamp.sh
+#
+# PROGRAM names another program, SQLCIPHER4 the product built for version 4. What can't be done here is left out, with a
+# line that says so.
+set -u
+top=$(cd "$(dirname "$0")/.." && pwd) || exit 1
+program=${PROGRAM:-$top/out/sqlcipher-tool}
+folder=$(mktemp -d) || exit 1
+trap 'rm -rf "$folder"' EXIT
+export LC_ALL=C.UTF-8 HOME=$folder
+wrong=0
+
+[ -x "$program" ] || { echo "stamp: $program is not built"; exit 1; }
+command -v sqlcipher > /dev/null || { echo "stamp: skipped, since sqlcipher is missing"; exit 0; }
+four=${SQLCIPHER4:-$(command -v sqlcipher4 || true)}
+[ -n "$four" ] || { [ ! -x "$top/out/product/sqlcipher4" ] || four=$top/out/product/sqlcipher4; }
+
+key=old
+printf '%s\n' "$key" > "$folder/key"
+
+product() { # product VERSION: the program that writes this version
+    if [ "$1" = 4 ]; then echo "$four"; else echo sqlcipher; fi
+}
+
+sql() { # sql VERSION FILE: runs the SQL of standard input
+    {
+        echo "PRAGMA key = '$key';"
+        case $1 in
+            1) echo "PRAGMA cipher_use_hmac = OFF; PRAGMA kdf_iter = 4000;" ;;
+            2) echo "PRAGMA kdf_iter = 4000;" ;;
+        esac
+        cat
+    } | "$(product "$1")" -batch "$2" 2> "$folder/errors"
+}
+
+say() { wrong=$((wrong + 1)); echo "stamp: $*"; }
+
+numbers() { echo "PRAGMA user_version; PRAGMA application_id; PRAGMA integrity_check;" | sql "$1" "$2" | tr '\n' ' '; }
+
+dump() { echo ".dump" | sql "$1" "$2"; }
+
+fields() { "$program" "$2" header "$1" < "$folder/key"; }
+
+rows() {
+    cat <<'SQL'
+CREATE TABLE items(id INTEGER PRIMARY KEY, name TEXT, value);
+CREATE INDEX items_name ON items(name);
+BEGIN;
+WITH RECURSIVE n(i) AS (SELECT 1 UNION ALL SELECT i + 1 FROM n WHERE i < 400)
+INSERT INTO items SELECT i, 'item ' || (i * 7919 % 1000), zeroblob(i % 900) FROM n;
+COMMIT;
+PRAGMA user_version = 3;
+SQL
+}
+
+# The calls that change a file or a folder, or sync one. An open counts where it may make a file.
+writing=openat,open,creat,write,pwrite64,writev,pwritev,ftruncate,fsync,fdatasync,unlink,unlinkat,rename,renameat,renameat2
+
+stops() { # stops VERSION FILE: a stop at each writing call of a stamp
+    local version=$1 file=$2 name number killed old new found stopped=0
+    rm -rf "$folder/whole" && mkdir "$folder/whole" && cp "$file" "$folder/whole/file" || return 1
+    old=$(fields "$version" "$file")
+    (cd "$folder/whole" && strace -f -qq -o "$folder/calls" -e trace="$writing" "$program" file stamp "$version" user-version 7 \
+        < "$folder/key" > /dev/null) || { say "version $version: the program fails under strace"; return; }
+    new=$(fields "$version" "$folder/whole/file")
+    sed -E 's/^[0-9]+ +//' "$folder/calls" | awk -F'(' '
+        { seen[$1]++ }
+        $1 ~ /^open/ && !/O_CREAT/ { next }
+        /^[a-z]/ { print $1, seen[$1] }' > "$folder/stops"
+    while read -r name number; do
+        rm -rf "$folder/stopped" "$folder/copy"
+        mkdir "$folder/stopped" && cp "$file" "$folder/stopped/file" || return 1
+        # The call is not made, and the program is killed there.
+        { (cd "$folder/stopped" && strace -f -qq -o /dev/null -e trace="$name" \
+            -e inject="$name:error=EIO:signal=KILL:when=$number" "$program" file stamp "$version" user-version 7 \
+            < "$folder/key" > /dev/null) } 2> /dev/null
+        killed=$?
+        [ "$killed" -eq 137 ] || say "version $version: $name $number: ended with $killed"
+        cp -r "$folder/stopped" "$folder/copy"
+        # The program recovers it.
+        "$program" "$folder/stopped/file" recover "$version" > /dev/null < /dev/null || say "version $version: $name $number: not recovered"
+        "$program" "$folder/stopped/file" verify "$version" < "$folder/key" > "$folder/lines" || say "version $version: $name $number: $(head -n 1 "$folder/lines")"
+        found=$(fields "$version" "$folder/stopped/file")
+        [ "$found" = "$old" ] || [ "$found" = "$new" ] || say "version $version: $name $number: neither the old header nor the new one"
+        [ ! -e "$folder/stopped/file-journal" ] || say "version $version: $name $number: a journal is left"
+        # So does the product.
+        case $(numbers "$version" "$folder/copy/file") in
+            "3 0 ok " | "7 0 ok ") ;;
+            *) say "version $version: $name $number: the product reads $(numbers "$version" "$folder/copy/file")" ;;
+        esac
+        stopped=$((stopped + 1))
+    done < "$folder/stops"
+    [ "$stopped" -gt 0 ] || say "version $version: no stop"
+    echo "stamp: version $version: $stopped stops"
+}
+
+for version in 1 2 3 4; do
+    if [ -z "$(product "$version")" ]; then
+        echo "stamp: version $version is left out, since its product is not built here"
+        continue
+    fi
+    file=$folder/version-$version.db
+    rows | sql "$version" "$file" > /dev/null
+    cp "$file" "$folder/before.db"
+    [ "$(numbers "$version" "$file")" = "3 0 ok " ] || { say "version $version: the product makes no such file"; continue; }
+    dump "$version" "$file" > "$folder/dump"
+    for words in "user-version 7" "application-id 4294967295"; do
+        # shellcheck disable=SC2086
+        [ "$("$program" "$file" stamp "$version" $words < "$folder/key")" = stamped ] || say "version $version: $words is not stamped"
+    done
+    found=$(numbers "$version" "$file")
+    [ "$found" = "7 -1 ok " ] || say "version $version: the product reads $found"
+    dump "$version" "$file" | cmp -s - "$folder/dump" || say "version $version: the rows are not the same"
+    # All pages but the first are stored as before.
+    page=$(fields "$version" "$file" | awk '/^page size/ { print $3 }')
+    cmp -s <(tail -c +$((page + 1)) "$file") <(tail -c +$((page + 1)) "$folder/before.db") || say "version $version: another page was changed"
+    if strace -qq -o /dev/null true 2> /dev/null; then
+        stops "$version" "$folder/before.db"
+    else
+        echo "stamp: the stops are left out, since strace is missing or cannot trace"
+    fi
+done
+
+echo "stamp: $wrong wrong"
+[ "$wrong" -eq 0 ]
