@@ -100,7 +100,7 @@ fn prints_nothing_where_a_call_fails_before_all_is_checked(rt: HostRuntime) -> R
         let words: [&str; 2] = ["export", "4"];
         let status = run(alloc, &words, &mut input, &mut out, &mut entropy, &mut disk);
         if status == Status::Done {
-            done += 1;
+            done = done.saturating_add(1);
             assert_eq!(rt; out.bytes(), TABLE_TEXT.as_bytes());
         } else {
             assert_eq!(rt; status, Status::DiskFault, "call {call}");
