@@ -141,7 +141,7 @@ module _ (old new : Pages) (usable : new.usable ≡ old.usable)
     step_kept met n (divider k) = kept_same _
     step_kept met n (cell rowid stored) = given_kept taken met n rowid stored
 
-    steps_kept : (todo : List Step) (met : List Finding) (n : ℕ) → Kept (steps_of old taken below met n todo) (steps_of new taken again met n todo)
+    pub steps_kept : (todo : List Step) (met : List Finding) (n : ℕ) → Kept (steps_of old taken below met n todo) (steps_of new taken again met n todo)
     steps_kept [] met n = kept_same _
     steps_kept (s ∷ todo) met n =
         append_kept (step old taken below met n s) _ _ _ (step_kept met n s) (λ first. rw first (steps_kept todo (met ++ step old taken below met n s) n))

@@ -1,5 +1,5 @@
 -- Entries and keys as cells.
-use Rattle.std.proofs.Common.{◌≡◌, ◌≤◌, ◌<◌, ◌+◌, ◌-◌, ◌^◌, ◌==◌, ℕ, ℤ, inl, inr, Bool, true, false, List, [], ◌∷◌, ◌++◌, length, take, drop, None, if◌then◌else◌, refl, ap, sym, subst, ◌∙◌, arith, length-append, length-drop}
+use Rattle.std.proofs.Common.{◌≡◌, ◌≤◌, ◌<◌, ◌+◌, ◌-◌, ◌^◌, ◌==◌, ℕ, ℤ, inl, inr, Bool, true, false, List, [], ◌++◌, length, take, drop, None, if◌then◌else◌, refl, ap, sym, subst, ◌∙◌, arith, length-append, length-drop}
 use Rattle.std.specs.Prelude.{nat_le, FitsSigned}
 use Rattle.std.specs.Int.{w64, cast_unsigned}
 use Rattle.std.proofs.lemmas.Bool.{cases_lt}
@@ -10,7 +10,7 @@ use Rattle.btree_page.specs.declared.kind.Family.{Family}
 use Rattle.btree_page.specs.declared.kind.Family.TheVariants.{Table, Index}
 use Rattle.btree_page.specs.declared.kind.Kind.TheVariants.{IndexInterior, IndexLeaf, TableInterior, TableLeaf}
 use Rattle.btree_page.specs.Cell.{Stored, table_leaf, table_interior, index_leaf, index_interior}
-use Rattle.btree_page.specs.Payload.{local_len, max_payload}
+use Rattle.btree_page.specs.Payload.{local_len, max_payload, most_local}
 use Rattle.btree_page.specs.Step.{divider, entry as cell}
 use Rattle.page_build.specs.CellBytes.{IsStoredOn, cell_bytes, stored_bytes}
 use Rattle.page_build.specs.Written.{IsWritten, four_bytes}
@@ -18,7 +18,7 @@ use Rattle.page_build.proofs.CellBack.{IsWritten-cell_bytes}
 use Rattle.bulk_load.specs.declared.pair.Pair.{Pair}
 use Rattle.bulk_load.specs.Cells.{row_len}
 use Rattle.bulk_load.specs.Loader.{stored_as}
-use Rattle.bulk_load.specs.Settle.{IsPair}
+use Rattle.bulk_load.specs.Settle.{IsNamed, IsPair}
 
 le_is : (a b : ℕ) → nat_le a b ≡ true → a ≤ b
 le_is a b h = grind arith
@@ -82,6 +82,42 @@ key_is usable child key pair fits named is =
       up = written;
     }
 
+-- ---- how long the cells between children are
+
+-- the length of a payload takes five bytes at most
+size_len : (n : ℕ) → n ≤ max_payload → varint_size n ≤ 5
+size_len n few =
+    elim (cases_lt 5 (varint_size n)) [
+      | inl more ↦ let least : 128 ^ 5 ≤ n = varint_size-shortest n 5 (omega arith) more in absurd (omega arith)
+      | inr most ↦ most
+    ]
+
+length-stored : (stored : Stored) → length (stored_bytes stored) ≤ length stored.local + 4
+length-stored stored = by_case (stored.first == 0)
+  where
+    by_case : (b : Bool) → length (stored.local ++ (if b then [] else four_bytes stored.first)) ≤ length stored.local + 4
+    by_case true = let e : length (stored.local ++ []) ≡ length stored.local + 0 = length-append stored.local [] in omega arith
+    by_case false = let e : length (stored.local ++ four_bytes stored.first) ≡ length stored.local + 4 = length-append stored.local (four_bytes stored.first) in omega arith
+
+-- an entry of an index
+pub entry_named : (usable : ℕ) (pair : Pair) (stored : Stored) → 480 ≤ usable → stored.size ≤ max_payload → length stored.local ≤ most_local Index usable
+    → pair.cell.items ≡ cell_bytes (index_interior 0 stored) → IsNamed usable pair
+entry_named usable pair stored large few most is =
+    let whole : length pair.cell.items ≡ 4 + length (varint_bytes stored.size ++ stored_bytes stored) = ap length is ∙ length-append (four_bytes 0) (varint_bytes stored.size ++ stored_bytes stored) in
+    let rest : length (varint_bytes stored.size ++ stored_bytes stored) ≡ length (varint_bytes stored.size) + length (stored_bytes stored) = length-append (varint_bytes stored.size) (stored_bytes stored) in
+    let size : length (varint_bytes stored.size) ≡ varint_size stored.size = length-varint_bytes stored.size in
+    let five : varint_size stored.size ≤ 5 = size_len stored.size few in
+    let bytes : length (stored_bytes stored) ≤ length stored.local + 4 = length-stored stored in
+    record { least = omega arith; short = omega arith }
+
+-- a key of a table
+pub key_named : (usable child : ℕ) (key : ℤ) (pair : Pair) → 480 ≤ usable → pair.cell.items ≡ cell_bytes (table_interior child key) → IsNamed usable pair
+key_named usable child key pair large is =
+    let whole : length pair.cell.items ≡ 4 + length (varint_bytes (cast_unsigned w64 key)) = ap length is ∙ length-append (four_bytes child) (varint_bytes (cast_unsigned w64 key)) in
+    let size : length (varint_bytes (cast_unsigned w64 key)) ≡ varint_size (cast_unsigned w64 key) = length-varint_bytes (cast_unsigned w64 key) in
+    let nine : varint_size (cast_unsigned w64 key) ≤ 9 = varint_size-most (cast_unsigned w64 key) in
+    record { least = omega arith; short = omega arith }
+
 -- ---- how long the cell of a row is
 
 pub length-row : (usable : ℕ) (rowid : ℤ) (stored : Stored) → IsStoredOn Table usable stored
@@ -99,14 +135,6 @@ length-row usable rowid stored on =
     by_case : (b : Bool) → length (if b then [] else four_bytes stored.first) ≡ (if b then 0 else 4)
     by_case true = refl
     by_case false = refl
-
--- the length of a payload takes five bytes at most
-size_len : (n : ℕ) → n ≤ max_payload → varint_size n ≤ 5
-size_len n few =
-    elim (cases_lt 5 (varint_size n)) [
-      | inl more ↦ let least : 128 ^ 5 ≤ n = varint_size-shortest n 5 (omega arith) more in absurd (omega arith)
-      | inr most ↦ most
-    ]
 
 -- it fits an empty leaf
 pub row_len-most : (usable length local : ℕ) (rowid : ℤ) → 480 ≤ usable → length ≤ max_payload → local ≤ usable - 35 → row_len length rowid local + 17 ≤ usable

@@ -1,6 +1,6 @@
 -- A page that is closed.
-use Rattle.std.proofs.Common.{◌≡◌, ◌≤◌, ℕ, Bool, true, false, List, ◌==◌, if◌then◌else◌, refl, ap, sym, ◌∙◌, arith}
-use Rattle.btree_page.specs.Kind.{family_of, header_at}
+use Rattle.std.proofs.Common.{◌≡◌, ◌≤◌, ℕ, Bool, true, false, ◌==◌, if◌then◌else◌, refl, ap, arith}
+use Rattle.btree_page.specs.Kind.{header_at}
 
 pub not_first : (n : ℕ) → 2 ≤ n → header_at n ≡ 0
 not_first n h = first (n == 1) refl

@@ -1,5 +1,5 @@
 -- The end of a level, and the root.
-use Rattle.std.proofs.Common.{◌≡◌, ◌≤◌, ◌+◌, ◌-◌, ℕ, suc, ℤ, Bool, true, false, List, [], ◌∷◌, ◌++◌, Option, Some, None, map, if◌then◌else◌, refl, ap, sym, subst, ◌∙◌, arith}
+use Rattle.std.proofs.Common.{◌≡◌, ◌≤◌, ℕ, suc, ℤ, Bool, true, false, List, [], ◌∷◌, ◌++◌, Option, Some, None, map, if◌then◌else◌, refl, ap, sym, subst, ◌∙◌, arith}
 use Rattle.std.specs.Option.{option_map}
 use Rattle.std.proofs.lemmas.List.{append_assoc, append-nil}
 use Rattle.btree_page.specs.declared.kind.Family.{Family}
@@ -24,7 +24,7 @@ use Rattle.bulk_load.specs.declared.level.Level.{Level}
 use Rattle.bulk_load.specs.Close.{HasCells}
 use Rattle.bulk_load.specs.Settle.{up_kind}
 use Rattle.bulk_load.specs.Level.{HoldsLevel}
-use Rattle.bulk_load.specs.Levels.{opened, HoldLevels, AreOpen}
+use Rattle.bulk_load.specs.Levels.{opened, HoldLevels}
 use Rattle.bulk_load.proofs.SettleLemmas.{family_up, with_last, right_is, up_same}
 use Rattle.bulk_load.proofs.LevelsLemmas.{first_level}
 

@@ -1,5 +1,5 @@
 -- The children that wait at a level.
-use Rattle.std.proofs.Common.{◌≡◌, ◌≤◌, ℕ, ℤ, Bool, Option, None, subst, List, [], ◌∷◌, ◌++◌, length, drop, get_or, refl, ap, sym, ◌∙◌, arith}
+use Rattle.std.proofs.Common.{◌≡◌, ◌≤◌, ◌+◌, ◌-◌, ◌*◌, ℕ, ℤ, Bool, Option, None, subst, List, [], ◌∷◌, ◌++◌, length, drop, get_or, refl, ap, sym, ◌∙◌, arith, length-append, length-drop}
 use Rattle.std.proofs.lemmas.List.{append_assoc, append-nil}
 use Rattle.btree_page.specs.declared.kind.Kind.{Kind}
 use Rattle.db_format.specs.Pages.{Pages}
@@ -11,7 +11,8 @@ use Rattle.btree_page.specs.Kind.{family_of}
 use Rattle.page_build.specs.Draft.{Draft}
 use Rattle.load_model.specs.Open.{Open, at_height}
 use Rattle.bulk_load.specs.declared.pair.Pair.{Pair}
-use Rattle.bulk_load.specs.Settle.{IsPair, IsSettled, on}
+use Rattle.page_build.specs.Written.{four_bytes}
+use Rattle.bulk_load.specs.Settle.{IsNamed, IsPair, IsSettled, on}
 use Rattle.bulk_load.specs.Close.{HasCells}
 use Rattle.bulk_load.specs.Level.{AreNamed, ArePairs, waiting_steps}
 use Rattle.bulk_load.proofs.SettleLemmas.{at_height-append}
@@ -31,9 +32,18 @@ waiting_more (q ∷ ps) kind usable [] p s h = absurd h
 waiting_more (q ∷ ps) kind usable (x ∷ ss) p s h =
     ap (λ l. on kind q.child x ++ l) (waiting_more ps kind usable ss p s h.1) ∙ sym (append_assoc (on kind q.child x) (waiting_steps kind ps ss) (on kind p.child s))
 
-pub named_more : (ps : List Pair) (p : Pair) → AreNamed ps → 4 ≤ length p.cell.items → AreNamed (ps ++ p ∷ [])
-named_more [] p h g = (g, tt)
-named_more (q ∷ ps) p h g = (h.0, named_more ps p h.1 g)
+pub named_more : (usable : ℕ) (ps : List Pair) (p : Pair) → AreNamed usable ps → IsNamed usable p → AreNamed usable (ps ++ p ∷ [])
+named_more usable [] p h g = (g, tt)
+named_more usable (q ∷ ps) p h g = (h.0, named_more usable ps p h.1 g)
+
+-- the same behind another child is as long
+pub renamed : (usable m : ℕ) (old new : Pair) → new.cell.items ≡ four_bytes m ++ drop 4 old.cell.items → IsNamed usable old → IsNamed usable new
+renamed usable m old new is named =
+    let both : length new.cell.items ≡ 4 + length (drop 4 old.cell.items) = ap length is ∙ length-append (four_bytes m) (drop 4 old.cell.items) in
+    let rest : length (drop 4 old.cell.items) ≡ length old.cell.items - 4 = length-drop 4 old.cell.items in
+    let least : 4 ≤ length old.cell.items = named.least in
+    let short : 3 * (length old.cell.items + 2) + 12 ≤ usable = named.short in
+    record { least = omega arith; short = omega arith }
 
 -- the oldest, and the others
 pub split : (items rest : List Pair) (first : Pair) → 1 ≤ length items → first ≡ get_or items 0 first → rest ≡ drop 1 items → items ≡ first ∷ rest

@@ -1,8 +1,10 @@
 pub mod CellLemmas
 pub mod ChainLemmas
 pub mod CloseLemmas
+pub mod CountLemmas
 pub mod DrainLemmas
 pub mod EndLemmas
+pub mod HeadedLemmas
 pub mod LevelLemmas
 pub mod LevelsLemmas
 pub mod MemOutLemmas

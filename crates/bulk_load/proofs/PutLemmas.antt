@@ -1,11 +1,11 @@
 -- What puts keep, one after another.
-use Rattle.std.proofs.Common.{◌≡◌, ◌≤◌, ◌<◌, ℕ, ◌+◌, Bool, true, false, List, ◌==◌, ◌&&◌, Result, Ok, Err, OnOk, refl, ap, sym, ◌∙◌, arith}
+use Rattle.std.proofs.Common.{◌≡◌, ◌≤◌, ℕ, ◌+◌, Bool, true, false, List, ◌==◌, ◌&&◌, Result, Ok, Err, OnOk, refl, ap, sym, ◌∙◌, arith}
 use Rattle.std.specs.Prelude.{nat_le, nat_lt}
 use Rattle.std.proofs.lemmas.Bool.{eqb-true}
-use Rattle.db_format.specs.Pages.{Pages}
-use Rattle.btree_model.specs.Range.{is_in_range}
+use Rattle.db_format.specs.Pages.{Pages, Test}
 use Rattle.load_model.specs.Stands.{IsPut}
-use Rattle.bulk_load.specs.Out.{Faults, Follows, IsPutAs, IsTaken, Keeps, MarksAt, SameBut, SameNumbers, is_new}
+use Rattle.bulk_load.specs.Out.{AreAllPut, Faults, Follows, IsPutAs, IsTaken, Keeps, MarksAt, SameBut, SameNumbers, is_new}
+use Rattle.bulk_load.specs.Own.{Covers, only}
 
 new_left : (a b c k : ℕ) → a ≤ b → b ≤ c → (nat_lt a k && nat_le k c) ≡ false → (nat_lt a k && nat_le k b) ≡ false
 new_left a b c k h g old = grind arith
@@ -31,6 +31,46 @@ le_and a b c d h g = grind arith
 not_first : (first b : Bool) → b ≡ false → (first && b) ≡ false
 not_first true b h = h
 not_first false b h = refl
+
+new_more_left : (a b c k : ℕ) → b ≤ c → (nat_lt a k && nat_le k b) ≡ true → (nat_lt a k && nat_le k c) ≡ true
+new_more_left a b c k h new = grind arith
+
+new_more_right : (a b c k : ℕ) → a ≤ b → (nat_lt b k && nat_le k c) ≡ true → (nat_lt a k && nat_le k c) ≡ true
+new_more_right a b c k h new = grind arith
+
+new_here : (a c n : ℕ) → c ≡ a + 1 → n ≡ c → (nat_lt a n && nat_le n c) ≡ true
+new_here a c n one is = grind arith
+
+-- a test that covers a stretch covers its parts
+pub covers_before : (first : Bool) (own : Test) (a b c : Pages) → b.count ≤ c.count → Covers first own a c → Covers false own a b
+covers_before first own a b c le covers =
+    record { taken = λ k new. covers.taken k (new_more_left a.count b.count c.count k le new); one = λ no. cc }
+
+pub covers_behind : (first : Bool) (own : Test) (a b c : Pages) → a.count ≤ b.count → Covers first own a c → Covers first own b c
+covers_behind first own a b c le covers =
+    record { taken = λ k new. covers.taken k (new_more_right a.count b.count c.count k le new); one = covers.one }
+
+pub covers_taken : (first : Bool) (own : Test) (a b : Pages) → Covers first own a b → Covers false own a b
+covers_taken first own a b covers = record { taken = covers.taken; one = λ no. cc }
+
+fails_too : (b c : Bool) → c ≡ false → (b && c) ≡ false
+fails_too true c h = h
+fails_too false c h = refl
+
+both_true : (b c : Bool) → b ≡ true → c ≡ true → (b && c) ≡ true
+both_true true c h g = g
+both_true false c h g = cc
+
+-- a page of one's own was put
+pub put_own : (own : Test) (old new : Pages) (n : ℕ) → own n ≡ true → IsPut old new n → IsPut (only own old) (only own new) n
+put_own own old new n mine put = record {
+  fresh = fails_too (own n) (old.accepts n) put.fresh;
+  put = both_true (own n) (new.accepts n) mine put.put;
+  size = put.size;
+  range = put.range;
+  stays = put.stays;
+  stays_put = λ k other. ap (λ b. own k && b) (put.stays_put k other);
+}
 
 module _ {S : Type 0} (pages : S → Pages) (limit : S → ℕ) (faults : S → Faults) (well : ℕ → S → Type 0) where
   pub keeps_same : (a : S) → Keeps pages limit faults well false a a
@@ -126,15 +166,16 @@ module _ {S : Type 0} (pages : S → Pages) (limit : S → ℕ) (faults : S → 
     first_puts k h =
         let no : true ≡ false = sym h ∙ ap (λ m. nat_lt (pages a).count k && nat_le k m) marks.count ∙ new_none (pages a).count k in cc
 
-    pub first_put : SameBut (pages a) (pages b) 1 → (pages b).accepts 1 ≡ true → IsPut (pages a) (pages b) 1
-    first_put told put = record {
+    pub first_put : (own : Test) → Covers true own (pages a) (pages b) → SameBut (pages a) (pages b) 1 → (pages b).accepts 1 ≡ true
+        → IsPut (only own (pages a)) (only own (pages b)) 1
+    first_put own covers told put = put_own own (pages a) (pages b) 1 (covers.one refl) (record {
       fresh = free;
       put = put;
       size = marks.size;
       range = λ n h. ap (λ m. nat_le 2 n && nat_le n m) marks.count ∙ h;
       stays = told;
       stays_put = marks.others;
-    }
+    })
 
   -- page 1 is as it was
   pub still_free : (a b : S) → 1 ≤ (pages a).count → Keeps pages limit faults well false a b → (pages a).accepts 1 ≡ false → (pages b).accepts 1 ≡ false
@@ -142,6 +183,17 @@ module _ {S : Type 0} (pages : S → Pages) (limit : S → ℕ) (faults : S → 
     where
       not_new : (m p : ℕ) → 1 ≤ m → (nat_lt m 1 && nat_le 1 p) ≡ false
       not_new m p h = grind arith
+
+  -- where no number had been taken before: each page was put
+  pub all_put : (a b : S) → (pages a).count ≡ 1 → Follows pages limit faults well true a b → AreAllPut (pages b)
+  all_put a b none f n is = by_first (n == 1) refl
+    where
+      later : (m p k : ℕ) → m ≡ 1 → (nat_le 1 k && nat_le k p) ≡ true → (k == 1) ≡ false → (nat_lt m k && nat_le k p) ≡ true
+      later m p k one inside other = grind arith
+
+      by_first : (e : Bool) → (n == 1) ≡ e → (pages b).accepts n ≡ true
+      by_first true one = ap (pages b).accepts (eqb-true n 1 one) ∙ f.puts_first refl
+      by_first false other = f.puts n (later (pages a).count (pages b).count n none is other)
 
   -- no number was given
   pub refused_keeps : (a b : S) → SameNumbers (pages a) (pages b)
@@ -194,20 +246,22 @@ module _ {S : Type 0} (pages : S → Pages) (limit : S → ℕ) (faults : S → 
         new_one (pages a).count k (ap (λ m. nat_lt (pages a).count k && nat_le k m) (sym (marks.count ∙ taken.count)) ∙ h) in
         ap (pages c).accepts (here ∙ sym (taken.next ∙ taken.count)) ∙ put
 
-    pub next_put : (start : ℕ) → well start a → (bytes : List ℕ) → (pages c).accepts n ≡ true → (pages c).page n ≡ bytes → IsPutAs (pages a) (pages c) n bytes
-    next_put start w bytes put here =
+    pub next_put : (start : ℕ) → well start a → (own : Test) → Covers false own (pages a) (pages c) → (bytes : List ℕ) → (pages c).accepts n ≡ true
+        → (pages c).page n ≡ bytes → IsPutAs (only own (pages a)) (only own (pages c)) n bytes
+    next_put start w own covers bytes put here =
         let one = taken.count in
         let same = marks.count in
         let is = taken.next in
+        let mine : own n ≡ true = covers.taken n (new_here (pages a).count (pages c).count n (omega arith) (omega arith)) in
         record {
-          put = record {
+          put = put_own own (pages a) (pages c) n mine (record {
             fresh = sym (taken.accepts n) ∙ taken.free;
             put = put;
             size = marks.size ∙ taken.size;
             range = λ k h. wider k (pages a).count (pages c).count (omega arith) h;
             stays = λ k other. told start (well_taken start w) k other ∙ told_taken start w k;
             stays_put = λ k other. marks.others k other ∙ taken.accepts k;
-          };
+          });
           range = le_and 2 n n (pages c).count taken.low (omega arith);
           low = taken.low;
           here = here;

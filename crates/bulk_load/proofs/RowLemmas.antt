@@ -11,7 +11,7 @@ use Rattle.btree_page.specs.Step.{Step, steps, divider, child, entry as cell}
 use Rattle.btree_model.specs.Content.{Entry}
 use Rattle.load_model.specs.Open.{Open, at_height, open_found}
 use Rattle.load_model.specs.Stands.{Stands, is_at_most}
-use Rattle.page_build.specs.Written.{IsWritten, AreWritten}
+use Rattle.page_build.specs.Written.{IsWritten}
 use Rattle.btree_page.specs.Kind.{family_of}
 use Rattle.load_model.proofs.RootLemmas.{nothing_stands}
 use Rattle.load_model.proofs.EntryLemmas.{cell_stands}

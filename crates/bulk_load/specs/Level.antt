@@ -1,5 +1,5 @@
 -- What one level holds.
-use Rattle.std.specs.Prelude.{ℕ, suc, ◌≡◌, ◌≤◌, ℤ, List, [], ◌∷◌, ◌++◌, length, Option, Some, None}
+use Rattle.std.specs.Prelude.{ℕ, suc, ◌≡◌, ℤ, List, [], ◌∷◌, ◌++◌, Option, Some, None}
 use Rattle.btree_page.specs.declared.kind.Kind.{Kind}
 use Rattle.btree_page.specs.Cell.{Cell}
 use Rattle.db_format.specs.Pages.{Pages}
@@ -11,17 +11,17 @@ use Rattle.btree_page.specs.Kind.{family_of}
 use Rattle.bulk_load.specs.declared.pair.Pair.{Pair}
 use Rattle.bulk_load.specs.declared.level.Level.{Level}
 use Rattle.bulk_load.specs.Close.{HasCells}
-use Rattle.bulk_load.specs.Settle.{IsPair, up_kind, on, two}
+use Rattle.bulk_load.specs.Settle.{IsNamed, IsPair, up_kind, on, two}
 
-abbrev pub AreNamed : List Pair → Type 0
-AreNamed [] = Unit {0}
-AreNamed (pair ∷ pairs) = 4 ≤ length pair.cell.items × AreNamed pairs
+abbrev pub AreNamed : ℕ → List Pair → Type 0
+AreNamed usable [] = Unit {0}
+AreNamed usable (pair ∷ pairs) = IsNamed usable pair × AreNamed usable pairs
 
 -- sizes
 pub record IsReady (level : Level) (usable : ℕ) : Type 0 where
   pub size : level.page.usable ≡ usable
   pub plain : level.page.header ≡ 0
-  pub named : AreNamed level.waiting.items
+  pub named : AreNamed usable level.waiting.items
 
 -- these stand behind the children that wait
 abbrev pub ArePairs : List Pair → Kind → ℕ → List Step → Type 0

@@ -1,10 +1,13 @@
 pub mod Cells
 pub mod Chain
 pub mod Close
+pub mod Count
+pub mod Headed
 pub mod Leaf
 pub mod Level
 pub mod Levels
 pub mod Loader
 pub mod MemOut
 pub mod Out
+pub mod Own
 pub mod Settle

@@ -1,6 +1,6 @@
 -- What a loader holds.
 use Rattle.std.specs.Option.{option_map_or}
-use Rattle.std.specs.Prelude.{Bool, true, false, None, is_some, is_none, ℕ, ◌≡◌, ◌≤◌, ℤ, List, [], ◌++◌, length, take, Option, Some, FitsSigned, nat_le, if◌then◌else◌}
+use Rattle.std.specs.Prelude.{Bool, false, None, is_some, is_none, ℕ, ◌≡◌, ℤ, List, [], ◌++◌, length, take, Option, Some, FitsSigned, nat_le, if◌then◌else◌}
 use Rattle.std.specs.Int.{w64}
 use Rattle.btree_page.specs.declared.kind.Kind.{Kind}
 use Rattle.btree_page.specs.declared.kind.Family.{Family}

@@ -1,6 +1,6 @@
 -- Where pages are put: what its calls change, and why they fail.
 use Rattle.std.specs.Prelude.{ℕ, ◌≡◌, ◌+◌, ◌≤◌, ◌==◌, ◌&&◌, Bool, true, false, List, nat_le, nat_lt}
-use Rattle.db_format.specs.Pages.{Pages}
+use Rattle.db_format.specs.Pages.{Pages, is_page}
 use Rattle.db_format.specs.Source.{Rose}
 use Rattle.btree_model.specs.Range.{is_in_range}
 use Rattle.load_model.specs.Stands.{IsPut}
@@ -39,6 +39,10 @@ pub record MarksAt (old new : Pages) (n : ℕ) : Type 0 where
 -- every page but n reads as before
 abbrev pub SameBut : Pages → Pages → ℕ → Type 0
 SameBut old new n = (k : ℕ) → (n == k) ≡ false → new.page k ≡ old.page k
+
+-- each page was put
+abbrev pub AreAllPut : Pages → Type 0
+AreAllPut pages = (n : ℕ) → is_page pages n ≡ true → pages.accepts n ≡ true
 
 -- k was taken between the two
 abbrev pub is_new : Pages → Pages → ℕ → Bool

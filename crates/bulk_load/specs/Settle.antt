@@ -1,5 +1,5 @@
 -- What a level of open pages does with a child, and the leaf of an index with an entry.
-use Rattle.std.specs.Prelude.{ℕ, suc, ◌≡◌, ℤ, pos, Bool, true, false, List, [], ◌∷◌, ◌++◌, drop, Option, Some, None}
+use Rattle.std.specs.Prelude.{ℕ, suc, ◌+◌, ◌*◌, ◌≤◌, ◌≡◌, ℤ, pos, Bool, true, false, List, [], ◌∷◌, ◌++◌, drop, length, Option, Some, None}
 use Rattle.btree_page.specs.declared.kind.Kind.{Kind}
 use Rattle.btree_page.specs.declared.kind.Kind.TheVariants.{IndexInterior, TableInterior, IndexLeaf, TableLeaf}
 use Rattle.btree_page.specs.Cell.{Cell, table_interior, index_leaf, index_interior}
@@ -13,6 +13,11 @@ use Rattle.btree_page.specs.Kind.{family_of}
 use Rattle.page_build.specs.Draft.{Draft}
 use Rattle.bulk_load.specs.declared.pair.Pair.{Pair}
 use Rattle.bulk_load.specs.Close.{HasCells}
+
+-- the cell has the four bytes of a child, and three as long with their offsets fit on a page of this usable size
+pub record IsNamed (usable : ℕ) (pair : Pair) : Type 0 where
+  pub least : 4 ≤ length pair.cell.items
+  pub short : 3 * (length pair.cell.items + 2) + 12 ≤ usable
 
 -- what may stand between two children: a key of a table, or an entry of an index
 abbrev pub is_between : Step → Bool

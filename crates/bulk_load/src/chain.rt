@@ -1,6 +1,9 @@
 // Overflow pages, section 1.7. A chain is put from its end, so each page names one that was put.
-ghost use Rattle.std.specs.Prelude.{◌≡◌, ℕ, ◌+◌, ◌≤◌, ◌<◌, length, IfOk, IfErr, OnOk, false};
+ghost use Rattle.std.specs.Prelude.{◌≡◌, ℕ, ◌+◌, ◌≤◌, ◌<◌, length, IfOk, IfErr, OnOk, false, OnErr, ◌-◌};
 ghost use Rattle.bulk_load.specs.Chain.{IsLink, IsPutChain};
+ghost use Rattle.db_format.specs.Pages.{Test};
+ghost use Rattle.bulk_load.specs.Count.{pages_for};
+ghost use Rattle.bulk_load.specs.Own.{Covers, only};
 ghost use Rattle.bulk_load.specs.Out.{Follows, HasCause, Keeps};
 
 use crate::out::{OutError, PageOut};
@@ -17,9 +20,11 @@ fn put_link<P: PageOut>(
     requires size { length page.old.items ≡ (P.pages out.old).usable }
     requires fits { 4 + length piece.now ≤ length page.old.items }
     ensures size { length page.new.items ≡ length page.old.items }
-    ensures link { (start : ℕ) → P.well start out.old → IfOk result (λ n. IsLink (P.pages out.old) (P.pages out.new) n next piece.now) }
+    ensures link { (start : ℕ) → P.well start out.old → (own : Test) → Covers false own (P.pages out.old) (P.pages out.new)
+        → IfOk result (λ n. IsLink (only own (P.pages out.old)) (only own (P.pages out.new)) n next piece.now) }
     ensures low { IfOk result (λ n. 2 ≤ n) }
     ensures one { OnOk result ((P.pages out.new).count ≡ (P.pages out.old).count + 1) }
+    ensures refused { OnErr result ((P.pages out.new).count ≤ (P.pages out.old).count + 1) }
     ensures keeps { Keeps P.pages P.limit P.faults P.well false out.old out.new }
     ensures follows { OnOk result (Follows P.pages P.limit P.faults P.well false out.old out.new) }
     ensures cause { IfErr result (HasCause P.pages P.limit P.faults out.old out.new) }
@@ -35,9 +40,12 @@ pub fn put_chain<P: PageOut>(out: &mut P, page: &mut Vec<u8>, rest: &[u8]) -> Re
     requires size { length page.old.items ≡ (P.pages out.old).usable }
     requires large { 480 ≤ length page.old.items }
     ensures size { OnOk result (length page.new.items ≡ length page.old.items) }
-    ensures chain { (start : ℕ) → P.well start out.old → IfOk result (λ n. IsPutChain (P.pages out.old) (P.pages out.new) n rest.now) }
+    ensures chain { (start : ℕ) → P.well start out.old → (own : Test) → Covers false own (P.pages out.old) (P.pages out.new)
+        → IfOk result (λ n. IsPutChain (only own (P.pages out.old)) (only own (P.pages out.new)) n rest.now) }
     ensures none { length rest.now ≡ 0 → IfOk result (λ n. n ≡ 0) }
     ensures some { 0 < length rest.now → IfOk result (λ n. 2 ≤ n) }
+    ensures count { OnOk result ((P.pages out.new).count ≡ (P.pages out.old).count + pages_for ((P.pages out.old).usable - 4) (length rest.now)) }
+    ensures refused { OnErr result ((P.pages out.new).count ≤ (P.pages out.old).count + pages_for ((P.pages out.old).usable - 4) (length rest.now)) }
     ensures keeps { Keeps P.pages P.limit P.faults P.well false out.old out.new }
     ensures follows { OnOk result (Follows P.pages P.limit P.faults P.well false out.old out.new) }
     ensures cause { IfErr result (HasCause P.pages P.limit P.faults out.old out.new) }

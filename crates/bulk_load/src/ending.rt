@@ -1,5 +1,5 @@
 // The end of a tree: its levels end one by one, from the lowest up.
-ghost use Rattle.std.specs.Prelude.{◌≡◌, ℕ, suc, ℤ, ◌+◌, ◌≤◌, true, false, List, [], ◌++◌, Option, Some, map, IfOk, IfErr, OnOk};
+ghost use Rattle.std.specs.Prelude.{◌≡◌, ℕ, suc, ℤ, ◌+◌, ◌≤◌, true, false, List, [], ◌++◌, Option, Some, map, IfOk, IfErr, OnOk, ◌⊎◌, length};
 ghost use Rattle.std.specs.Option.{option_map};
 ghost use Rattle.btree_page.specs.Kind.{family_of};
 ghost use Rattle.btree_page.specs.Step.{Step, steps};
@@ -10,6 +10,9 @@ ghost use Rattle.load_model.specs.Stands.{Stands};
 ghost use Rattle.page_build.specs.Written.{right_child};
 ghost use Rattle.bulk_load.specs.Level.{IsReady, HoldsLevel};
 ghost use Rattle.bulk_load.specs.Levels.{AreReady, HoldLevels, opened};
+ghost use Rattle.db_format.specs.Pages.{Test};
+ghost use Rattle.bulk_load.specs.Count.{AreBack, CanEnd, held, load};
+ghost use Rattle.bulk_load.specs.Own.{Covers, only};
 ghost use Rattle.bulk_load.specs.Out.{Follows, HasLoadCause, Keeps};
 ghost use Rattle.bulk_load.specs.Settle.{up_kind};
 
@@ -38,14 +41,17 @@ pub fn end_levels<P: PageOut>(
     requires ready { IsReady level.old (P.pages out.old).usable }
     requires ready_above { AreReady above.old.items (P.pages out.old).usable }
     requires free { at_one ≡ true → (P.pages out.old).accepts 1 ≡ false }
-    ensures tree { (start : ℕ) → P.well start out.old → (todo : List Step) (todos : List (List Step)) (h : ℕ) (last : Option ℤ) (pushed : List Entry)
+    ensures tree { (start : ℕ) → P.well start out.old → (own : Test) → Covers at_one own (P.pages out.old) (P.pages out.new)
+        → (todo : List Step) (todos : List (List Step)) (h : ℕ) (last : Option ℤ) (pushed : List Entry)
         → h + left ≤ 18
         → up_kind level.old.page.kind ≡ kind
         → HoldsLevel level.old (P.pages out.old).usable todo
         → HoldLevels above.old.items (P.pages out.old).usable kind todos
-        → Stands (P.pages out.old) (family_of kind) last (opened (suc h) todos ++ (at_height h todo ++ at_height h (steps [] (right_child level.old.page.kind below)))) pushed
-        → IfOk result (λ root. option_map (map entry_of) (tree (P.pages out.new) (family_of kind) root) ≡ Some pushed) }
+        → Stands (only own (P.pages out.old)) (family_of kind) last (opened (suc h) todos ++ (at_height h todo ++ at_height h (steps [] (right_child level.old.page.kind below)))) pushed
+        → IfOk result (λ root. option_map (map entry_of) (tree (only own (P.pages out.new)) (family_of kind) root) ≡ Some pushed) }
     ensures one { at_one ≡ true → IfOk result (λ root. root ≡ 1) }
+    ensures count { CanEnd level.old.page level.old.waiting.items → AreBack above.old.items → (1 ≤ load level.old) ⊎ (length above.old.items ≡ 0)
+        → (P.pages out.new).count ≤ (P.pages out.old).count + (load level.old + held above.old.items + 1) }
     ensures keeps { Keeps P.pages P.limit P.faults P.well at_one out.old out.new }
     ensures follows { OnOk result (Follows P.pages P.limit P.faults P.well at_one out.old out.new) }
     ensures cause { IfErr result (HasLoadCause P.pages P.limit P.faults out.old out.new) }

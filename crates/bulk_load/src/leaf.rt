@@ -1,5 +1,5 @@
 // The open leaf of a table.
-ghost use Rattle.std.specs.Prelude.{◌≡◌, ℕ, ℤ, ◌+◌, ◌≤◌, max, List, [], ◌∷◌, ◌++◌, Some, None, IfOk, IfErr, OnOk, false};
+ghost use Rattle.std.specs.Prelude.{◌≡◌, ℕ, ℤ, ◌+◌, ◌≤◌, max, List, [], ◌∷◌, ◌++◌, Some, None, IfOk, IfErr, OnOk, false, OnErr, ◌*◌, length};
 ghost use Rattle.btree_page.specs.declared.kind.Family.TheVariants.{Table};
 ghost use Rattle.btree_page.specs.declared.kind.Kind.TheVariants.{TableLeaf};
 ghost use Rattle.btree_page.specs.Cell.{Cell};
@@ -10,6 +10,9 @@ ghost use Rattle.load_model.specs.Stands.{Stands};
 ghost use Rattle.page_build.specs.Draft.{room_of};
 ghost use Rattle.bulk_load.specs.Close.{HasCells, SameShape};
 ghost use Rattle.bulk_load.specs.Leaf.{HasRoom};
+ghost use Rattle.std.specs.Option.{option_to_list};
+ghost use Rattle.db_format.specs.Pages.{Test};
+ghost use Rattle.bulk_load.specs.Own.{Covers, only};
 ghost use Rattle.bulk_load.specs.Out.{Follows, HasCause, Keeps};
 
 use crate::closing::close;
@@ -30,10 +33,13 @@ pub fn make_room<P: PageOut>(
     requires fits { max 4 len + 10 ≤ leaf.old.usable }
     ensures shape { SameShape leaf.old leaf.new }
     ensures fits { OnOk result (max 4 len + 2 ≤ room_of leaf.new) }
-    ensures room { (start : ℕ) → P.well start out.old → (k : ℤ) (cells : List Cell) (front : List Open) (pushed : List Entry)
+    ensures room { (start : ℕ) → P.well start out.old → (own : Test) → Covers false own (P.pages out.old) (P.pages out.new)
+        → (k : ℤ) (cells : List Cell) (front : List Open) (pushed : List Entry)
         → HasCells leaf.old (P.pages out.old).usable cells
-        → Stands (P.pages out.old) Table (Some k) (front ++ at_height 0 (steps cells None)) pushed
-        → IfOk result (HasRoom (P.pages out.new) leaf.new (P.pages out.old).usable k cells front pushed) }
+        → Stands (only own (P.pages out.old)) Table (Some k) (front ++ at_height 0 (steps cells None)) pushed
+        → IfOk result (HasRoom (only own (P.pages out.new)) leaf.new (P.pages out.old).usable k cells front pushed) }
+    ensures count { IfOk result (λ closed. (P.pages out.new).count + (2 * length leaf.new.cells + length (option_to_list closed)) ≤ (P.pages out.old).count + 2 * length leaf.old.cells) }
+    ensures refused { OnErr result ((P.pages out.new).count ≤ (P.pages out.old).count + 1) }
     ensures keeps { Keeps P.pages P.limit P.faults P.well false out.old out.new }
     ensures follows { OnOk result (Follows P.pages P.limit P.faults P.well false out.old out.new) }
     ensures cause { IfErr result (HasCause P.pages P.limit P.faults out.old out.new) }

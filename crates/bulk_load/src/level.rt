@@ -1,7 +1,7 @@
 // The open page of one level, and what waits to be put on it.
-ghost use Rattle.std.specs.Prelude.{◌≡◌, ℕ, suc, ℤ, ◌+◌, ◌≤◌, List, [], ◌∷◌, ◌++◌, length, drop, Option, None, IfOk, IfErr, OnOk, vec_len, false};
+ghost use Rattle.std.specs.Prelude.{◌≡◌, ℕ, suc, ℤ, ◌+◌, ◌≤◌, List, [], ◌∷◌, ◌++◌, length, drop, Option, None, IfOk, IfErr, OnOk, vec_len, false, OnErr};
 ghost use Rattle.std.specs.Option.{option_to_list};
-ghost use Rattle.db_format.specs.Pages.{IsUsable};
+ghost use Rattle.db_format.specs.Pages.{IsUsable, Test};
 ghost use Rattle.btree_page.specs.Kind.{family_of};
 ghost use Rattle.btree_page.specs.Step.{Step};
 ghost use Rattle.btree_model.specs.Content.{Entry};
@@ -9,8 +9,10 @@ ghost use Rattle.load_model.specs.Open.{Open, at_height};
 ghost use Rattle.load_model.specs.Stands.{Stands};
 ghost use Rattle.bulk_load.specs.Close.{HasCells};
 ghost use Rattle.bulk_load.specs.Level.{IsReady, AreNamed, HoldsLevel, IsEntered};
+ghost use Rattle.bulk_load.specs.Count.{IsBack, IsBegun, load};
+ghost use Rattle.bulk_load.specs.Own.{Covers, only};
 ghost use Rattle.bulk_load.specs.Out.{Follows, HasLoadCause, Keeps};
-ghost use Rattle.bulk_load.specs.Settle.{IsPair, on};
+ghost use Rattle.bulk_load.specs.Settle.{IsNamed, IsPair, on};
 
 use crate::error::LoadError;
 use crate::out::PageOut;
@@ -51,15 +53,19 @@ impl Level {
     #[tactic(auto, using(crate::proofs::PutLemmas::keeps_after, crate::proofs::PutLemmas::keeps_same, crate::proofs::PutLemmas::follows_same))]
     pub fn enter<P: PageOut>(&mut self, out: &mut P, pair: Pair) -> Result<Option<Pair>, LoadError>
         requires ready { IsReady self.old (P.pages out.old).usable }
-        requires named { 4 ≤ length pair.cell.items }
+        requires named { IsNamed (P.pages out.old).usable pair }
         ensures ready { OnOk result (IsReady self.new (P.pages out.old).usable) }
         ensures kind { OnOk result (self.new.page.kind ≡ self.old.page.kind) }
-        ensures named { IfOk result (λ up. AreNamed (option_to_list up)) }
-        ensures entered { (start : ℕ) → P.well start out.old → (todo : List Step) (s : Step) (h : ℕ) (front back : List Open) (last : Option ℤ) (pushed : List Entry)
+        ensures named { IfOk result (λ up. AreNamed (P.pages out.old).usable (option_to_list up)) }
+        ensures entered { (start : ℕ) → P.well start out.old → (own : Test) → Covers false own (P.pages out.old) (P.pages out.new)
+            → (todo : List Step) (s : Step) (h : ℕ) (front back : List Open) (last : Option ℤ) (pushed : List Entry)
             → HoldsLevel self.old (P.pages out.old).usable todo
             → IsPair pair self.old.page.kind (P.pages out.old).usable s
-            → Stands (P.pages out.old) (family_of self.old.page.kind) last (front ++ (at_height h todo ++ (at_height h (on self.old.page.kind pair.child s) ++ back))) pushed
-            → IfOk result (IsEntered (P.pages out.new) self.new (P.pages out.old).usable self.old.page.kind h front back last pushed) }
+            → Stands (only own (P.pages out.old)) (family_of self.old.page.kind) last (front ++ (at_height h todo ++ (at_height h (on self.old.page.kind pair.child s) ++ back))) pushed
+            → IfOk result (IsEntered (only own (P.pages out.new)) self.new (P.pages out.old).usable self.old.page.kind h front back last pushed) }
+        ensures back { IsBegun self.old.page self.old.waiting.items → OnOk result (IsBack self.new.page self.new.waiting.items) }
+        ensures count { IfOk result (λ up. (P.pages out.new).count + (load self.new + length (option_to_list up)) ≤ (P.pages out.old).count + (load self.old + 1)) }
+        ensures refused { OnErr result ((P.pages out.new).count ≤ (P.pages out.old).count + 1) }
         ensures keeps { Keeps P.pages P.limit P.faults P.well false out.old out.new }
         ensures follows { OnOk result (Follows P.pages P.limit P.faults P.well false out.old out.new) }
         ensures cause { IfErr result (HasLoadCause P.pages P.limit P.faults out.old out.new) }

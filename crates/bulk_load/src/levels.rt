@@ -1,15 +1,18 @@
 // The levels of interior pages, from the lowest up.
-ghost use Rattle.std.specs.Prelude.{◌≡◌, ℕ, suc, ℤ, ◌+◌, ◌≤◌, true, List, [], ◌∷◌, ◌++◌, length, Option, Some, None, map, IfOk, IfErr, OnOk, MatchOption, false};
-ghost use Rattle.db_format.specs.Pages.{IsUsable};
+ghost use Rattle.std.specs.Prelude.{◌≡◌, ℕ, suc, ℤ, ◌+◌, ◌≤◌, true, List, [], ◌∷◌, ◌++◌, length, Option, Some, None, map, IfOk, IfErr, OnOk, MatchOption, false, OnErr, ◌*◌};
+ghost use Rattle.db_format.specs.Pages.{IsUsable, Test};
 ghost use Rattle.btree_page.specs.Kind.{family_of, is_interior};
 ghost use Rattle.btree_page.specs.Step.{Step, steps, child};
 ghost use Rattle.btree_model.specs.Content.{Entry};
 ghost use Rattle.load_model.specs.Open.{Open, at_height};
 ghost use Rattle.load_model.specs.Stands.{Stands};
-ghost use Rattle.bulk_load.specs.Level.{IsReady, HoldsLevel};
+ghost use Rattle.bulk_load.specs.Level.{AreNamed, IsReady, HoldsLevel};
+ghost use Rattle.bulk_load.specs.declared.pair.Pair.{Pair};
 ghost use Rattle.bulk_load.specs.Levels.{AreReady, HoldLevels, opened, AreOpen, IsDrained};
+ghost use Rattle.bulk_load.specs.Count.{AreBack, CanEnd, IsBack, held, load};
+ghost use Rattle.bulk_load.specs.Own.{Covers, only};
 ghost use Rattle.bulk_load.specs.Out.{Follows, HasLoadCause, Keeps};
-ghost use Rattle.bulk_load.specs.Settle.{IsPair, two, up_kind};
+ghost use Rattle.bulk_load.specs.Settle.{IsNamed, IsPair, two, up_kind};
 
 use crate::error::LoadError;
 use crate::level::Level;
@@ -21,10 +24,12 @@ use std::alloc::Global;
 // A level with this child alone.
 fn over(alloc: Global, usable: usize, kind: Kind, pair: Pair) -> Result<Level, LoadError>
     requires usable { IsUsable usable }
-    requires named { 4 ≤ length pair.cell.items }
+    requires named { IsNamed usable pair }
     ensures ready { IfOk result (λ level. IsReady level usable) }
     ensures holds { (s : Step) → is_interior kind ≡ true → IsPair pair kind usable s
         → IfOk result (λ level. (level.page.kind ≡ kind) × HoldsLevel level usable (child pair.child ∷ s ∷ [])) }
+    ensures back { IfOk result (λ level. IsBack level.page level.waiting.items) }
+    ensures one { IfOk result (λ level. load level ≡ 1) }
     ensures cause { IfErr result (λ error. error ≡ LoadError.OutOfMemory) }
 {
     let mut level = Level::new(alloc, usable, kind)?;
@@ -75,14 +80,18 @@ pub fn climb<P: PageOut>(
     pair: Pair,
 ) -> Result<(), LoadError>
     requires ready { AreReady levels.old.items (P.pages out.old).usable }
-    requires named { 4 ≤ length pair.cell.items }
+    requires named { IsNamed (P.pages out.old).usable pair }
     ensures ready { OnOk result (AreReady levels.new.items (P.pages out.old).usable) }
-    ensures climbed { (start : ℕ) → P.well start out.old → (todos : List (List Step)) (s : Step) (h : ℕ) (back : List Open) (last : Option ℤ) (pushed : List Entry)
+    ensures climbed { (start : ℕ) → P.well start out.old → (own : Test) → Covers false own (P.pages out.old) (P.pages out.new)
+        → (todos : List (List Step)) (s : Step) (h : ℕ) (back : List Open) (last : Option ℤ) (pushed : List Entry)
         → is_interior kind ≡ true
         → HoldLevels levels.old.items (P.pages out.old).usable kind todos
         → IsPair pair kind (P.pages out.old).usable s
-        → Stands (P.pages out.old) (family_of kind) last (opened h todos ++ (two h pair.child s ++ back)) pushed
-        → OnOk result (AreOpen (P.pages out.new) levels.new.items (P.pages out.old).usable kind h back last pushed) }
+        → Stands (only own (P.pages out.old)) (family_of kind) last (opened h todos ++ (two h pair.child s ++ back)) pushed
+        → OnOk result (AreOpen (only own (P.pages out.new)) levels.new.items (P.pages out.old).usable kind h back last pushed) }
+    ensures back { AreBack levels.old.items → OnOk result (AreBack levels.new.items) }
+    ensures count { OnOk result ((P.pages out.new).count + held levels.new.items ≤ (P.pages out.old).count + (held levels.old.items + 1)) }
+    ensures refused { OnErr result ((P.pages out.new).count ≤ (P.pages out.old).count + (held levels.old.items + 2)) }
     ensures keeps { Keeps P.pages P.limit P.faults P.well false out.old out.new }
     ensures follows { OnOk result (Follows P.pages P.limit P.faults P.well false out.old out.new) }
     ensures cause { IfErr result (HasLoadCause P.pages P.limit P.faults out.old out.new) }
@@ -102,7 +111,10 @@ pub fn climb<P: PageOut>(
 }
 
 // How many bytes the next one takes on a page.
-fn next_size(waiting: &Vec<Pair>) -> usize {
+fn next_size(waiting: &Vec<Pair>) -> usize
+    ensures most { (usable : ℕ) → 12 ≤ usable → AreNamed usable waiting.now.items → 3 * result + 12 ≤ usable }
+    ensures value { (pair : Pair) (rest : List Pair) → waiting.now.items ≡ pair ∷ rest → 4 ≤ length pair.cell.items → result ≡ length pair.cell.items + 2 }
+{
     if waiting.is_empty() {
         return 0;
     }
@@ -123,12 +135,17 @@ pub fn drain<P: PageOut>(
     ensures ready { OnOk result (IsReady level.new (P.pages out.old).usable) }
     ensures ready_above { OnOk result (AreReady above.new.items (P.pages out.old).usable) }
     ensures kind { OnOk result (level.new.page.kind ≡ level.old.page.kind) }
-    ensures drained { (start : ℕ) → P.well start out.old → (todo : List Step) (todos : List (List Step)) (h : ℕ) (back : List Open) (last : Option ℤ) (pushed : List Entry)
+    ensures drained { (start : ℕ) → P.well start out.old → (own : Test) → Covers false own (P.pages out.old) (P.pages out.new)
+        → (todo : List Step) (todos : List (List Step)) (h : ℕ) (back : List Open) (last : Option ℤ) (pushed : List Entry)
         → up_kind level.old.page.kind ≡ kind
         → HoldsLevel level.old (P.pages out.old).usable todo
         → HoldLevels above.old.items (P.pages out.old).usable kind todos
-        → Stands (P.pages out.old) (family_of kind) last (opened (suc h) todos ++ (at_height h todo ++ back)) pushed
-        → OnOk result (IsDrained (P.pages out.new) level.new above.new.items (P.pages out.old).usable kind h back last pushed) }
+        → Stands (only own (P.pages out.old)) (family_of kind) last (opened (suc h) todos ++ (at_height h todo ++ back)) pushed
+        → OnOk result (IsDrained (only own (P.pages out.new)) level.new above.new.items (P.pages out.old).usable kind h back last pushed) }
+    ensures back { AreBack above.old.items → OnOk result (AreBack above.new.items) }
+    ensures filled { CanEnd level.old.page level.old.waiting.items → 1 ≤ load level.old → OnOk result (1 ≤ length level.new.page.cells) }
+    ensures count { OnOk result ((P.pages out.new).count + (load level.new + held above.new.items) ≤ (P.pages out.old).count + (load level.old + held above.old.items)) }
+    ensures refused { OnErr result ((P.pages out.new).count ≤ (P.pages out.old).count + (load level.old + held above.old.items + 1)) }
     ensures keeps { Keeps P.pages P.limit P.faults P.well false out.old out.new }
     ensures follows { OnOk result (Follows P.pages P.limit P.faults P.well false out.old out.new) }
     ensures cause { IfErr result (HasLoadCause P.pages P.limit P.faults out.old out.new) }

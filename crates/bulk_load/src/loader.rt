@@ -1,7 +1,7 @@
 // A loader: the open leaf and the levels above it.
-ghost use Rattle.std.specs.Prelude.{◌≡◌, ◌↔◌, ℕ, ℤ, ◌+◌, ◌≤◌, true, false, List, [], ◌∷◌, ◌++◌, length, max, Option, Some, None, map, Err, IfOk, IfErr, OnOk};
+ghost use Rattle.std.specs.Prelude.{◌≡◌, ◌↔◌, ℕ, ℤ, ◌+◌, ◌≤◌, true, false, List, [], ◌∷◌, ◌++◌, length, max, Option, Some, None, map, Err, IfOk, IfErr, OnOk, OnErr, ◌-◌};
 ghost use Rattle.std.specs.Option.{option_map};
-ghost use Rattle.db_format.specs.Pages.{IsUsable, Pages};
+ghost use Rattle.db_format.specs.Pages.{IsUsable, Pages, Test};
 ghost use Rattle.btree_page.specs.declared.kind.Family.TheVariants.{Table, Index};
 ghost use Rattle.btree_page.specs.declared.kind.Kind.TheVariants.{IndexLeaf, TableLeaf};
 ghost use Rattle.btree_page.specs.Kind.{is_interior};
@@ -11,6 +11,8 @@ ghost use Rattle.btree_model.specs.Tree.{tree};
 ghost use Rattle.load_model.specs.Stands.{is_at_most, last_after};
 ghost use Rattle.page_build.specs.Draft.{room_of};
 ghost use Rattle.bulk_load.specs.Chain.{IsPutChain};
+ghost use Rattle.bulk_load.specs.Count.{AreBack, KeepsBack, overflow_pages, pages_for, weight};
+ghost use Rattle.bulk_load.specs.Own.{Covers, only};
 ghost use Rattle.bulk_load.specs.Out.{Follows, HasCause, HasLoadCause, Keeps};
 ghost use Rattle.bulk_load.specs.Cells.{row_len};
 ghost use Rattle.bulk_load.specs.Settle.{up_kind};
@@ -58,9 +60,12 @@ fn chain_of<P: PageOut>(out: &mut P, page: &mut Vec<u8>, rest: &[u8]) -> Result<
     requires size { length page.old.items ≡ (P.pages out.old).usable }
     requires large { 480 ≤ length page.old.items }
     ensures size { OnOk result (length page.new.items ≡ length page.old.items) }
-    ensures chain { (start : ℕ) → P.well start out.old → IfOk result (λ n. IsPutChain (P.pages out.old) (P.pages out.new) n rest.now) }
+    ensures chain { (start : ℕ) → P.well start out.old → (own : Test) → Covers false own (P.pages out.old) (P.pages out.new)
+        → IfOk result (λ n. IsPutChain (only own (P.pages out.old)) (only own (P.pages out.new)) n rest.now) }
     ensures none { length rest.now ≡ 0 → IfOk result (λ n. n ≡ 0) }
     ensures some { 1 ≤ length rest.now → IfOk result (λ n. 2 ≤ n) }
+    ensures count { OnOk result ((P.pages out.new).count ≡ (P.pages out.old).count + pages_for ((P.pages out.old).usable - 4) (length rest.now)) }
+    ensures refused { OnErr result ((P.pages out.new).count ≤ (P.pages out.old).count + pages_for ((P.pages out.old).usable - 4) (length rest.now)) }
     ensures keeps { Keeps P.pages P.limit P.faults P.well false out.old out.new }
     ensures follows { OnOk result (Follows P.pages P.limit P.faults P.well false out.old out.new) }
     ensures cause { IfErr result (HasLoadCause P.pages P.limit P.faults out.old out.new) }
@@ -93,6 +98,8 @@ impl Loader {
         ensures family { IfOk result (λ loader. family_of_loader loader ≡ Table) }
         ensures at_one { IfOk result (λ loader. loader.at_one ≡ at_one) }
         ensures last { IfOk result (λ loader. loader.last ≡ None) }
+        ensures back { IfOk result (λ loader. KeepsBack loader) }
+        ensures light { IfOk result (λ loader. weight loader ≡ 0) }
         ensures empty { (pages : Pages) → pages.usable ≡ usable → IfOk result (λ loader. Loaded pages loader []) }
         ensures cause { IfErr result (λ error. error ≡ LoadError.OutOfMemory) }
     {
@@ -106,6 +113,8 @@ impl Loader {
         ensures family { IfOk result (λ loader. family_of_loader loader ≡ Index) }
         ensures at_one { IfOk result (λ loader. loader.at_one ≡ false) }
         ensures last { IfOk result (λ loader. loader.last ≡ None) }
+        ensures back { IfOk result (λ loader. KeepsBack loader) }
+        ensures light { IfOk result (λ loader. weight loader ≡ 0) }
         ensures empty { (pages : Pages) → pages.usable ≡ usable → IfOk result (λ loader. Loaded pages loader []) }
         ensures cause { IfErr result (λ error. error ≡ LoadError.OutOfMemory) }
     {
@@ -120,6 +129,8 @@ impl Loader {
         ensures kind { IfOk result (λ loader. loader.leaf.page.kind ≡ kind) }
         ensures at_one { IfOk result (λ loader. loader.at_one ≡ at_one) }
         ensures last { IfOk result (λ loader. loader.last ≡ None) }
+        ensures back { IfOk result (λ loader. KeepsBack loader) }
+        ensures light { IfOk result (λ loader. weight loader ≡ 0) }
         ensures empty { (pages : Pages) → pages.usable ≡ usable → IfOk result (λ loader. Loaded pages loader []) }
         ensures cause { IfErr result (λ error. error ≡ LoadError.OutOfMemory) }
     {
@@ -149,9 +160,10 @@ impl Loader {
         requires ready { IsLoader self.old (P.pages out.old).usable }
         requires family { is_for (family_of_loader self.old) rowid ≡ true }
         requires short { length payload.now ≤ max_payload }
-        // the entry stands behind those that were pushed before
-        ensures loaded { (start : ℕ) → P.well start out.old → (pushed : List Entry) → Loaded (P.pages out.old) self.old pushed
-            → OnOk result (Loaded (P.pages out.new) self.new (pushed ++ record { rowid = rowid; payload = payload.now } ∷ [])) }
+        // the entry stands behind those that were pushed before, on pages that this loader took
+        ensures loaded { (start : ℕ) → P.well start out.old → (own : Test) → Covers false own (P.pages out.old) (P.pages out.new)
+            → (pushed : List Entry) → Loaded (only own (P.pages out.old)) self.old pushed
+            → OnOk result (Loaded (only own (P.pages out.new)) self.new (pushed ++ record { rowid = rowid; payload = payload.now } ∷ [])) }
         ensures ready { OnOk result (IsLoader self.new (P.pages out.new).usable) }
         ensures family { OnOk result (family_of_loader self.new ≡ family_of_loader self.old) }
         ensures at_one { OnOk result (self.new.at_one ≡ self.old.at_one) }
@@ -159,6 +171,10 @@ impl Loader {
         // a rowid that is not above the last is refused, and nothing changes
         ensures order { (result ≡ Err LoadError.RowidOrder) ↔ (is_late self.old rowid ≡ true) }
         ensures unchanged { result ≡ Err LoadError.RowidOrder → (self.new ≡ self.old) × (out.new ≡ out.old) }
+        // how many pages were taken: beside those of its chain, two for an entry in all, with what the loader holds
+        ensures back { KeepsBack self.old → OnOk result (KeepsBack self.new) }
+        ensures count { OnOk result ((P.pages out.new).count + weight self.new ≤ (P.pages out.old).count + (weight self.old + 2 + overflow_pages (family_of_loader self.old) (P.pages out.old).usable (length payload.now))) }
+        ensures refused { OnErr result ((P.pages out.new).count ≤ (P.pages out.old).count + (weight self.old + overflow_pages (family_of_loader self.old) (P.pages out.old).usable (length payload.now) + 2)) }
         // what other answers there are, and what all of them leave
         ensures cause { (why : OutError) → result ≡ Err (LoadError.Out why) → HasCause P.pages P.limit P.faults out.old out.new why }
         ensures keeps { Keeps P.pages P.limit P.faults P.well false out.old out.new }
@@ -177,12 +193,16 @@ impl Loader {
     }
 
     /// The end: all open pages are put, and the root of the tree is answered. With `at_one` page 1 must not have been put.
+    #[tactic(auto, using(crate::proofs::CountLemmas::leaf_can))]
     pub fn finish<P: PageOut>(mut self, out: &mut P) -> Result<u32, LoadError>
         requires ready { IsLoader self (P.pages out.old).usable }
         requires free { self.at_one ≡ true → (P.pages out.old).accepts 1 ≡ false }
-        // the tree from the root is the pushed list
-        ensures tree { (start : ℕ) → P.well start out.old → (pushed : List Entry) → Loaded (P.pages out.old) self pushed
-            → IfOk result (λ root. option_map (map entry_of) (tree (P.pages out.new) (family_of_loader self) root) ≡ Some pushed) }
+        // the tree from the root is the pushed list, and stands on pages that this loader took, and on page 1 with `at_one`
+        ensures tree { (start : ℕ) → P.well start out.old → (own : Test) → Covers self.at_one own (P.pages out.old) (P.pages out.new)
+            → (pushed : List Entry) → Loaded (only own (P.pages out.old)) self pushed
+            → IfOk result (λ root. option_map (map entry_of) (tree (only own (P.pages out.new)) (family_of_loader self) root) ≡ Some pushed) }
+        // and whatever the answer, it takes one more at most beside what the loader holds
+        ensures count { KeepsBack self → (P.pages out.new).count ≤ (P.pages out.old).count + (weight self + 1) }
         ensures one { self.at_one ≡ true → IfOk result (λ root. root ≡ 1) }
         ensures cause { IfErr result (HasLoadCause P.pages P.limit P.faults out.old out.new) }
         ensures keeps { Keeps P.pages P.limit P.faults P.well self.at_one out.old out.new }
@@ -213,9 +233,13 @@ impl Loader {
         ensures kind { OnOk result (self.new.leaf.page.kind ≡ self.old.leaf.page.kind) }
         ensures at_one { OnOk result (self.new.at_one ≡ self.old.at_one) }
         ensures last { OnOk result (self.new.last ≡ self.old.last) }
-        ensures loaded { (start : ℕ) → P.well start out.old → (pushed : List Entry) → Loaded (P.pages out.old) self.old pushed
-            → OnOk result (Loaded (P.pages out.new) self.new (pushed ++ record { rowid = None; payload = payload.now } ∷ [])) }
+        ensures loaded { (start : ℕ) → P.well start out.old → (own : Test) → Covers false own (P.pages out.old) (P.pages out.new)
+            → (pushed : List Entry) → Loaded (only own (P.pages out.old)) self.old pushed
+            → OnOk result (Loaded (only own (P.pages out.new)) self.new (pushed ++ record { rowid = None; payload = payload.now } ∷ [])) }
         ensures cause { IfErr result (HasLoadCause P.pages P.limit P.faults out.old out.new) }
+        ensures back { KeepsBack self.old → OnOk result (KeepsBack self.new) }
+        ensures count { OnOk result ((P.pages out.new).count + weight self.new ≤ (P.pages out.old).count + (weight self.old + 2 + overflow_pages Index (P.pages out.old).usable (length payload.now))) }
+        ensures refused { OnErr result ((P.pages out.new).count ≤ (P.pages out.old).count + (weight self.old + overflow_pages Index (P.pages out.old).usable (length payload.now) + 2)) }
         ensures keeps { Keeps P.pages P.limit P.faults P.well false out.old out.new }
         ensures follows { OnOk result (Follows P.pages P.limit P.faults P.well false out.old out.new) }
         ensures fresh { P.only_fresh out.old out.new }
@@ -249,9 +273,13 @@ impl Loader {
         ensures kind { OnOk result (self.new.leaf.page.kind ≡ self.old.leaf.page.kind) }
         ensures at_one { OnOk result (self.new.at_one ≡ self.old.at_one) }
         ensures last { OnOk result (self.new.last ≡ Some rowid) }
-        ensures loaded { (start : ℕ) → P.well start out.old → (pushed : List Entry) → Loaded (P.pages out.old) self.old pushed
-            → OnOk result (Loaded (P.pages out.new) self.new (pushed ++ record { rowid = Some rowid; payload = payload.now } ∷ [])) }
+        ensures loaded { (start : ℕ) → P.well start out.old → (own : Test) → Covers false own (P.pages out.old) (P.pages out.new)
+            → (pushed : List Entry) → Loaded (only own (P.pages out.old)) self.old pushed
+            → OnOk result (Loaded (only own (P.pages out.new)) self.new (pushed ++ record { rowid = Some rowid; payload = payload.now } ∷ [])) }
         ensures cause { IfErr result (HasLoadCause P.pages P.limit P.faults out.old out.new) }
+        ensures back { KeepsBack self.old → OnOk result (KeepsBack self.new) }
+        ensures count { OnOk result ((P.pages out.new).count + weight self.new ≤ (P.pages out.old).count + (weight self.old + 2 + overflow_pages Table (P.pages out.old).usable (length payload.now))) }
+        ensures refused { OnErr result ((P.pages out.new).count ≤ (P.pages out.old).count + (weight self.old + overflow_pages Table (P.pages out.old).usable (length payload.now) + 1)) }
         ensures keeps { Keeps P.pages P.limit P.faults P.well false out.old out.new }
         ensures follows { OnOk result (Follows P.pages P.limit P.faults P.well false out.old out.new) }
         ensures fresh { P.only_fresh out.old out.new }
@@ -265,7 +293,7 @@ impl Loader {
     }
 
     // Makes room on the open leaf of a table for a cell of `len` bytes.
-    #[tactic(auto, using(crate::proofs::PutLemmas::keeps_after, crate::proofs::PutLemmas::keeps_same, crate::proofs::PutLemmas::follows_same, crate::proofs::PutLemmas::follows_all))]
+    #[tactic(auto, using(crate::proofs::CellLemmas::key_named, crate::proofs::PutLemmas::keeps_after, crate::proofs::PutLemmas::keeps_same, crate::proofs::PutLemmas::follows_same, crate::proofs::PutLemmas::follows_all))]
     fn leaf_for<P: PageOut>(&mut self, out: &mut P, len: usize) -> Result<(), LoadError>
         requires ready { IsLoader self.old (P.pages out.old).usable }
         requires kind { self.old.leaf.page.kind ≡ TableLeaf }
@@ -275,9 +303,14 @@ impl Loader {
         ensures at_one { OnOk result (self.new.at_one ≡ self.old.at_one) }
         ensures last { OnOk result (self.new.last ≡ self.old.last) }
         ensures fits { OnOk result (max 4 len + 2 ≤ room_of self.new.leaf.page) }
-        ensures loaded { (start : ℕ) → P.well start out.old → (pushed : List Entry) → Loaded (P.pages out.old) self.old pushed
-            → OnOk result (Loaded (P.pages out.new) self.new pushed) }
+        ensures loaded { (start : ℕ) → P.well start out.old → (own : Test) → Covers false own (P.pages out.old) (P.pages out.new)
+            → (pushed : List Entry) → Loaded (only own (P.pages out.old)) self.old pushed
+            → OnOk result (Loaded (only own (P.pages out.new)) self.new pushed) }
         ensures cause { IfErr result (HasLoadCause P.pages P.limit P.faults out.old out.new) }
+        ensures back { AreBack self.old.levels.items → OnOk result (AreBack self.new.levels.items) }
+        ensures waits { OnOk result (self.new.leaf.waiting.items ≡ self.old.leaf.waiting.items) }
+        ensures count { OnOk result ((P.pages out.new).count + weight self.new ≤ (P.pages out.old).count + weight self.old) }
+        ensures refused { OnErr result ((P.pages out.new).count ≤ (P.pages out.old).count + (weight self.old + 1)) }
         ensures keeps { Keeps P.pages P.limit P.faults P.well false out.old out.new }
         ensures follows { OnOk result (Follows P.pages P.limit P.faults P.well false out.old out.new) }
         ensures fresh { P.only_fresh out.old out.new }
@@ -316,9 +349,15 @@ impl Loader {
         ensures kind { OnOk result (self.new.leaf.page.kind ≡ self.old.leaf.page.kind) }
         ensures at_one { OnOk result (self.new.at_one ≡ self.old.at_one) }
         ensures last { OnOk result (self.new.last ≡ Some rowid) }
-        ensures loaded { (start : ℕ) → P.well start out.old → (pushed : List Entry) → Loaded (P.pages out.old) self.old pushed
-            → OnOk result (Loaded (P.pages out.new) self.new (pushed ++ record { rowid = Some rowid; payload = payload.now } ∷ [])) }
+        ensures loaded { (start : ℕ) → P.well start out.old → (own : Test) → Covers false own (P.pages out.old) (P.pages out.new)
+            → (pushed : List Entry) → Loaded (only own (P.pages out.old)) self.old pushed
+            → OnOk result (Loaded (only own (P.pages out.new)) self.new (pushed ++ record { rowid = Some rowid; payload = payload.now } ∷ [])) }
         ensures cause { IfErr result (HasLoadCause P.pages P.limit P.faults out.old out.new) }
+        ensures levels { OnOk result (self.new.levels.items ≡ self.old.levels.items) }
+        ensures waits { OnOk result (self.new.leaf.waiting.items ≡ self.old.leaf.waiting.items) }
+        ensures filled { OnOk result (1 ≤ length self.new.leaf.page.cells) }
+        ensures count { OnOk result ((P.pages out.new).count + weight self.new ≤ (P.pages out.old).count + (weight self.old + 2 + overflow_pages Table (P.pages out.old).usable (length payload.now))) }
+        ensures refused { OnErr result ((P.pages out.new).count ≤ (P.pages out.old).count + (weight self.old + overflow_pages Table (P.pages out.old).usable (length payload.now))) }
         ensures keeps { Keeps P.pages P.limit P.faults P.well false out.old out.new }
         ensures follows { OnOk result (Follows P.pages P.limit P.faults P.well false out.old out.new) }
         ensures fresh { P.only_fresh out.old out.new }

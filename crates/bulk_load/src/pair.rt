@@ -1,5 +1,5 @@
 // A child of an open page, with what stands behind it; or an entry on its way to a leaf.
-ghost use Rattle.std.specs.Prelude.{◌≡◌, ℕ, suc, ℤ, ◌+◌, ◌≤◌, max, true, List, [], ◌∷◌, ◌++◌, length, drop, Option, None, IfOk, IfErr, OnOk, false};
+ghost use Rattle.std.specs.Prelude.{◌≡◌, ℕ, suc, ℤ, ◌+◌, ◌≤◌, max, true, List, [], ◌∷◌, ◌++◌, length, drop, Option, None, IfOk, IfErr, OnOk, false, OnErr, ◌↔◌, ◌*◌};
 ghost use Rattle.btree_page.specs.Cell.{Cell};
 ghost use Rattle.btree_page.specs.Kind.{family_of};
 ghost use Rattle.btree_page.specs.Step.{Step, steps};
@@ -9,8 +9,11 @@ ghost use Rattle.load_model.specs.Stands.{Stands};
 ghost use Rattle.page_build.specs.Draft.{room_of};
 ghost use Rattle.page_build.specs.Written.{four_bytes};
 ghost use Rattle.bulk_load.specs.Close.{HasCells, SameShape};
+ghost use Rattle.db_format.specs.Pages.{Test};
+ghost use Rattle.bulk_load.specs.Count.{one_if};
+ghost use Rattle.bulk_load.specs.Own.{Covers, only};
 ghost use Rattle.bulk_load.specs.Out.{Follows, HasCause, Keeps};
-ghost use Rattle.bulk_load.specs.Settle.{IsPair, IsSettled, on, skip_of};
+ghost use Rattle.bulk_load.specs.Settle.{IsNamed, IsPair, IsSettled, on, skip_of};
 
 use crate::closing::close;
 use crate::out::{OutError, PageOut};
@@ -46,7 +49,7 @@ fn skipped(kind: Kind) -> usize
 
 // Whether a cell of so many bytes may be added, and `more` bytes are left then.
 fn has_room(page: &PageBuilder, len: usize, more: usize) -> bool
-    ensures { result ≡ true → max 4 len + 2 ≤ room_of page.now }
+    ensures { (result ≡ true) ↔ (max 4 len + 2 + more ≤ room_of page.now) }
 {
     let room = page.room();
     if !page.fits(len) {
@@ -59,7 +62,7 @@ fn has_room(page: &PageBuilder, len: usize, more: usize) -> bool
 /// Puts a pair on an open page, if there is room for it and for `more` bytes. Else its child is the page's last one,
 /// the page is put, and what stands behind the child now stands behind this page: true. A leaf has no child: the
 /// entry alone goes on it, or stands behind it.
-#[tactic(auto, using(crate::proofs::PutLemmas::keeps_after, crate::proofs::PutLemmas::keeps_same, crate::proofs::PutLemmas::follows_same))]
+#[tactic(auto, using(crate::proofs::LevelLemmas::renamed, crate::proofs::PutLemmas::keeps_after, crate::proofs::PutLemmas::keeps_same, crate::proofs::PutLemmas::follows_same))]
 pub fn settle<P: PageOut>(
     page: &mut PageBuilder,
     out: &mut P,
@@ -68,14 +71,24 @@ pub fn settle<P: PageOut>(
 ) -> Result<bool, OutError>
     requires size { page.old.usable ≡ (P.pages out.old).usable }
     requires plain { page.old.header ≡ 0 }
-    requires named { 4 ≤ length pair.old.cell.items }
+    requires named { IsNamed (P.pages out.old).usable pair.old }
+    requires next { 3 * more + 12 ≤ (P.pages out.old).usable }
     ensures shape { SameShape page.old page.new }
-    ensures named { OnOk result (4 ≤ length pair.new.cell.items) }
-    ensures settled { (start : ℕ) → P.well start out.old → (cells : List Cell) (s : Step) (h : ℕ) (front back : List Open) (last : Option ℤ) (pushed : List Entry)
+    ensures named { OnOk result (IsNamed (P.pages out.old).usable pair.new) }
+    ensures settled { (start : ℕ) → P.well start out.old → (own : Test) → Covers false own (P.pages out.old) (P.pages out.new)
+        → (cells : List Cell) (s : Step) (h : ℕ) (front back : List Open) (last : Option ℤ) (pushed : List Entry)
         → HasCells page.old (P.pages out.old).usable cells
         → IsPair pair.old page.old.kind (P.pages out.old).usable s
-        → Stands (P.pages out.old) (family_of page.old.kind) last (front ++ (at_height h (steps cells None) ++ (at_height h (on page.old.kind pair.old.child s) ++ back))) pushed
-        → IfOk result (IsSettled (P.pages out.new) page.new pair.new (P.pages out.old).usable page.old.kind pair.old.child cells s h front back last pushed) }
+        → Stands (only own (P.pages out.old)) (family_of page.old.kind) last (front ++ (at_height h (steps cells None) ++ (at_height h (on page.old.kind pair.old.child s) ++ back))) pushed
+        → IfOk result (IsSettled (only own (P.pages out.new)) page.new pair.new (P.pages out.old).usable page.old.kind pair.old.child cells s h front back last pushed) }
+    ensures fits { length pair.old.cell.items + 2 + more ≤ room_of page.old → IfOk result (λ closed. closed ≡ false) }
+    ensures empty { length page.old.cells ≡ 0 → IfOk result (λ closed. closed ≡ false) }
+    ensures left { IfOk result (λ closed. closed ≡ false → more ≤ room_of page.new) }
+    ensures added { IfOk result (λ closed. closed ≡ false → 1 ≤ length page.new.cells) }
+    ensures emptied { IfOk result (λ closed. closed ≡ true → length page.new.cells ≡ 0) }
+    // one more is held, on the page or above it; and a page that is closed takes as much away as it adds
+    ensures count { IfOk result (λ closed. (P.pages out.new).count + (length page.new.cells + one_if closed) ≤ (P.pages out.old).count + (length page.old.cells + 1)) }
+    ensures refused { OnErr result ((P.pages out.new).count ≤ (P.pages out.old).count + 1) }
     ensures keeps { Keeps P.pages P.limit P.faults P.well false out.old out.new }
     ensures follows { OnOk result (Follows P.pages P.limit P.faults P.well false out.old out.new) }
     ensures cause { IfErr result (HasCause P.pages P.limit P.faults out.old out.new) }

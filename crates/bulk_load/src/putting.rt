@@ -1,5 +1,7 @@
 // A page at the next number.
-ghost use Rattle.std.specs.Prelude.{◌≡◌, ◌≤◌, ◌+◌, ℕ, length, IfOk, IfErr, OnOk, false};
+ghost use Rattle.std.specs.Prelude.{◌≡◌, ◌≤◌, ◌+◌, ℕ, length, IfOk, IfErr, OnOk, false, OnErr};
+ghost use Rattle.db_format.specs.Pages.{Test};
+ghost use Rattle.bulk_load.specs.Own.{Covers, only};
 ghost use Rattle.bulk_load.specs.Out.{Follows, HasCause, IsPutAs, Keeps};
 
 use crate::out::{OutError, PageOut};
@@ -7,9 +9,11 @@ use crate::out::{OutError, PageOut};
 /// Puts a page at the next number, which is answered.
 pub fn put_next<P: PageOut>(out: &mut P, plain: &[u8]) -> Result<u32, OutError>
     requires size { length plain.now ≡ (P.pages out.old).usable }
-    ensures put { (start : ℕ) → P.well start out.old → IfOk result (λ n. IsPutAs (P.pages out.old) (P.pages out.new) n plain.now) }
+    ensures put { (start : ℕ) → P.well start out.old → (own : Test) → Covers false own (P.pages out.old) (P.pages out.new)
+        → IfOk result (λ n. IsPutAs (only own (P.pages out.old)) (only own (P.pages out.new)) n plain.now) }
     ensures low { IfOk result (λ n. 2 ≤ n) }
     ensures one { OnOk result ((P.pages out.new).count ≡ (P.pages out.old).count + 1) }
+    ensures refused { OnErr result ((P.pages out.new).count ≤ (P.pages out.old).count + 1) }
     ensures keeps { Keeps P.pages P.limit P.faults P.well false out.old out.new }
     ensures follows { OnOk result (Follows P.pages P.limit P.faults P.well false out.old out.new) }
     ensures cause { IfErr result (HasCause P.pages P.limit P.faults out.old out.new) }

@@ -1,5 +1,5 @@
 // The last page of a tree.
-ghost use Rattle.std.specs.Prelude.{◌≡◌, ◌≤◌, ℕ, ℤ, true, false, List, Option, Some, map, IfOk, IfErr, OnOk};
+ghost use Rattle.std.specs.Prelude.{◌≡◌, ◌≤◌, ℕ, ℤ, true, false, List, Option, Some, map, IfOk, IfErr, OnOk, ◌+◌};
 ghost use Rattle.std.specs.Option.{option_map};
 ghost use Rattle.btree_page.specs.Cell.{Cell};
 ghost use Rattle.btree_page.specs.Kind.{family_of};
@@ -10,6 +10,8 @@ ghost use Rattle.load_model.specs.Open.{at_height};
 ghost use Rattle.load_model.specs.Stands.{Stands};
 ghost use Rattle.page_build.specs.Written.{right_child};
 ghost use Rattle.bulk_load.specs.Close.{HasCells, IsRoot};
+ghost use Rattle.db_format.specs.Pages.{Test};
+ghost use Rattle.bulk_load.specs.Own.{Covers, only};
 ghost use Rattle.bulk_load.specs.Out.{Follows, HasCause, HasLoadCause, Keeps};
 ghost use Rattle.bulk_load.specs.Settle.{up_kind};
 
@@ -25,9 +27,11 @@ fn put_first<P: PageOut>(page: &mut PageBuilder, out: &mut P, right: u32) -> Res
     requires size { page.old.usable ≡ (P.pages out.old).usable }
     requires place { page.old.header ≡ 100 }
     requires free { (P.pages out.old).accepts 1 ≡ false }
-    ensures root { (start : ℕ) → P.well start out.old → (cells : List Cell)
+    ensures root { (start : ℕ) → P.well start out.old → (own : Test) → Covers true own (P.pages out.old) (P.pages out.new)
+        → (cells : List Cell)
         → HasCells page.old (P.pages out.old).usable cells
-        → OnOk result (IsRoot (P.pages out.old) (P.pages out.new) 1 (record { kind = page.old.kind; cells = cells; right = right_child page.old.kind right })) }
+        → OnOk result (IsRoot (only own (P.pages out.old)) (only own (P.pages out.new)) 1 (record { kind = page.old.kind; cells = cells; right = right_child page.old.kind right })) }
+    ensures count { (P.pages out.new).count ≡ (P.pages out.old).count }
     ensures keeps { Keeps P.pages P.limit P.faults P.well true out.old out.new }
     ensures follows { OnOk result (Follows P.pages P.limit P.faults P.well true out.old out.new) }
     ensures cause { IfErr result (HasCause P.pages P.limit P.faults out.old out.new) }
@@ -50,12 +54,14 @@ fn put_at_one<P: PageOut>(
     requires size { page.old.usable ≡ (P.pages out.old).usable }
     requires plain { page.old.header ≡ 0 }
     requires free { (P.pages out.old).accepts 1 ≡ false }
-    ensures tree { (start : ℕ) → P.well start out.old → (cells : List Cell) (h : ℕ) (last : Option ℤ) (pushed : List Entry)
+    ensures tree { (start : ℕ) → P.well start out.old → (own : Test) → Covers true own (P.pages out.old) (P.pages out.new)
+        → (cells : List Cell) (h : ℕ) (last : Option ℤ) (pushed : List Entry)
         → h ≤ 18
         → up_kind page.old.kind ≡ kind
         → HasCells page.old (P.pages out.old).usable cells
-        → Stands (P.pages out.old) (family_of kind) last (at_height h (steps cells (right_child page.old.kind right))) pushed
-        → OnOk result (option_map (map entry_of) (tree (P.pages out.new) (family_of kind) 1) ≡ Some pushed) }
+        → Stands (only own (P.pages out.old)) (family_of kind) last (at_height h (steps cells (right_child page.old.kind right))) pushed
+        → OnOk result (option_map (map entry_of) (tree (only own (P.pages out.new)) (family_of kind) 1) ≡ Some pushed) }
+    ensures count { (P.pages out.new).count ≤ (P.pages out.old).count + 1 }
     ensures keeps { Keeps P.pages P.limit P.faults P.well true out.old out.new }
     ensures follows { OnOk result (Follows P.pages P.limit P.faults P.well true out.old out.new) }
     ensures cause { IfErr result (HasLoadCause P.pages P.limit P.faults out.old out.new) }
@@ -95,13 +101,15 @@ pub fn put_root<P: PageOut>(
     requires size { page.old.usable ≡ (P.pages out.old).usable }
     requires plain { page.old.header ≡ 0 }
     requires free { at_one ≡ true → (P.pages out.old).accepts 1 ≡ false }
-    ensures tree { (start : ℕ) → P.well start out.old → (cells : List Cell) (h : ℕ) (last : Option ℤ) (pushed : List Entry)
+    ensures tree { (start : ℕ) → P.well start out.old → (own : Test) → Covers at_one own (P.pages out.old) (P.pages out.new)
+        → (cells : List Cell) (h : ℕ) (last : Option ℤ) (pushed : List Entry)
         → h ≤ 18
         → up_kind page.old.kind ≡ kind
         → HasCells page.old (P.pages out.old).usable cells
-        → Stands (P.pages out.old) (family_of kind) last (at_height h (steps cells (right_child page.old.kind right))) pushed
-        → IfOk result (λ root. option_map (map entry_of) (tree (P.pages out.new) (family_of kind) root) ≡ Some pushed) }
+        → Stands (only own (P.pages out.old)) (family_of kind) last (at_height h (steps cells (right_child page.old.kind right))) pushed
+        → IfOk result (λ root. option_map (map entry_of) (tree (only own (P.pages out.new)) (family_of kind) root) ≡ Some pushed) }
     ensures one { at_one ≡ true → IfOk result (λ root. root ≡ 1) }
+    ensures count { (P.pages out.new).count ≤ (P.pages out.old).count + 1 }
     ensures keeps { Keeps P.pages P.limit P.faults P.well at_one out.old out.new }
     ensures follows { OnOk result (Follows P.pages P.limit P.faults P.well at_one out.old out.new) }
     ensures cause { IfErr result (HasLoadCause P.pages P.limit P.faults out.old out.new) }

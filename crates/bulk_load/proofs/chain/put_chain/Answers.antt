@@ -1,11 +1,12 @@
-use Rattle.std.proofs.Common.{rules, ◌≡◌, ℕ, ◌+◌, ◌*◌, ◌-◌, ◌<◌, ◌≤◌, inl, inr, false, List, [], ◌++◌, length, take, drop, refl, ap, sym, subst, ◌∙◌, arith, ◌/◌}
+use Rattle.std.proofs.Common.{rules, ◌≡◌, ℕ, ◌+◌, ◌*◌, ◌-◌, ◌<◌, ◌≤◌, ◌==◌, if◌then◌else◌, inl, inr, false, List, [], ◌++◌, length, take, drop, refl, ap, sym, subst, ◌∙◌, arith, ◌/◌}
 use Rattle.std.proofs.Math.Seq.{drop-length}
-use Rattle.std.proofs.lemmas.List.{length-replicate}
 use Rattle.db_format.specs.Pages.{Pages}
 use Rattle.bulk_load.specs.Chain.{IsPutChain}
+use Rattle.bulk_load.specs.Count.{pages_for}
 use Rattle.bulk_load.specs.Out.{Follows}
-use Rattle.bulk_load.proofs.ChainLemmas.{chain_start, chain_full, chain_first, whole_pages, piece_drop, piece_long, less_page, page_fits, only_first}
-use Rattle.bulk_load.proofs.PutLemmas.{follows_all, follows_same}
+use Rattle.bulk_load.specs.Own.{only}
+use Rattle.bulk_load.proofs.ChainLemmas.{chain_start, chain_full, chain_first, whole_pages, piece_drop, piece_long, less_page, page_fits, only_first, counted_down, not_zero}
+use Rattle.bulk_load.proofs.PutLemmas.{covers_before, covers_behind, follows_all, follows_same}
 use Rattle.bulk_load.proofs.chain.put_chain.Goals.{then-left-eq0, else-left-eq0, then-left-gt0, else-left-gt0}
 use Rattle.bulk_load.proofs.chain.put_chain.Goals as goal
 
@@ -18,11 +19,12 @@ loop-end-init g c =
     let long : c.len-size.result ≡ length c.args.page.now.items = omega (arith, c.len-size.ensures, c.args.page.now.ok.0) in
     let some : 0 < size = omega (arith, c.requires.large) in
     record {
-      chain = λ start well. subst (λ l. IsPutChain old old 0 l) (sym (drop-length rest)) (chain_start old (omega (arith, c.requires.size, c.requires.large)));
+      chain = λ start well own covers. subst (λ l. IsPutChain (only own old) (only own old) 0 l) (sym (drop-length rest)) (chain_start (only own old) (omega (arith, c.requires.size, c.requires.large)));
       within = omega arith;
       page_size = elim c.if-left-gt0.branch [ then-left-gt0 w ↦ search rules | else-left-gt0 w ↦ search rules ];
       whole = length rest / size;
       multiple = whole_pages (length rest) size some;
+      taken = refl;
       small = omega arith;
       part = inr refl;
       begun = inl (refl, refl);
@@ -64,13 +66,14 @@ loop-end-preserved g c =
           let some : 0 < i.whole * size = omega arith in
           let less : i.whole * size - size ≡ (i.whole - 1) * size = less_page i.whole size some in
           record {
-            chain = λ start well.
-                subst (λ l. IsPutChain old new c.in_ok-next.next l) joined
-                (chain_full old mid new c.loop-end.next c.in_ok-next.next piece (drop end rest) (i.chain start well)
-                (c.in_ok-next.ensures.link start (i.follows.told start well)) (omega arith) (omega arith));
+            chain = λ start well own covers.
+                subst (λ l. IsPutChain (only own old) (only own new) c.in_ok-next.next l) joined
+                (chain_full (only own old) (only own mid) (only own new) c.loop-end.next c.in_ok-next.next piece (drop end rest) (i.chain start well own (covers_before _ own _ _ _ c.in_ok-next.ensures.keeps.count covers))
+                (c.in_ok-next.ensures.link start (i.follows.told start well) own (covers_behind _ own _ _ _ i.follows.keeps.count covers)) (omega arith) (omega arith));
             within = omega arith;
             page_size = page_size;
             whole = i.whole - 1;
+            taken = let was : (p.pages c.loop-end.out).count + (i.whole + 0) ≡ old.count + pages_for size (length rest) = subst (λ k. (p.pages c.loop-end.out).count + (i.whole + (if k == 0 then 0 else 1)) ≡ old.count + pages_for size (length rest)) none i.taken in counted_down (p.pages c.loop-end.out).count new.count i.whole size (old.count + pages_for size (length rest)) c.in_ok-next.ensures.one some was;
             multiple = omega arith;
             small = omega arith;
             part = inl refl;
@@ -84,13 +87,14 @@ loop-end-preserved g c =
           let whole : end ≡ length rest = only_first left end (length rest) i.part some in
           let nothing_behind : drop end rest ≡ [] = ap (λ n. drop n rest) whole ∙ drop-length rest in
           record {
-            chain = λ start well.
-                subst (λ l. IsPutChain old new c.in_ok-next.next l) joined
-                (chain_first old mid new c.loop-end.next c.in_ok-next.next piece (drop end rest) (i.chain start well)
-                (c.in_ok-next.ensures.link start (i.follows.told start well)) (omega arith) nothing_behind (omega arith));
+            chain = λ start well own covers.
+                subst (λ l. IsPutChain (only own old) (only own new) c.in_ok-next.next l) joined
+                (chain_first (only own old) (only own mid) (only own new) c.loop-end.next c.in_ok-next.next piece (drop end rest) (i.chain start well own (covers_before _ own _ _ _ c.in_ok-next.ensures.keeps.count covers))
+                (c.in_ok-next.ensures.link start (i.follows.told start well) own (covers_behind _ own _ _ _ i.follows.keeps.count covers)) (omega arith) nothing_behind (omega arith));
             within = omega arith;
             page_size = page_size;
             whole = i.whole;
+            taken = let was : (p.pages c.loop-end.out).count + (i.whole + 1) ≡ old.count + pages_for size (length rest) = subst (λ b. (p.pages c.loop-end.out).count + (i.whole + (if b then 0 else 1)) ≡ old.count + pages_for size (length rest)) (not_zero left some) i.taken in let one : new.count ≡ (p.pages c.loop-end.out).count + 1 = c.in_ok-next.ensures.one in omega arith;
             multiple = omega arith;
             small = omega arith;
             part = inl refl;
@@ -99,3 +103,10 @@ loop-end-preserved g c =
             fresh = fresh;
           }
     ]
+
+pub returns-clause-chain : goal.returns-clause-chain
+returns-clause-chain g c start well own covers =
+    let p = g.P.PageOut in
+    let whole : c.loop-end.end ≡ 0 = omega (arith, c.loop-end-test.false) in
+    subst (λ e. IsPutChain (only own (p.pages c.args.out.now)) (only own (p.pages c.loop-end.out)) c.loop-end.next (drop e c.args.rest.now)) whole
+    (c.loop-end.invariant.chain start well own covers)

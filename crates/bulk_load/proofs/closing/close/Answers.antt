@@ -1,20 +1,19 @@
-use Rattle.std.proofs.Common.{◌≡◌, ◌≤◌, ℕ, suc, List, ◌∷◌, ◌++◌, Ok, refl, ap, sym, subst, ◌∙◌}
+use Rattle.std.proofs.Common.{ℕ, List, ap, sym, ◌∙◌}
 use Rattle.std.proofs.lemmas.Result.{IfOk-weaker}
 use Rattle.db_format.specs.Pages.{Pages}
 use Rattle.btree_page.specs.Kind.{family_of}
 use Rattle.btree_page.specs.Page.{Node, read_node}
-use Rattle.btree_page.specs.Step.{child}
-use Rattle.load_model.specs.Stands.{Stands}
 use Rattle.load_model.proofs.StandsLemmas.{close_stands}
 use Rattle.page_build.specs.Written.{right_child}
 use Rattle.bulk_load.specs.Out.{IsPutAs}
+use Rattle.bulk_load.specs.Own.{only}
 use Rattle.bulk_load.proofs.CloseLemmas.{not_first}
 use Rattle.bulk_load.proofs.closing.close.Goals as goal
 
 pub returns-clause-closed : goal.returns-clause-closed
-returns-clause-closed g c start well cells h front back last pushed has stands =
-    let old : Pages = g.P.PageOut.pages c.args.out.now in
-    let new : Pages = g.P.PageOut.pages c.put_next.new.out in
+returns-clause-closed g c start well own covers cells h front back last pushed has stands =
+    let old : Pages = only own (g.P.PageOut.pages c.args.out.now) in
+    let new : Pages = only own (g.P.PageOut.pages c.put_next.new.out) in
     let page = c.args.page.now in
     let bytes : List ℕ = c.finish-plain.result.now in
     let one : Node = record { kind = page.kind; cells = cells; right = right_child page.kind c.args.right } in
@@ -23,4 +22,4 @@ returns-clause-closed g c start well cells h front back last pushed has stands =
     (ap (read_node (family_of page.kind) m) is.here
     ∙ c.finish-plain.ensures.opens cells m (c.requires.plain ∙ sym (not_first m is.low)) has.written)
     stands)
-    (c.put_next.ensures.put start well)
+    (c.put_next.ensures.put start well own covers)

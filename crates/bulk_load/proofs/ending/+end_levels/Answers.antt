@@ -1,4 +1,5 @@
-use Rattle.std.proofs.Common.{◌≡◌, ◌≤◌, ◌+◌, ◌-◌, ℕ, suc, true, List, [], ◌∷◌, ◌++◌, ap, sym, subst, ◌∙◌, arith}
+use Rattle.std.proofs.Common.{◌≡◌, ◌≤◌, ◌+◌, ◌-◌, inl, inr, length, List, ℕ, suc, Bool, true, false, [], ◌∷◌, ◌++◌, ap, sym, subst, ◌∙◌, arith}
+use Rattle.std.proofs.lemmas.Bool.{cases_lt}
 use Rattle.std.proofs.lemmas.Result.{on_ok_weaker}
 use Rattle.db_format.specs.Pages.{Pages}
 use Rattle.btree_page.specs.declared.kind.Kind.{Kind}
@@ -12,24 +13,27 @@ use Rattle.bulk_load.specs.Close.{HasCells}
 use Rattle.bulk_load.specs.Level.{HoldsLevel}
 use Rattle.bulk_load.specs.Levels.{HoldLevels, IsDrained, opened}
 use Rattle.bulk_load.specs.Settle.{up_kind}
+use Rattle.bulk_load.specs.Own.{Covers, only}
+use Rattle.bulk_load.specs.Count.{AreBack, held, load}
+use Rattle.bulk_load.proofs.CountLemmas.{back_can, back_some, held_none}
 use Rattle.bulk_load.proofs.EndLemmas.{IsNextLevel, end_is, last_page, next_level}
-use Rattle.bulk_load.proofs.PutLemmas.{follows_all, keeps_after}
+use Rattle.bulk_load.proofs.PutLemmas.{covers_before, covers_behind, follows_all, keeps_after}
 use Rattle.bulk_load.proofs.SettleLemmas.{up_interior}
 use Rattle.bulk_load.proofs.ending.+end_levels.Goals as goal
 
 pub returns-in_default-clause-tree : goal.returns-in_default-clause-tree
-returns-in_default-clause-tree g t c start well todo todos h last pushed low up hold holds st =
-    let old : Pages = g.P.PageOut.pages c.args.out.now in
-    let mid : Pages = g.P.PageOut.pages c.drain.new.out in
-    let own : Kind = c.args.level.now.page.kind in
+returns-in_default-clause-tree g t c start well own covers todo todos h last pushed low up hold holds st =
+    let old : Pages = only own (g.P.PageOut.pages c.args.out.now) in
+    let mid : Pages = only own (g.P.PageOut.pages c.drain.new.out) in
+    let here : Kind = c.args.level.now.page.kind in
     let kind : Kind = c.args.kind in
     let level : Level = c.drain.new.level in
-    let same : level.page.kind ≡ own = c.in_ok-drain.ensures.kind in
-    let d : IsDrained mid level c.drain.new.above.items old.usable kind h (at_height h (steps [] (right_child own c.args.below))) last pushed =
-    c.in_ok-drain.ensures.drained start well todo todos h (at_height h (steps [] (right_child own c.args.below))) last pushed up hold holds st in
-    let ready : Stands mid (family_of kind) last (at_height h (steps d.cells (right_child own c.args.below))) pushed =
-    last_page mid c.drain.new.above.items old.usable kind own d.cells d.rest.todos h c.args.below last pushed c.in_default.ensures.0 d.rest.hold d.rest.stands in
-    c.put_root.ensures.tree start (c.in_ok-drain.ensures.follows.told start well) d.cells h last pushed (omega arith) (ap up_kind same ∙ up)
+    let same : level.page.kind ≡ here = c.in_ok-drain.ensures.kind in
+    let d : IsDrained mid level c.drain.new.above.items old.usable kind h (at_height h (steps [] (right_child here c.args.below))) last pushed =
+    c.in_ok-drain.ensures.drained start well own (covers_before _ own _ _ _ c.put_root.ensures.keeps.count covers) todo todos h (at_height h (steps [] (right_child here c.args.below))) last pushed up hold holds st in
+    let ready : Stands mid (family_of kind) last (at_height h (steps d.cells (right_child here c.args.below))) pushed =
+    last_page mid c.drain.new.above.items old.usable kind here d.cells d.rest.todos h c.args.below last pushed c.in_default.ensures.0 d.rest.hold d.rest.stands in
+    c.put_root.ensures.tree start (c.in_ok-drain.ensures.follows.told start well) own (covers_behind _ own _ _ _ c.in_ok-drain.ensures.keeps.count covers) d.cells h last pushed (omega arith) (ap up_kind same ∙ up)
     (subst (λ u. HasCells level.page u d.cells) (sym c.in_ok-drain.ensures.keeps.size) d.has)
     (subst (λ k. Stands mid (family_of kind) last (at_height h (steps d.cells (right_child k c.args.below))) pushed) (sym same) ready)
 
@@ -41,26 +45,31 @@ returns-in_default-clause-follows g t c =
     c.put_root.ensures.follows
 
 pub returns-clause-tree : goal.returns-clause-tree
-returns-clause-tree g t c start well todo todos h last pushed low up hold holds st =
-    let old : Pages = g.P.PageOut.pages c.args.out.now in
-    let mid : Pages = g.P.PageOut.pages c.drain.new.out in
-    let new : Pages = g.P.PageOut.pages c.close.new.out in
-    let own : Kind = c.args.level.now.page.kind in
+returns-clause-tree g t c start well own covers todo todos h last pushed low up hold holds st =
+    let old : Pages = only own (g.P.PageOut.pages c.args.out.now) in
+    let mid : Pages = only own (g.P.PageOut.pages c.drain.new.out) in
+    let new : Pages = only own (g.P.PageOut.pages c.close.new.out) in
+    let p = g.P.PageOut.pages in
+    let at_one : Bool = c.args.at_one in
+    let first : Covers false own (p c.args.out.now) (p c.close.new.out) = covers_before at_one own _ _ (p c.end_levels.new.out) c.end_levels.ensures.keeps.count covers in
+    let behind : Covers at_one own (p c.drain.new.out) (p c.end_levels.new.out) = covers_behind at_one own (p c.args.out.now) _ _ c.in_ok-drain.ensures.keeps.count covers in
+    let later : Covers at_one own (p c.close.new.out) (p c.end_levels.new.out) = covers_behind at_one own (p c.drain.new.out) _ _ c.in-Ok.ensures.keeps.count behind in
+    let here : Kind = c.args.level.now.page.kind in
     let kind : Kind = c.args.kind in
     let level : Level = c.drain.new.level in
     let m : ℕ = c.in-Ok.m in
-    let inner : is_interior kind ≡ true = subst (λ k. is_interior k ≡ true) up (up_interior own) in
-    let d : IsDrained mid level c.drain.new.above.items old.usable kind h (at_height h (steps [] (right_child own c.args.below))) last pushed =
-    c.in_ok-drain.ensures.drained start well todo todos h (at_height h (steps [] (right_child own c.args.below))) last pushed up hold holds st in
+    let inner : is_interior kind ≡ true = subst (λ k. is_interior k ≡ true) up (up_interior here) in
+    let d : IsDrained mid level c.drain.new.above.items old.usable kind h (at_height h (steps [] (right_child here c.args.below))) last pushed =
+    c.in_ok-drain.ensures.drained start well own (covers_before _ own _ _ _ c.in-Ok.ensures.keeps.count first) todo todos h (at_height h (steps [] (right_child here c.args.below))) last pushed up hold holds st in
     let told = c.in_ok-drain.ensures.follows.told start well in
     let closed : Stands new (family_of kind) last (opened (suc h) d.rest.todos ++ (record { height = suc h; leads = child m } ∷ [])) pushed =
-    end_is mid new level.page own kind old.usable c.args.below m d.cells (opened (suc h) d.rest.todos) h last pushed (c.in-Ok.ensures.closed start told)
+    end_is mid new level.page here kind old.usable c.args.below m d.cells (opened (suc h) d.rest.todos) h last pushed (c.in-Ok.ensures.closed start told own (covers_behind _ own _ _ _ c.in_ok-drain.ensures.keeps.count first))
     c.in_ok-drain.ensures.kind up c.in_ok-drain.ensures.keeps.size d.has d.rest.stands in
     let n : IsNextLevel new c.in-Some.next c.take_lowest.new.levels.items old.usable kind (suc h) m last pushed =
     next_level new c.in-Some.next c.drain.new.above.items c.take_lowest.new.levels.items old.usable kind d.rest.todos (suc h) m last pushed c.in-Some.ensures inner d.rest.hold closed in
     let size : new.usable ≡ old.usable = c.in-Ok.ensures.keeps.size ∙ c.in_ok-drain.ensures.keeps.size in
     let less : suc h + (c.args.left - 1) ≤ 18 = omega (arith, c.if-left-eq0.false) in
-    c.end_levels.ensures.tree start (c.in-Ok.ensures.follows.told start told) n.todo n.todos (suc h) last pushed less n.is_kind
+    c.end_levels.ensures.tree start (c.in-Ok.ensures.follows.told start told) own later n.todo n.todos (suc h) last pushed less n.is_kind
     (subst (λ u. HoldsLevel c.in-Some.next u n.todo) (sym size) n.hold) (subst (λ u. HoldLevels c.take_lowest.new.levels.items u kind n.todos) (sym size) n.holds) n.stands
 
 pub returns-clause-keeps : goal.returns-clause-keeps
@@ -76,3 +85,34 @@ returns-clause-follows g t c =
     (λ f. follows_all p.pages p.limit p.faults p.well c.args.at_one c.args.out.now c.drain.new.out c.end_levels.new.out c.in_ok-drain.ensures.follows
     (follows_all p.pages p.limit p.faults p.well c.args.at_one c.drain.new.out c.close.new.out c.end_levels.new.out c.in-Ok.ensures.follows f))
     c.end_levels.ensures.follows
+
+pub returns-clause-fresh : goal.returns-clause-fresh
+returns-clause-fresh g t c =
+    let p = g.met.P.PageOut in
+    p.joins c.args.out.now c.drain.new.out c.end_levels.new.out c.in_ok-drain.ensures.fresh
+    (p.joins c.drain.new.out c.close.new.out c.end_levels.new.out c.in-Ok.ensures.fresh c.end_levels.ensures.fresh)
+
+pub returns-clause-count : goal.returns-clause-count
+returns-clause-count g t c can back some =
+    let p = g.P.PageOut.pages in
+    let drained = c.in_ok-drain.ensures in
+    let next : Level = c.in-Some.next in
+    let rest : List Level = c.take_lowest.new.levels.items in
+    let parts : c.drain.new.above.items ≡ next ∷ rest = c.in-Some.ensures in
+    let backs : AreBack (next ∷ rest) = subst AreBack parts (drained.back back) in
+    let more : 1 ≤ load next = back_some next backs.0 in
+    let holds : held c.drain.new.above.items ≡ load next + held rest = ap held parts in
+    let counted : (p c.drain.new.out).count + (load c.drain.new.level + held c.drain.new.above.items) ≤ (p c.args.out.now).count + (load c.args.level.now + held c.args.above.now.items) = drained.count in
+    let later : (p c.args.out.now).count ≤ (p c.drain.new.out).count = drained.keeps.count in
+    let one : (p c.close.new.out).count ≡ (p c.drain.new.out).count + 1 = c.in-Ok.ensures.one in
+    let filled : 1 ≤ load c.drain.new.level =
+    elim (cases_lt 0 (load c.args.level.now)) [
+      | inl begun ↦ let cells : 1 ≤ length c.drain.new.level.page.cells = drained.filled can begun in omega arith
+      | inr empty ↦
+          elim some [
+            | inl begun ↦ absurd (omega arith)
+            | inr none ↦ let nothing_held : held c.args.above.now.items ≡ 0 = held_none c.args.above.now.items none in absurd (omega arith)
+          ]
+    ] in
+    let rest_counted = c.end_levels.ensures.count (back_can next.page next.waiting.items backs.0) backs.1 (inl more) in
+    omega (arith, rest_counted)

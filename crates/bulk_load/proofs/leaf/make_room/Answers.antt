@@ -1,4 +1,4 @@
-use Rattle.std.proofs.Common.{◌≡◌, ℕ, List, [], ◌∷◌, ◌++◌, Some, None, ap, sym, subst, ◌∙◌}
+use Rattle.std.proofs.Common.{ℕ, List, [], ◌∷◌, ◌++◌, Some, None, ap, sym, subst, ◌∙◌}
 use Rattle.std.proofs.lemmas.List.{append_assoc, append-nil}
 use Rattle.db_format.specs.Pages.{Pages}
 use Rattle.btree_page.specs.declared.kind.Family.TheVariants.{Table}
@@ -9,13 +9,14 @@ use Rattle.load_model.specs.Stands.{Stands}
 use Rattle.load_model.proofs.EntryLemmas.{key_stands}
 use Rattle.page_build.specs.Written.{right_child}
 use Rattle.bulk_load.specs.Close.{HasCells}
+use Rattle.bulk_load.specs.Own.{only}
 use Rattle.bulk_load.proofs.SettleLemmas.{cells_none}
 use Rattle.bulk_load.proofs.leaf.make_room.Goals as goal
 
 pub returns-clause-room : goal.returns-clause-room
-returns-clause-room g c start well k cells front pushed has st =
-    let old : Pages = g.P.PageOut.pages c.args.out.now in
-    let new : Pages = g.P.PageOut.pages c.close.new.out in
+returns-clause-room g c start well own covers k cells front pushed has st =
+    let old : Pages = only own (g.P.PageOut.pages c.args.out.now) in
+    let new : Pages = only own (g.P.PageOut.pages c.close.new.out) in
     let m : ℕ = c.in_ok-m.m in
     let kind = c.args.leaf.now.kind in
     let one : List Open = record { height = 1; leads = child m } ∷ [] in
@@ -24,7 +25,7 @@ returns-clause-room g c start well k cells front pushed has st =
     (subst (λ l. Stands old Table (Some k) (front ++ l) pushed) (sym (append-nil (at_height 0 (steps cells None)))) st)
     in
     let closed : Stands new Table (Some k) (front ++ one) pushed =
-    subst (λ q. Stands new (family_of q) (Some k) (front ++ one) pushed) c.requires.kind (c.in_ok-m.ensures.closed start well cells 0 front [] (Some k) pushed has ready)
+    subst (λ q. Stands new (family_of q) (Some k) (front ++ one) pushed) c.requires.kind (c.in_ok-m.ensures.closed start well own covers cells 0 front [] (Some k) pushed has ready)
     in (
       subst (λ d. HasCells d old.usable []) (sym c.clear.ensures)
           (cells_none c.close.new.page old.usable (ap (λ d. d.usable) c.in_ok-m.ensures.same ∙ c.requires.size)),

@@ -1,20 +1,22 @@
-use Rattle.std.proofs.Common.{◌≡◌, ℕ, suc, List, [], ◌∷◌, ◌++◌, ◌-◌, length, take, drop, ap, sym, subst, ◌∙◌, arith}
+use Rattle.std.proofs.Common.{◌≡◌, ℕ, suc, List, [], ◌∷◌, ◌++◌, ◌+◌, ◌-◌, ◌≤◌, max, length, take, drop, ap, sym, subst, ◌∙◌, arith, length-drop}
 use Rattle.std.proofs.lemmas.Slice.{between_to_end}
 use Rattle.db_format.specs.Pages.{Pages}
 use Rattle.btree_page.specs.Kind.{family_of}
 use Rattle.btree_page.specs.Step.{steps}
 use Rattle.load_model.specs.Open.{at_height}
 use Rattle.load_model.specs.Stands.{Stands}
-use Rattle.page_build.specs.Draft.{with_cell}
+use Rattle.page_build.specs.Draft.{room_of, with_cell}
 use Rattle.page_build.specs.Written.{right_child, IsWritten}
 use Rattle.bulk_load.specs.Close.{HasCells}
 use Rattle.bulk_load.specs.Settle.{two, cell_on, skip_of}
+use Rattle.bulk_load.specs.Own.{only}
+use Rattle.bulk_load.proofs.CountLemmas.{room_after}
 use Rattle.bulk_load.proofs.SettleLemmas.{cells_more, cells_none, on_page, as_last, closed_then, may_between, pair_up}
 use Rattle.bulk_load.proofs.pair.settle.Goals as goal
 
 pub returns-then-has_room-clause-settled : goal.returns-then-has_room-clause-settled
-returns-then-has_room-clause-settled g c start well cells s h front back last pushed has pair st =
-    let out : Pages = g.P.PageOut.pages c.args.out.now in
+returns-then-has_room-clause-settled g c start well own covers cells s h front back last pushed has pair st =
+    let out : Pages = only own (g.P.PageOut.pages c.args.out.now) in
     let kind = c.args.page.now.kind in
     let n : ℕ = c.args.pair.now.child in
     let skip : ℕ = c.skipped-skip.result in
@@ -32,11 +34,11 @@ returns-then-has_room-clause-settled g c start well cells s h front back last pu
     )
 
 pub returns-clause-settled : goal.returns-clause-settled
-returns-clause-settled g c start well cells s h front back last pushed has pair st =
-    let old : Pages = g.P.PageOut.pages c.args.out.now in
+returns-clause-settled g c start well own covers cells s h front back last pushed has pair st =
+    let old : Pages = only own (g.P.PageOut.pages c.args.out.now) in
     let kind = c.args.page.now.kind in
     let n : ℕ = c.args.pair.now.child in
-    let new : Pages = g.P.PageOut.pages c.close.new.out in
+    let new : Pages = only own (g.P.PageOut.pages c.close.new.out) in
     let m : ℕ = c.in_ok-m.m in
     let ready : Stands old (family_of kind) last (front ++ (at_height h (steps cells (right_child kind n)) ++ (record { height = h; leads = s } ∷ back))) pushed =
     subst (λ l. Stands old (family_of kind) last l pushed) (as_last kind cells n h s front back) st
@@ -46,5 +48,18 @@ returns-clause-settled g c start well cells s h front back last pushed has pair 
       pair_up kind old.usable s c.args.pair.now c.name.new.pair m pair c.name.ensures.cell c.name.ensures.child,
       subst (λ k. Stands new (family_of kind) last (front ++ (two (suc h) k s ++ back)) pushed) (sym c.name.ensures.child)
           (closed_then new (family_of kind) last front back pushed h m s (may_between kind s pair.may)
-          (c.in_ok-m.ensures.closed start well cells h front (record { height = h; leads = s } ∷ back) last pushed has ready)),
+          (c.in_ok-m.ensures.closed start well own covers cells h front (record { height = h; leads = s } ∷ back) last pushed has ready)),
     )
+
+pub returns-then-has_room-clause-left : goal.returns-then-has_room-clause-left
+returns-then-has_room-clause-left g c same =
+    let skip : ℕ = c.skipped-skip.result in
+    let items : List ℕ = c.args.pair.now.cell.items in
+    let bytes : List ℕ = c.deref.result.now in
+    let cell : List ℕ = take (length bytes - skip) (drop skip bytes) in
+    let all : cell ≡ drop skip items = between_to_end bytes skip (length bytes) (omega arith) ∙ ap (drop skip) c.deref.ensures.value in
+    let long : length cell ≡ length items - skip = ap length all ∙ length-drop skip items in
+    let len : c.len.result ≡ length items = omega (arith, c.len.ensures, c.args.pair.now.cell.ok.0) in
+    let size : c.len.result - skip ≡ length cell = omega arith in
+    subst (λ d. c.args.more ≤ room_of d) (sym c.add.ensures)
+    (room_after c.args.page.now cell c.args.more (subst (λ n. max 4 n + 2 + c.args.more ≤ room_of c.args.page.now) size (c.has_room.ensures.0 c.if-has_room.true)))

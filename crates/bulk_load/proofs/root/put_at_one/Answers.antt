@@ -1,12 +1,11 @@
-use Rattle.std.proofs.Common.{◌≡◌, ◌≤◌, ◌+◌, ℕ, suc, Ok, List, [], ◌∷◌, Option, Some, None, true, map, refl, ap, sym, subst, ◌∙◌, arith}
+use Rattle.std.proofs.Common.{◌≡◌, ℕ, suc, [], ◌∷◌, Some, true, map, ap, sym, subst, ◌∙◌, arith}
 use Rattle.std.specs.Option.{option_map}
 use Rattle.db_format.specs.Pages.{Pages}
-use Rattle.btree_page.specs.declared.kind.Family.{Family}
 use Rattle.btree_page.specs.declared.kind.Kind.{Kind}
 use Rattle.btree_page.specs.Kind.{family_of, is_interior}
-use Rattle.btree_page.specs.Page.{Node, read_node}
+use Rattle.btree_page.specs.Page.{Node}
 use Rattle.btree_page.specs.Step.{child, steps}
-use Rattle.btree_model.specs.Content.{Entry, entry_of}
+use Rattle.btree_model.specs.Content.{entry_of}
 use Rattle.btree_model.specs.Tree.{tree}
 use Rattle.load_model.specs.Open.{at_height}
 use Rattle.load_model.specs.Stands.{Stands}
@@ -14,15 +13,16 @@ use Rattle.load_model.proofs.RootLemmas.{lone_root, root_tree}
 use Rattle.page_build.specs.Draft.{as_first}
 use Rattle.page_build.specs.Written.{right_child}
 use Rattle.bulk_load.specs.Close.{HasCells, IsRoot}
-use Rattle.bulk_load.specs.Settle.{up_kind}
+use Rattle.bulk_load.specs.Own.{only}
+use Rattle.bulk_load.proofs.PutLemmas.{covers_before, covers_behind}
 use Rattle.bulk_load.proofs.EndLemmas.{closed_tree}
-use Rattle.bulk_load.proofs.SettleLemmas.{family_up, right_is, up_interior, up_same}
+use Rattle.bulk_load.proofs.SettleLemmas.{family_up, right_is, up_interior}
 use Rattle.bulk_load.proofs.root.put_at_one.Goals as goal
 
 pub returns-in-Ok-clause-tree : goal.returns-in-Ok-clause-tree
-returns-in-Ok-clause-tree g c start well cells h last pushed low up has st =
-    let old : Pages = g.P.PageOut.pages c.args.out.now in
-    let new : Pages = g.P.PageOut.pages c.put_first.new.out in
+returns-in-Ok-clause-tree g c start well own covers cells h last pushed low up has st =
+    let old : Pages = only own (g.P.PageOut.pages c.args.out.now) in
+    let new : Pages = only own (g.P.PageOut.pages c.put_first.new.out) in
     let page = c.args.page.now in
     let kind : Kind = c.args.kind in
     let fam : family_of page.kind ≡ family_of kind = sym (family_up page.kind) ∙ ap family_of up in
@@ -31,16 +31,16 @@ returns-in-Ok-clause-tree g c start well cells h last pushed low up has st =
     let one : Node = record { kind = page.kind; cells = cells; right = right_child page.kind c.args.right } in
     let root : IsRoot old new 1 one =
     subst (λ k. IsRoot old new 1 (record { kind = k; cells = cells; right = right_child k c.args.right })) (ap (λ d. d.kind) moved)
-    (c.in-Ok.ensures.root start well cells (subst (λ d. HasCells d old.usable cells) (sym moved) first)) in
+    (c.in-Ok.ensures.root start well own covers cells (subst (λ d. HasCells d old.usable cells) (sym moved) first)) in
     subst (λ f. option_map (map entry_of) (tree new f 1) ≡ Some pushed) fam
     (root_tree old new (family_of page.kind) last pushed h 1 one root.put root.reads (omega arith)
     (subst (λ f. Stands old f last (at_height h (steps cells (right_child page.kind c.args.right))) pushed) (sym fam) st))
 
 pub returns-in-Ok-put_first-clause-tree : goal.returns-in-Ok-put_first-clause-tree
-returns-in-Ok-put_first-clause-tree g c start well cells h last pushed low up has st =
-    let old : Pages = g.P.PageOut.pages c.args.out.now in
-    let mid : Pages = g.P.PageOut.pages c.close.new.out in
-    let new : Pages = g.P.PageOut.pages c.put_first-2.new.out in
+returns-in-Ok-put_first-clause-tree g c start well own covers cells h last pushed low up has st =
+    let old : Pages = only own (g.P.PageOut.pages c.args.out.now) in
+    let mid : Pages = only own (g.P.PageOut.pages c.close.new.out) in
+    let new : Pages = only own (g.P.PageOut.pages c.put_first-2.new.out) in
     let page = c.args.page.now in
     let kind : Kind = c.args.kind in
     let m : ℕ = c.in-Ok-close.m in
@@ -48,12 +48,12 @@ returns-in-Ok-put_first-clause-tree g c start well cells h last pushed low up ha
     let inner : is_interior kind ≡ true = subst (λ k. is_interior k ≡ true) up (up_interior page.kind) in
     let told = c.in-Ok-close.ensures.follows.told start well in
     let closed : Stands mid (family_of kind) last (record { height = suc h; leads = child m } ∷ []) pushed =
-    closed_tree old mid page kind old.usable c.args.right m cells h last pushed (c.in-Ok-close.ensures.closed start well) up has low st in
+    closed_tree old mid page kind old.usable c.args.right m cells h last pushed (c.in-Ok-close.ensures.closed start well own (covers_before _ own _ _ _ c.in-Ok-put_first.ensures.keeps.count covers)) up has low st in
     let is_kind : first.kind ≡ kind = ap (λ d. d.kind) c.in-Ok-new.ensures in
     let none : first.cells ≡ [] = ap (λ d. d.cells) c.in-Ok-new.ensures in
     let size : first.usable ≡ mid.usable = ap (λ d. d.usable) c.in-Ok-new.ensures ∙ c.usable.ensures.value in
     let empty : HasCells first mid.usable [] = record { size = size; written = rw none tt } in
     let root : IsRoot mid new 1 (record { kind = kind; cells = []; right = Some m }) =
     subst (λ r. IsRoot mid new 1 (record { kind = kind; cells = []; right = r })) (right_is kind m inner)
-    (subst (λ k. IsRoot mid new 1 (record { kind = k; cells = []; right = right_child k m })) is_kind (c.in-Ok-put_first.ensures.root start told [] empty)) in
+    (subst (λ k. IsRoot mid new 1 (record { kind = k; cells = []; right = right_child k m })) is_kind (c.in-Ok-put_first.ensures.root start told own (covers_behind _ own _ _ _ c.in-Ok-close.ensures.keeps.count covers) [] empty)) in
     lone_root mid new (family_of kind) kind last pushed (suc h) m root.put root.reads (omega arith) closed

@@ -7,13 +7,14 @@ use Rattle.btree_page.specs.Kind.{family_of}
 use Rattle.bulk_load.specs.declared.pair.Pair.{Pair}
 use Rattle.bulk_load.specs.Settle.{on, cell_on, IsSettled}
 use Rattle.bulk_load.specs.Level.{AreNamed, ArePairs, waiting_steps}
+use Rattle.bulk_load.specs.Own.{only}
 use Rattle.bulk_load.proofs.LevelLemmas.{pairs_more, waiting_more, named_more, split, wait_list, next_is, IsNext}
 use Rattle.bulk_load.proofs.level.Level.enter.Goals.{in-Ok, in-Err}
 use Rattle.bulk_load.proofs.level.Level.enter.Goals as goal
 
 pub returns-then-len-lt2-clause-entered : goal.returns-then-len-lt2-clause-entered
-returns-then-len-lt2-clause-entered g c start well todo s h front back last pushed hold pair st =
-    let out = g.P.PageOut.pages c.args.out.now in
+returns-then-len-lt2-clause-entered g c start well own covers todo s h front back last pushed hold pair st =
+    let out = only own (g.P.PageOut.pages c.args.out.now) in
     let kind = c.args.self.now.page.kind in
     let before : List Pair = c.args.self.now.waiting.items in
     let n : ℕ = c.args.pair.child in
@@ -39,32 +40,34 @@ returns-then-len-lt2-clause-entered g c start well todo s h front back last push
 
 pub returns-in-Ok-true-clause-ready : goal.returns-in-Ok-true-clause-ready
 returns-in-Ok-true-clause-ready g c =
+    let usable : ℕ = (g.P.PageOut.pages c.args.out.now).usable in
     let before : List Pair = c.args.self.now.waiting.items in
     let some : 1 ≤ length before = omega (arith, c.len.ensures, c.args.self.now.waiting.ok.0) in
     let items : before ≡ c.remove-first.result ∷ c.remove-first.new.self.items = split before c.remove-first.new.self.items c.remove-first.result some c.remove-first.ensures.value c.remove-first.ensures.items in
-    let named : AreNamed (c.remove-first.result ∷ c.remove-first.new.self.items) = subst (λ l. AreNamed l) items c.requires.ready.named in
+    let named : AreNamed usable (c.remove-first.result ∷ c.remove-first.new.self.items) = subst (λ l. AreNamed usable l) items c.requires.ready.named in
     record {
       size = c.in-Ok-true.ensures.shape.usable ∙ c.requires.ready.size;
       plain = c.in-Ok-true.ensures.shape.header ∙ c.requires.ready.plain;
-      named = rw c.in-Ok-push.ensures.items (named_more c.remove-first.new.self.items c.args.pair named.1 c.requires.named);
+      named = rw c.in-Ok-push.ensures.items (named_more usable c.remove-first.new.self.items c.args.pair named.1 c.requires.named);
     }
 
 pub returns-in-Ok-false-clause-ready : goal.returns-in-Ok-false-clause-ready
 returns-in-Ok-false-clause-ready g c =
+    let usable : ℕ = (g.P.PageOut.pages c.args.out.now).usable in
     let before : List Pair = c.args.self.now.waiting.items in
     let some : 1 ≤ length before = omega (arith, c.len.ensures, c.args.self.now.waiting.ok.0) in
     let items : before ≡ c.remove-first.result ∷ c.remove-first.new.self.items = split before c.remove-first.new.self.items c.remove-first.result some c.remove-first.ensures.value c.remove-first.ensures.items in
-    let named : AreNamed (c.remove-first.result ∷ c.remove-first.new.self.items) = subst (λ l. AreNamed l) items c.requires.ready.named in
+    let named : AreNamed usable (c.remove-first.result ∷ c.remove-first.new.self.items) = subst (λ l. AreNamed usable l) items c.requires.ready.named in
     record {
       size = c.in-Ok-false.ensures.shape.usable ∙ c.requires.ready.size;
       plain = c.in-Ok-false.ensures.shape.header ∙ c.requires.ready.plain;
-      named = rw c.in-Ok-push.ensures.items (named_more c.remove-first.new.self.items c.args.pair named.1 c.requires.named);
+      named = rw c.in-Ok-push.ensures.items (named_more usable c.remove-first.new.self.items c.args.pair named.1 c.requires.named);
     }
 
 pub returns-in-Ok-true-clause-entered : goal.returns-in-Ok-true-clause-entered
-returns-in-Ok-true-clause-entered g c start well todo s h front back last pushed hold pair st =
-    let old = g.P.PageOut.pages c.args.out.now in
-    let new = g.P.PageOut.pages c.settle.new.out in
+returns-in-Ok-true-clause-entered g c start well own covers todo s h front back last pushed hold pair st =
+    let old = only own (g.P.PageOut.pages c.args.out.now) in
+    let new = only own (g.P.PageOut.pages c.settle.new.out) in
     let kind = c.args.self.now.page.kind in
     let before : List Pair = c.args.self.now.waiting.items in
     let first : Pair = c.remove-first.result in
@@ -75,7 +78,7 @@ returns-in-Ok-true-clause-entered g c start well todo s h front back last pushed
     let next : IsNext new c.settle.new.page c.settle.new.pair (rest ++ c.args.pair ∷ []) old.usable kind h front back last pushed true =
     subst (λ b. IsNext new c.settle.new.page c.settle.new.pair (rest ++ c.args.pair ∷ []) old.usable kind h front back last pushed b) c.in-Ok-true.field-0-test
     (next_is old new c.args.self.now.page c.settle.new.page (before ++ c.args.pair ∷ []) (rest ++ c.args.pair ∷ []) first c.settle.new.pair c.in-Ok-true.field-0 hold.cells (hold.between ++ s ∷ []) (todo ++ on kind n s) h front back last pushed
-    (c.in-Ok-true.ensures.settled start well) items hold.has (pairs_more before kind old.usable hold.between c.args.pair s hold.pairs pair)
+    (c.in-Ok-true.ensures.settled start well own covers) items hold.has (pairs_more before kind old.usable hold.between c.args.pair s hold.pairs pair)
     (ap (λ l. l ++ on kind n s) hold.is ∙ append_assoc (steps hold.cells None) (waiting_steps kind before hold.between) (on kind n s)
     ∙ ap (λ l. steps hold.cells None ++ l) (sym (waiting_more before kind old.usable hold.between c.args.pair s hold.pairs)))
     (subst (λ l. Stands old (family_of kind) last l pushed) (wait_list todo (on kind n s) h front back) st))
@@ -98,9 +101,9 @@ returns-in-Ok-true-clause-entered g c start well todo s h front back last pushed
     )
 
 pub returns-in-Ok-false-clause-entered : goal.returns-in-Ok-false-clause-entered
-returns-in-Ok-false-clause-entered g c start well todo s h front back last pushed hold pair st =
-    let old = g.P.PageOut.pages c.args.out.now in
-    let new = g.P.PageOut.pages c.settle.new.out in
+returns-in-Ok-false-clause-entered g c start well own covers todo s h front back last pushed hold pair st =
+    let old = only own (g.P.PageOut.pages c.args.out.now) in
+    let new = only own (g.P.PageOut.pages c.settle.new.out) in
     let kind = c.args.self.now.page.kind in
     let before : List Pair = c.args.self.now.waiting.items in
     let first : Pair = c.remove-first.result in
@@ -111,7 +114,7 @@ returns-in-Ok-false-clause-entered g c start well todo s h front back last pushe
     let next : IsNext new c.settle.new.page c.settle.new.pair (rest ++ c.args.pair ∷ []) old.usable kind h front back last pushed false =
     subst (λ b. IsNext new c.settle.new.page c.settle.new.pair (rest ++ c.args.pair ∷ []) old.usable kind h front back last pushed b) c.in-Ok-false.field-0-test
     (next_is old new c.args.self.now.page c.settle.new.page (before ++ c.args.pair ∷ []) (rest ++ c.args.pair ∷ []) first c.settle.new.pair c.in-Ok-false.field-0 hold.cells (hold.between ++ s ∷ []) (todo ++ on kind n s) h front back last pushed
-    (c.in-Ok-false.ensures.settled start well) items hold.has (pairs_more before kind old.usable hold.between c.args.pair s hold.pairs pair)
+    (c.in-Ok-false.ensures.settled start well own covers) items hold.has (pairs_more before kind old.usable hold.between c.args.pair s hold.pairs pair)
     (ap (λ l. l ++ on kind n s) hold.is ∙ append_assoc (steps hold.cells None) (waiting_steps kind before hold.between) (on kind n s)
     ∙ ap (λ l. steps hold.cells None ++ l) (sym (waiting_more before kind old.usable hold.between c.args.pair s hold.pairs)))
     (subst (λ l. Stands old (family_of kind) last l pushed) (wait_list todo (on kind n s) h front back) st))

@@ -9,6 +9,7 @@ use Rattle.page_build.specs.Draft.{with_cell}
 use Rattle.bulk_load.specs.declared.level.Level.{Level}
 use Rattle.bulk_load.specs.Chain.{IsPutChain}
 use Rattle.bulk_load.specs.Loader.{LoadedAs}
+use Rattle.bulk_load.specs.Own.{only}
 use Rattle.bulk_load.proofs.CellLemmas.{IsRow, row_is}
 use Rattle.bulk_load.proofs.RowLemmas.{own_kind, row_added, rows_loaded, rows_of}
 use Rattle.bulk_load.proofs.loader.Loader.add_row.Goals as goal
@@ -26,9 +27,9 @@ add-requires g c =
     rw (c.deref.ensures.value, row.long) c.requires.fits
 
 pub returns-clause-loaded : goal.returns-clause-loaded
-returns-clause-loaded g c start well pushed loaded =
-    let old : Pages = g.P.PageOut.pages c.args.out.now in
-    let mid : Pages = g.P.PageOut.pages c.chain_of.new.out in
+returns-clause-loaded g c start well own covers pushed loaded =
+    let old : Pages = only own (g.P.PageOut.pages c.args.out.now) in
+    let mid : Pages = only own (g.P.PageOut.pages c.chain_of.new.out) in
     let payload : List ℕ = c.args.payload.now in
     let first : ℕ = c.in_ok-first.first in
     let k : ℕ = c.args.local in
@@ -39,7 +40,7 @@ returns-clause-loaded g c start well pushed loaded =
     let row : IsRow old.usable payload raw k first r =
     row_is old.usable payload raw rest k first r _ c.requires.local c.requires.some c.requires.short c.ranges.rowid
     (to_z-of_z w64 r c.ranges.rowid) all c.in_ok-first.ensures.none c.in_ok-first.ensures.some c.in_ok-write_row.ensures.ok in
-    let chain : IsPutChain old mid first (drop k payload) = subst (λ l. IsPutChain old mid first l) all (c.in_ok-first.ensures.chain start well) in
+    let chain : IsPutChain old mid first (drop k payload) = subst (λ l. IsPutChain old mid first l) all (c.in_ok-first.ensures.chain start well own covers) in
     let leaf : Level = c.args.self.now.leaf in
     let after : Level = record { page = c.add.new.self; waiting = c.args.self.now.leaf.waiting } in
     let levels : List Level = c.args.self.now.levels.items in

@@ -1,9 +1,11 @@
-use Rattle.std.proofs.Common.{◌≡◌, ◌-◌, ◌≤◌, ◌+◌, ℕ, ℤ, length, false, arith, sym, rules}
+use Rattle.std.proofs.Common.{◌≡◌, ◌-◌, ◌≤◌, ◌+◌, ℤ, [], ◌∷◌, ◌++◌, Some, length, false, arith, subst}
 use Rattle.std.specs.Int.{w64, cast_signed, cast_unsigned}
-use Rattle.db_format.specs.Pages.{Pages}
+use Rattle.std.proofs.lemmas.Int.{to_z-of_z}
 use Rattle.bulk_load.specs.Cells.{row_len}
+use Rattle.bulk_load.specs.Loader.{Loaded}
+use Rattle.bulk_load.specs.Own.{only}
 use Rattle.bulk_load.proofs.CellLemmas.{row_len-most}
-use Rattle.bulk_load.proofs.PutLemmas.{follows_all, keeps_after}
+use Rattle.bulk_load.proofs.PutLemmas.{covers_before, covers_behind, follows_all, keeps_after}
 use Rattle.bulk_load.proofs.loader.Loader.push_row.Goals as goal
 
 pub leaf_for-requires-clause-fits : goal.leaf_for-requires-clause-fits
@@ -30,3 +32,10 @@ pub returns-in_err-add_row-clause-keeps : goal.returns-in_err-add_row-clause-kee
 returns-in_err-add_row-clause-keeps g c =
     let p = g.P.PageOut in
     keeps_after p.pages p.limit p.faults p.well false c.args.out.now c.leaf_for.new.out c.add_row.new.out c.in_ok-leaf_for.ensures.follows c.add_row.ensures.keeps
+
+pub returns-clause-loaded : goal.returns-clause-loaded
+returns-clause-loaded g c start well own covers pushed loaded =
+    subst (λ r. Loaded (only own (g.P.PageOut.pages c.add_row.new.out)) c.add_row.new.self (pushed ++ record { rowid = Some r; payload = c.args.payload.now } ∷ []))
+    (to_z-of_z w64 c.args.rowid c.ranges.rowid)
+    (c.in_ok-add_row.ensures.loaded start (c.in_ok-leaf_for.ensures.follows.told start well) own (covers_behind _ own _ _ _ c.in_ok-leaf_for.ensures.keeps.count covers) pushed
+    (c.in_ok-leaf_for.ensures.loaded start well own (covers_before _ own _ _ _ c.in_ok-add_row.ensures.keeps.count covers) pushed loaded))

@@ -1,4 +1,4 @@
-use Rattle.std.proofs.Common.{◌≡◌, ◌≤◌, ◌*◌, ◌-◌, ap, ◌∙◌, length, arith}
+use Rattle.std.proofs.Common.{ap, ◌∙◌, length}
 use Rattle.db_format.specs.Source.{page_at}
 use Rattle.bulk_load.proofs.MemOutLemmas.{others_stay, within_rows}
 use Rattle.bulk_load.proofs.mem_out.MemOutPageOut.put.Goals as goal
