@@ -1,0 +1,50 @@
+use Rattle.std.proofs.Common.{◌<◌, ◌^◌, true, arith, rules}
+use Rattle.bulk_load.specs.Out.{is_new}
+use Rattle.bulk_load.proofs.PutLemmas.{all_put}
+use Rattle.db_maker.proofs.MakingLaws.{all_follow, made_of, of_schema, took, took_first}
+use Rattle.db_maker.proofs.making.fill.Goals as goal
+
+pub returns-clause-made : goal.returns-clause-made
+returns-clause-made g c start well =
+    let p = g.P.PageOut in
+    let items = c.in_ok-items.ensures in
+    let names = c.in_ok-names.ensures in
+    let codes = c.in_ok-codes.ensures in
+    let schema = c.in_ok-load_schema.ensures in
+    let items_few : c.in_ok-items.items < 2 ^ 32 = search rules in
+    let names_few : c.in_ok-names.names < 2 ^ 32 = search rules in
+    let codes_few : c.in_ok-codes.codes < 2 ^ 32 = search rules in
+    let a = c.args.out.now in
+    let b = c.load_part.new.out in
+    let d = c.load_part-2.new.out in
+    let e = c.load_part-3.new.out in
+    let f = c.load_schema.new.out in
+    let after_items = items.follows.told start well in
+    let after_names = names.follows.told start after_items in
+    let after_codes = codes.follows.told start after_names in
+    made_of p.pages p.limit p.faults p.well a b d e f start well (g.met.P.PageOut.counted a) items.follows names.follows codes.follows schema.keeps c.args.n
+    c.in_ok-items.items c.in_ok-names.names c.in_ok-codes.codes (omega (arith, c.ranges.n.fits)) items_few names_few codes_few
+    (items.tree start well (is_new (p.pages a) (p.pages b)) (took (p.pages a) (p.pages b)))
+    (names.tree start after_items (is_new (p.pages b) (p.pages d)) (took (p.pages b) (p.pages d)))
+    (codes.tree start after_names (is_new (p.pages d) (p.pages e)) (took (p.pages d) (p.pages e)))
+    (schema.tree start after_codes (of_schema (p.pages e) (p.pages f)) (took_first (p.pages e) (p.pages f)))
+
+pub returns-clause-follows : goal.returns-clause-follows
+returns-clause-follows g c =
+    let p = g.P.PageOut in
+    all_follow p.pages p.limit p.faults p.well c.args.out.now c.load_part.new.out c.load_part-2.new.out c.load_part-3.new.out c.load_schema.new.out
+    c.in_ok-items.ensures.follows c.in_ok-names.ensures.follows c.in_ok-codes.ensures.follows c.in_ok-load_schema.ensures.follows
+
+pub returns-clause-whole : goal.returns-clause-whole
+returns-clause-whole g c none =
+    let p = g.P.PageOut in
+    all_put p.pages p.limit p.faults p.well c.args.out.now c.load_schema.new.out none
+    (all_follow p.pages p.limit p.faults p.well c.args.out.now c.load_part.new.out c.load_part-2.new.out c.load_part-3.new.out c.load_schema.new.out
+    c.in_ok-items.ensures.follows c.in_ok-names.ensures.follows c.in_ok-codes.ensures.follows c.in_ok-load_schema.ensures.follows)
+
+pub returns-clause-fresh : goal.returns-clause-fresh
+returns-clause-fresh g c =
+    let p = g.met.P.PageOut in
+    p.joins c.args.out.now c.load_part.new.out c.load_schema.new.out c.in_ok-items.ensures.fresh
+    (p.joins c.load_part.new.out c.load_part-2.new.out c.load_schema.new.out c.in_ok-names.ensures.fresh
+    (p.joins c.load_part-2.new.out c.load_part-3.new.out c.load_schema.new.out c.in_ok-codes.ensures.fresh c.in_ok-load_schema.ensures.fresh))
