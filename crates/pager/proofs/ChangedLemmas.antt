@@ -2,14 +2,15 @@
 use Rattle.std.proofs.Common.{◌≡◌, ◌==◌, ◌≤◌, ◌<◌, ◌+◌, ◌-◌, ◌⊎◌, ⊎_elim, ℕ, suc, zero, Bool, true, false, cond, List, [], ◌∷◌, ◌++◌, length, take, drop, Option, Some, None, is_some, replicate, refl, sym, ap, subst, ◌∙◌, arith, rules, length-append, length-take, length-drop, append-nil}
 use Rattle.std.specs.Prelude.{slice_index, unwrap_or, if◌then◌else◌}
 use Rattle.std.specs.Option.{option_map}
+use Rattle.std.specs.Prelude.{not}
 use Rattle.std.proofs.lemmas.List.{drop-drop, drop_all}
 use Rattle.std.proofs.Math.ListN.{get_or-append}
 use Rattle.std.proofs.Math.Seq.{get_or-append_seam, take-append_seam}
 use Rattle.page_cache.specs.Lending.{laid_over}
 use Rattle.page_cache.specs.Cache.{written_over}
-use Rattle.page_cache.specs.Pages.{Page, page_at, bytes_at, is_held, changed, fresh_page}
+use Rattle.page_cache.specs.Pages.{Page, Pages, page_at, bytes_at, is_held, changed, fresh_page, without}
 use Rattle.page_cache.proofs.CallerLemmas.{number_of}
-use Rattle.pager.specs.Changed.{Changed, IsListing, is_listed, unchanged, with_bytes}
+use Rattle.pager.specs.Changed.{AreListed, Changed, IsListing, is_listed, unchanged, with_bytes}
 use Rattle.pager.specs.Held.{bytes_of_page}
 use Rattle.pager.proofs.Filling.{same_number}
 use Rattle.pager.proofs.Pins.{at_changed}
@@ -187,3 +188,35 @@ over_all src page same = ap (λ (l : List ℕ). src ++ l) (drop_all (0 + length 
 pub never : (o : Option (List ℕ)) → o ≡ None → is_some o ≡ true → ⊥
 never None is some = cc
 never (Some x) is some = cc
+
+-- ---- the frames are freed
+
+flipped : (a b : ℕ) → (a == b) ≡ false → (b == a) ≡ false
+flipped a b other = search rules
+
+pub all_listed : (ms : List ℕ) (ps : List Page) → ((m : ℕ) → is_held m ps ≡ true → is_listed m ms ≡ true) → AreListed ms ps
+all_listed ms [] listed = tt
+all_listed ms (p ∷ ps) listed = (listed p.number (rw (eqb-refl p.number) refl), all_listed ms ps (λ m is. listed m (later m is)))
+  where
+    later : (m : ℕ) → is_held m ps ≡ true → is_held m (p ∷ ps) ≡ true
+    later m is = (elim (p.number == m) as (λ b. is_some (cond b (Some p) (page_at m ps)) ≡ true) [ true ↦ refl | false ↦ is ])
+
+-- the first of the numbers leaves
+pub listed_without : (n : ℕ) (ms : List ℕ) (ps : List Page) → AreListed (n ∷ ms) ps → AreListed ms (without n ps)
+listed_without n ms [] all = tt
+listed_without n ms (p ∷ ps) all = (elim (p.number == n) as (λ b. (p.number == n) ≡ b → AreListed ms (cond (not b) (p ∷ without n ps) (without n ps))) [
+  | true ↦ λ t. listed_without n ms ps all.1
+  | false ↦ λ t. (subst (λ (b : Bool). (if b then true else is_listed p.number ms) ≡ true) (flipped p.number n t) all.0, listed_without n ms ps all.1)
+]) refl
+
+-- with no number left, no page is held
+pub listed_none : (ps : List Page) → AreListed [] ps → ps ≡ []
+listed_none [] all = refl
+listed_none (p ∷ ps) all = absurd (let is : false ≡ true = all.0 in cc)
+
+-- nothing is held, and the sizes stay
+pub emptied : (p q : Pages) → p.held ≡ [] → p.frames ≡ q.frames → p.usable ≡ q.usable → p ≡ record q { held = [] }
+emptied p q none frames usable =
+    ap (λ (ps : List Page). record p { held = ps }) none
+    ∙ ap (λ (n : ℕ). record p { held = []; frames = n }) frames
+    ∙ ap (λ (n : ℕ). record q { held = []; usable = n }) usable

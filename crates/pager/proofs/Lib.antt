@@ -6,3 +6,5 @@ pub mod OpeningLemmas
 pub mod ChangedLemmas
 pub mod EndingLemmas
 pub mod TxnLemmas
+pub mod BatchLemmas
+pub mod UnderWayLemmas

@@ -3,7 +3,7 @@ use Rattle.std.proofs.Common.{◌≡◌, ◌≢◌, ◌==◌, ℕ, ◌+◌, ◌*
 use Rattle.std.specs.Prelude.{unwrap_or, if◌then◌else◌}
 use Rattle.std.proofs.Math.Nat.{le-mul_of_pos_right}
 use Rattle.std.proofs.lemmas.List.{take-append-le}
-use Rattle.std.proofs.Math.Seq.{drop-append_seam, take-append_seam}
+use Rattle.std.proofs.Math.Seq.{drop-append_seam}
 use Rattle.cipher_profile.specs.Profile.{IsListed}
 use Rattle.cipher_profile.specs.declared.profile.Profile.{Profile}
 use Rattle.db_format.specs.Count.{largest_database}
@@ -66,24 +66,3 @@ magic_put n at src old new first there each begins = λ held. (elim (1 == n) as 
 pub magic_kept : (keys : FileKeys) (stored : List ℕ) → with_bytes 0 magic (opened keys 1 stored) ≡ opened keys 1 stored
 unfolding opened
 magic_kept keys stored = ap (λ (l : List ℕ). magic ++ l) (drop-append_seam magic _)
-
--- the page whose first bytes are put over is page 1
-pub magic_first : (page : List ℕ) (new : List Page) → bytes_at 1 new ≡ Some (with_bytes 0 magic page) → HasMagic new
-magic_first page new now = λ held.
-    ap (λ (l : List ℕ). take 16 l) (page_is 1 (with_bytes 0 magic page) new now)
-    ∙ take-append_seam magic (drop 16 page)
-
--- page 1 of a file stays as it is where its first bytes are put over it
-pub first_told : (n : ℕ) (keys : FileKeys) (stored plain : List ℕ) (old mid new : List Page) → n ≡ 1 → plain ≡ opened keys 1 stored
-    → ((m : ℕ) → bytes_at m mid ≡ (if m == n then Some plain else bytes_at m old))
-    → ((m : ℕ) → bytes_at m new ≡ (if m == 1 then Some (with_bytes 0 magic (bytes_of_page 1 mid)) else bytes_at m mid))
-    → (m : ℕ) → bytes_at m new ≡ (if m == n then Some plain else bytes_at m old)
-first_told n keys stored plain old mid new is opens bring put m =
-    let here : bytes_at 1 mid ≡ Some plain = bring 1 ∙ ap (λ (k : ℕ). if 1 == k then Some plain else bytes_at 1 old) is in
-    let whole : with_bytes 0 magic (bytes_of_page 1 mid) ≡ plain =
-    ap (λ (l : List ℕ). with_bytes 0 magic l) (page_is 1 plain mid here ∙ opens) ∙ magic_kept keys stored ∙ sym opens in
-    put m
-    ∙ ((elim (m == 1) as (λ b. (m == 1) ≡ b → (if b then Some (with_bytes 0 magic (bytes_of_page 1 mid)) else bytes_at m mid) ≡ (if m == n then Some plain else bytes_at m old)) [
-      | true ↦ λ t. ap (λ (l : List ℕ). Some l) whole ∙ sym (ap (λ (b : Bool). if b then Some plain else bytes_at m old) (ap (λ (k : ℕ). m == k) is ∙ t))
-      | false ↦ λ t. bring m
-    ]) refl)

@@ -1,16 +1,11 @@
 -- The pages that a transaction changed, and what its pages are.
-use Rattle.std.specs.Prelude.{ℕ, ◌≡◌, ◌≢◌, ◌≤◌, ◌<◌, ◌+◌, ◌-◌, ◌*◌, ◌==◌, ◌&&◌, ◌||◌, Bool, true, false, List, [], ◌∷◌, ◌++◌, length, take, drop, slice_index, unwrap_or, IsTrue, if◌then◌else◌}
+use Rattle.std.specs.Prelude.{ℕ, ◌≡◌, ◌≢◌, ◌≤◌, ◌<◌, ◌+◌, ◌*◌, ◌==◌, ◌&&◌, Bool, true, false, List, [], ◌∷◌, ◌++◌, length, take, drop, slice_index, IsTrue, if◌then◌else◌}
+use Rattle.std.specs.List.{AllByRecursion}
 use Rattle.std.specs.Str.{bytes_eq}
 use Rattle.cipher_profile.specs.Profile.{usable}
-use Rattle.db_format.specs.Pages.{Pages as Plain}
 use Rattle.page_codec.specs.Page.{FileKeys, accepts, magic, opened, sealed}
-use Rattle.page_cache.specs.Pages.{Page, bytes_at, is_held}
+use Rattle.page_cache.specs.Pages.{Page, is_held}
 use Rattle.pager.specs.Held.{bytes_of_page}
-use Rattle.pager.specs.Pages.{is_number}
-use Rattle.pager.specs.declared.fill.PageError.{PageError}
-use Rattle.pager.specs.declared.fill.PageError.TheVariants.{OutOfRange, TagRefused, DiskFault, EntropyFault, AllPinned}
-use Rattle.transaction.specs.Commit.{IsChanged}
-use Rattle.transaction.specs.Database.{Base}
 
 -- The changed pages: their numbers, in the order of their first change, and the frames that hold them. There is room for so many
 -- frames of so many bytes, and the file has so many pages.
@@ -30,6 +25,10 @@ abbrev pub is_listed : ℕ → List ℕ → Bool
 is_listed n [] = false
 is_listed n (m ∷ ms) = if m == n then true else is_listed n ms
 
+-- each held page has one of these numbers
+abbrev pub AreListed : List ℕ → List Page → Type 0
+AreListed ms ps = AllByRecursion (λ p. is_listed p.number ms ≡ true) ps
+
 -- The numbers are those of the held pages, each once, and each is a page of the file.
 pub record IsListing (c : Changed) : Type 0 where
   pub in_range : (k : ℕ) → k < length c.numbers → (1 ≤ slice_index c.numbers k) × (slice_index c.numbers k ≤ c.pages)
@@ -39,22 +38,9 @@ pub record IsListing (c : Changed) : Type 0 where
   pub within : length c.numbers ≤ c.frames
   pub few : c.frames ≤ c.pages
 
--- their numbers when page n is one of them
-abbrev pub numbers_with : ℕ → Changed → List ℕ
-numbers_with n c = if is_held n c.held then c.numbers else c.numbers ++ n ∷ []
-
 -- these bytes over those of a page, from an offset on
 abbrev pub with_bytes : ℕ → List ℕ → List ℕ → List ℕ
 with_bytes at bytes page = take at page ++ (bytes ++ drop (at + length bytes) page)
-
--- the pages as a transaction sees them: those that it changed, and the others as they are in the file
-abbrev pub seen_pages : Plain → List Page → Plain
-seen_pages plain held = record {
-  count = plain.count;
-  usable = plain.usable;
-  page = λ n. unwrap_or (bytes_at n held) (plain.page n);
-  accepts = λ n. is_held n held || plain.accepts n;
-}
 
 -- page 1 begins as each database does
 abbrev pub HasMagic : List Page → Type 0
@@ -79,25 +65,7 @@ pub record IsDrawn (tells : Bool) (before after : List ℕ) (count : ℕ) (draws
   pub many : length draws ≡ count
   pub told : IsTrue tells → after ≡ before ++ draws
 
--- Main has the changed pages, each sealed with bytes of its own of those that were drawn, and every other page as at the start.
-pub record HasNewPages (base : Base) (keys : FileKeys) (c : Changed) (drawn : ℕ → List ℕ → Type 0) (main : List ℕ) : Type 0 where
-  pub draws : List ℕ
-  pub own : drawn (length c.numbers * keys.profile.reserve) draws
-  pub changed : IsChanged base c.numbers (IsSealed keys c draws) (length c.numbers) main
-
 -- the layout of both is the same: page size, reserve and salt
 abbrev pub same_layout : FileKeys → FileKeys → Bool
 same_layout read write =
     (read.profile.page_size == write.profile.page_size) && (read.profile.reserve == write.profile.reserve) && bytes_eq read.salt write.salt
-
--- the page that is lent: the changed one, or the one that was read
-abbrev pub lent_page : ℕ → List Page → ℕ → List Page → List ℕ
-lent_page n held last read = unwrap_or (bytes_at n held) (bytes_of_page last read)
-
--- Page n can't be changed, by its number, or since every frame holds another changed page.
-abbrev pub IsUnchangeable : Changed → ℕ → PageError → Type 0
-IsUnchangeable c n OutOfRange = is_number c.pages n ≡ false
-IsUnchangeable c n (TagRefused page) = ⊥
-IsUnchangeable c n DiskFault = ⊥
-IsUnchangeable c n EntropyFault = ⊥
-IsUnchangeable c n AllPinned = (is_number c.pages n ≡ true) × (is_held n c.held ≡ false) × (length c.numbers ≡ c.frames)

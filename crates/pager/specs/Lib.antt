@@ -6,3 +6,5 @@ pub mod Held
 pub mod Causes
 pub mod Reads
 pub mod Changed
+pub mod UnderWay
+pub mod Base

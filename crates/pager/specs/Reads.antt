@@ -1,7 +1,7 @@
 -- A disk behind a pager that only reads, and an entropy that is not called.
 use Rattle.std.specs.Prelude.{ℕ, ◌≡◌, ◌≤◌, Bool, IsTrue, refl}
 use Rattle.std.specs.Borrow.{MutBor}
-use Rattle.std.proofs.Common.{inl, inr, ⊎_elim, ◌∙◌, arith}
+use Rattle.std.proofs.Common.{inl, inr, ⊎_elim, ◌∙◌, arith, subst, sym}
 use Rattle.edge_model.specs.Files.{Files}
 use Rattle.edge_model.specs.OnlyRead.{OnlyRead}
 
@@ -58,4 +58,12 @@ module _ {tells : Bool} {D : Type 0} {reads : D → Files} {images : D → Files
     same = next.same ∙ first.same;
     only_read = λ told. then_read (first.only_read told) (next.only_read told);
     later = omega (arith, first.later, next.later);
+  }
+
+  -- a disk that was not called was only read
+  pub untouched_read : {s t : MutBor D} → Untouched s t → DiskRead tells reads images moment since faults s t
+  untouched_read {s} still = record {
+    same = still.same;
+    only_read = λ told. subst (λ (d : D). OnlyRead reads images moment since s.now d) (sym still.value) (not_read s.now);
+    later = subst (λ (d : D). faults s.now ≤ faults d) (sym still.value) (omega arith);
   }

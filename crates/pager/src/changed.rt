@@ -4,12 +4,22 @@ ghost use Rattle.std.specs.Option.{option_map};
 ghost use Rattle.std.specs.Prelude.{slice_index};
 ghost use Rattle.page_cache.specs.Cache.{written_over};
 ghost use Rattle.page_cache.specs.Pages.{bytes_at, changed, fresh_page, is_held};
-ghost use Rattle.pager.specs.Changed.{IsListing, unchanged, with_bytes};
+ghost use Rattle.pager.specs.Changed.{AreListed, IsListing, unchanged, with_bytes};
 ghost use Rattle.pager.specs.Held.{bytes_of_page};
 
 use page_cache::{Cache, OutOfMemory};
 use std::alloc::Global;
 use std::marker::Model;
+
+// Each of these pages leaves its frame.
+fn release(numbers: &[u32], cache: &mut Cache)
+    requires { AreListed numbers.now cache.old.held }
+    ensures { cache.new ≡ record cache.old { held = [] } }
+{
+    for k in 0..numbers.len() {
+        cache.discard(numbers[k]);
+    }
+}
 
 /// Changed pages, in the order of their first change. All memory is taken by `new`.
 #[derive(Drop)]
@@ -149,6 +159,14 @@ impl ChangedPages {
     {
         let page = self.cache.at_mut(n);
         page[at..at + bytes.len()].copy_from_slice(bytes);
+    }
+
+    /// No page is changed any more, and all frames are free.
+    pub(crate) fn free(&mut self)
+        ensures { self.new ≡ unchanged self.old.frames self.old.usable self.old.pages }
+    {
+        release(&self.numbers, &mut self.cache);
+        self.numbers.clear();
     }
 
     /// Page n is zeros.

@@ -51,7 +51,7 @@ fn make_room(cache: &mut Cache, n: u32) -> Result<(), PageError>
 }
 
 // Reads page n into a buffer and opens it into a frame.
-fn read_plain<D: Disk>(
+pub(crate) fn read_plain<D: Disk>(
     disk: &mut D,
     codec: &Codec,
     n: u32,

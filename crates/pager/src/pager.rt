@@ -1,6 +1,5 @@
 // A pager: the pages of an encrypted file, read into frames.
-ghost use Rattle.std.specs.Prelude.{◌≡◌, ◌⊎◌, ◌≤◌, ◌*◌, ◌<◌, ◌^◌, ◌-◌, [], ℕ, length, vec_len, unwrap_or, true, false, None, Ok, Err, IfOk, IfErr, OnOk, OnErr, IsTrue, if◌then◌else◌, nat_lt};
-ghost use Rattle.edge_model.specs.Causes.{Rose};
+ghost use Rattle.std.specs.Prelude.{◌≡◌, ◌≤◌, ◌*◌, ◌<◌, ◌-◌, [], length, vec_len, true, false, None, Ok, Err, IfOk, IfErr, OnOk, OnErr, IsTrue, if◌then◌else◌};
 ghost use Rattle.edge_model.specs.Images.{Each};
 ghost use Rattle.edge_model.specs.OnlyRead.{OnlyRead};
 ghost use Rattle.cipher_profile.specs.Profile.{usable};
@@ -172,24 +171,5 @@ impl<'d, D: Disk, E: Entropy> Pager<'d, D, E> {
             last: _,
         } = self;
         (disk, entropy)
-    }
-
-    // The disk and the entropy, and a buffer of the length of a page.
-    pub(crate) fn take_apart(self) -> (&'d mut D, &'d mut E, Vec<u8>)
-        ensures disk { (result.0.ghost_name ≡ self.entry.disk.ghost_name) × (result.0.now ≡ self.entry.disk.now) }
-        ensures entropy { (result.1.ghost_name ≡ self.entry.entropy.ghost_name) × (result.1.now ≡ self.entry.entropy.now) }
-        ensures buffer { vec_len result.2 ≡ self.entry.codec.profile.page_size }
-    {
-        let Pager {
-            disk,
-            entropy,
-            codec: _,
-            header: _,
-            count: _,
-            cache: _,
-            stored,
-            last: _,
-        } = self;
-        (disk, entropy, stored)
     }
 }

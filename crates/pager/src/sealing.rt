@@ -1,5 +1,5 @@
-// The changed pages of a transaction, sealed one at a time.
-ghost use Rattle.std.specs.Prelude.{◌≡◌, ◌≤◌, ◌*◌, length, vec_len, slice_index};
+// Changed pages that are written as a batch, sealed one at a time.
+ghost use Rattle.std.specs.Prelude.{◌≡◌, ◌≤◌, ◌*◌, length};
 ghost use Rattle.cipher_profile.specs.Profile.{usable};
 ghost use Rattle.pager.specs.Changed.{HasMagic, IsSealed};
 
@@ -9,21 +9,21 @@ use transaction::{Changes, DrawFailed};
 
 /// Changed pages, the codec that seals them, and the bytes that were drawn for it, as many for each page as its reserve has.
 #[derive(Drop)]
-pub(crate) struct Sealing {
-    pub(crate) codec: Codec,
-    pub(crate) changed: ChangedPages,
-    pub(crate) draws: Vec<u8>,
-    ghost fits: { changed.usable ≡ usable codec.profile },
-    ghost begins: { HasMagic changed.held },
-    ghost drawn: { length changed.numbers * codec.profile.reserve ≤ vec_len draws },
+pub(crate) struct Sealing<'a> {
+    pub(crate) codec: &'a Codec,
+    pub(crate) changed: &'a ChangedPages,
+    pub(crate) draws: &'a [u8],
+    ghost fits: { changed.now.usable ≡ usable codec.now.profile },
+    ghost begins: { HasMagic changed.now.held },
+    ghost drawn: { length changed.now.numbers * codec.now.profile.reserve ≤ length draws.now },
 }
 
-impl Changes for Sealing {
-    ghost numbers = { λ s. s.changed.numbers };
+impl<'a> Changes for Sealing<'a> {
+    ghost numbers = { λ s. s.changed.now.numbers };
 
-    ghost seals = { λ s k stored. IsSealed s.codec s.changed s.draws.items k stored };
+    ghost seals = { λ s k stored. IsSealed s.codec.now s.changed.now s.draws.now k stored };
 
-    ghost size = { λ s. s.codec.profile.page_size };
+    ghost size = { λ s. s.codec.now.profile.page_size };
 
     ghost faults = { λ s. 0 };
 

@@ -2,6 +2,8 @@
 // 976 bytes n, behind the header on page 1.
 ghost use Rattle.std.specs.Prelude.{◌≡◌, ◌≤◌, length};
 
+mod spills;
+
 use crate::{OpenError, PageError, PageSource, Pager};
 use cipher_profile::{Secret, derive, profile_of};
 use edge_model::{Disk, Entropy, MemDisk, MemEntropy, Role, SilentDisk};

@@ -1,29 +1,30 @@
-// A transaction: pages are changed in memory, and written together at its end.
-ghost use Rattle.std.specs.Prelude.{◌≡◌, ◌≢◌, ◌≤◌, ◌<◌, ◌+◌, ◌-◌, ◌*◌, ◌==◌, ◌⊎◌, ◌∷◌, ◌++◌, [], ℕ, List, length, vec_len, take, drop, true, false, Some, None, Err, IsOk, IfOk, IfErr, IsErrAnd, OnOk, OnErr, IsTrue, if◌then◌else◌, replicate};
-ghost use Rattle.edge_model.specs.Causes.{Rose};
+// A transaction of any size: pages are changed in frames. Where more pages are changed than there are frames, the changed pages are
+// written before the commit, behind records of their old bytes.
+ghost use Rattle.std.specs.Prelude.{◌≡◌, ◌≢◌, ◌≤◌, ◌<◌, ◌+◌, ◌-◌, ◌*◌, ◌==◌, ◌⊎◌, [], ℕ, length, take, vec_len, true, false, Some, None, Err, IsOk, IfOk, IfErr, IsErrAnd, OnOk, IsTrue, if◌then◌else◌, replicate};
+ghost use Rattle.edge_model.specs.Causes.{HasCause, Rose};
 ghost use Rattle.edge_model.specs.Images.{Each, From, LeavesOnly};
 ghost use Rattle.cipher_profile.specs.Profile.{usable};
 ghost use Rattle.page_cache.specs.Pages.{bytes_at, is_held};
-ghost use Rattle.rollback_journal.specs.Playing.{main_of as read_main};
-ghost use Rattle.rollback_journal.specs.Writing.{at_first};
+ghost use Rattle.page_codec.specs.Page.{magic};
+ghost use Rattle.rollback_journal.specs.Playing.{main_of};
 ghost use Rattle.transaction.specs.Commit.{IsCommitted, LeavesChanged};
-ghost use Rattle.transaction.specs.Database.{Base, HoldsEither, HoldsOld, stored_pages};
+ghost use Rattle.transaction.specs.Database.{HoldsEither, HoldsOld, stored_pages};
 ghost use Rattle.transaction.specs.Facts.{IsBase, IsBegun, SameFresh};
-ghost use Rattle.pager.specs.Changed.{HasMagic, HasNewPages, IsDrawn, IsUnchangeable, lent_page, numbers_with, same_layout, seen_pages, with_bytes};
-ghost use Rattle.pager.specs.File.{main_of};
-ghost use Rattle.pager.specs.Pages.{is_number, opened_pages};
-ghost use Rattle.pager.specs.Causes.{IsRefused, MayRefuse};
+ghost use Rattle.transaction.specs.Marks.{marked_count};
+ghost use Rattle.pager.specs.Changed.{HasMagic, same_layout, unchanged, with_bytes};
+ghost use Rattle.pager.specs.Pages.{is_number};
 ghost use Rattle.pager.specs.Reads.{DiskRead, Untouched};
+ghost use Rattle.pager.specs.UnderWay.{HasNewPages, lent_out, IsReadyFor, IsRefusedAs, IsUnderWay, Start, is_failure, is_touched, seen_pages};
 
 use crate::changed::ChangedPages;
-use crate::ending::write_changed;
-use crate::fill::PageError;
+use crate::fill::{PageError, read_plain};
 use crate::pager::Pager;
-use edge_model::{Disk, Entropy};
+use crate::spilled::{end_frames, write_frames};
+use edge_model::{Disk, Entropy, Failed};
 use page_codec::Codec;
 use rollback_journal::JournalWriter;
 use std::alloc::Global;
-use transaction::CommitFault;
+use transaction::{CommitFault, PageMarks, undo_batches};
 
 /// Why a transaction was not begun.
 #[derive(Clone, Copy, Debug, PartialEq, Eq)]
@@ -34,47 +35,516 @@ pub enum BeginError {
     OutOfMemory,
 }
 
-/// Changes of pages. The changed pages stand in frames of their own until the end.
+/// Changes of pages, as many as there are. The changed pages stand in frames, and leave them for Main where more are changed. A call may
+/// follow only where no earlier one answered that the disk or the entropy failed.
 #[derive(Drop)]
 pub struct Txn<'d, D: Disk, E: Entropy> {
-    pub(crate) pager: Pager<'d, D, E>,
+    pub(crate) disk: &'d mut D,
+    pub(crate) entropy: &'d mut E,
+    pub(crate) read: Codec,
     pub(crate) write: Codec,
+    pub(crate) count: u32,
     pub(crate) changed: ChangedPages,
-    writer: JournalWriter,
+    // the pages that were written, and so have a record
+    pub(crate) recorded: PageMarks,
+    pub(crate) writer: JournalWriter,
     draws: Vec<u8>,
+    // a page as it is stored
+    stored: Vec<u8>,
+    // the page that was read last
+    pub(crate) plain: Vec<u8>,
     // the page that was loaded last, 0 for none
     pub(crate) last: u32,
-    ghost layout: { (write.profile.page_size ≡ pager.codec.profile.page_size) × (write.profile.reserve ≡ pager.codec.profile.reserve) },
-    ghost fits: { (changed.usable ≡ usable write.profile) × (changed.pages ≡ pager.count) },
+    ghost layout: { (write.profile.page_size ≡ read.profile.page_size) × (write.profile.reserve ≡ read.profile.reserve) },
+    ghost fits: { (changed.usable ≡ usable write.profile) × (changed.pages ≡ count) × (1 ≤ changed.frames) },
+    // so few changed pages stand in memory, whatever was changed
+    ghost few: { (length changed.numbers ≤ changed.frames) × (changed.frames ≤ 64) },
     ghost room: { vec_len draws ≡ changed.frames * write.profile.reserve },
+    ghost buffers: { (vec_len stored ≡ write.profile.page_size) × (vec_len plain ≡ usable write.profile) },
     ghost begins: { HasMagic changed.held },
-    ghost unwritten: { writer ≡ at_first write.profile.page_size pager.count },
+    ghost long: { 16 ≤ usable write.profile },
+    ghost journal: { (writer.page_size ≡ write.profile.page_size) × (writer.initial ≡ count) },
 }
 
 /// What page 1 begins with (SQLite file format, section 1.3.1).
 const MAGIC: [u8; 16] = *b"SQLite format 3\0";
 
-fn is_same_layout(read: &Codec, write: &Codec) -> bool
+/// Whether both codecs have pages of one length, one reserve and one salt.
+pub fn is_same_layout(read: &Codec, write: &Codec) -> bool
     ensures { result ≡ same_layout read.now write.now }
 {
     let (old, new) = (*read.profile(), *write.profile());
     old.page_size == new.page_size && old.reserve == new.reserve && read.salt() == write.salt()
 }
 
+impl<'d, D: Disk, E: Entropy> Txn<'d, D, E> {
+    /// How many pages the file has.
+    pub fn pages(&self) -> u32
+        ensures { result ≡ self.now.count }
+    {
+        self.count
+    }
+
+    /// The length of a plain page, in bytes.
+    pub fn usable(&self) -> usize
+        ensures { result ≡ usable self.now.write.profile }
+    {
+        self.write.profile().usable()
+    }
+
+    /// Lends page n as it was changed so far, or out of the file.
+    pub fn page(&mut self, n: u32) -> Result<&[u8], PageError>
+        ghost start: { Start }
+        requires sizes { (self.old.write.profile.page_size ≡ start.base.size) × (self.old.count ≡ start.base.pages) }
+        requires ready { IsReadyFor self.old.recorded self.old.writer }
+        requires under_way { IsTrue D.tells → IsUnderWay start self.old.write self.old.recorded self.old.writer (D.reads self.old.disk.now)
+            (D.images self.old.disk.now) E.tells (E.drawn self.old.entropy.now) }
+        ensures told { IfOk result (λ page. IsTrue D.tells → page.now ≡ (seen_pages self.old.read self.old.write (main_of (D.reads self.old.disk.now)) self.old.count self.old.recorded self.old.changed.held).page n) }
+        ensures range { IfOk result (λ page. is_number self.old.count n ≡ true) }
+        ensures out_of_range { is_number self.old.count n ≡ false → result ≡ Err PageError.OutOfRange }
+    {
+        self.load(n)?;
+        Ok(self.loaded())
+    }
+
+    /// Brings page n in, for `loaded` to lend: as it was changed so far, or out of the file. A page that was changed is refused only where
+    /// the disk fails.
+    pub fn load(&mut self, n: u32) -> Result<(), PageError>
+        ghost start: { Start }
+        requires sizes { (self.old.write.profile.page_size ≡ start.base.size) × (self.old.count ≡ start.base.pages) }
+        requires ready { IsReadyFor self.old.recorded self.old.writer }
+        requires under_way { IsTrue D.tells → IsUnderWay start self.old.write self.old.recorded self.old.writer (D.reads self.old.disk.now)
+            (D.images self.old.disk.now) E.tells (E.drawn self.old.entropy.now) }
+        ensures told { OnOk result (IsTrue D.tells → lent_out self.new.last self.new.changed.held self.new.plain.items ≡ (seen_pages self.old.read self.old.write (main_of (D.reads self.old.disk.now)) self.old.count self.old.recorded self.old.changed.held).page n) }
+        ensures range { OnOk result (is_number self.old.count n ≡ true) }
+        ensures out_of_range { is_number self.old.count n ≡ false → result ≡ Err PageError.OutOfRange }
+        ensures refused { IfErr result (IsRefusedAs D.tells (seen_pages self.old.read self.old.write (main_of (D.reads self.old.disk.now)) self.old.count self.old.recorded self.old.changed.held)
+            n (D.faults self.old.disk.now) (D.faults self.new.disk.now) (E.faults self.old.entropy.now) (E.faults self.new.entropy.now)) }
+        // what stays
+        ensures under_way { IsTrue D.tells → IsUnderWay start self.new.write self.new.recorded self.new.writer (D.reads self.new.disk.now)
+            (D.images self.new.disk.now) E.tells (E.drawn self.new.entropy.now) }
+        ensures disk { DiskRead D.tells D.reads D.images D.moment D.since D.faults self.old.disk self.new.disk }
+        ensures entropy { Untouched self.old.entropy self.new.entropy }
+        ensures kept { (self.new.changed ≡ self.old.changed) × (self.new.recorded ≡ self.old.recorded) × (self.new.writer ≡ self.old.writer) }
+        ensures file { (self.new.read ≡ self.old.read) × (self.new.write ≡ self.old.write) × (self.new.count ≡ self.old.count) }
+    {
+        if n == 0 || n > self.count {
+            return Err(PageError::OutOfRange);
+        }
+        if self.changed.has(n) {
+            self.last = n;
+            return Ok(());
+        }
+        self.read_in(n)?;
+        self.last = n;
+        Ok(())
+    }
+
+    /// The page that was loaded last.
+    pub fn loaded(&self) -> &[u8]
+        ensures { result.now ≡ lent_out self.now.last self.now.changed.held self.now.plain.items }
+    {
+        match self.changed.get(self.last) {
+            Some(page) => page,
+            None => &self.plain,
+        }
+    }
+
+    /// Makes page n zeros. Its stored bytes are not opened.
+    pub fn page_zero(&mut self, n: u32) -> Result<(), PageError>
+        ghost start: { Start }
+        requires other { n ≢ 1 }
+        requires sizes { (self.old.write.profile.page_size ≡ start.base.size) × (self.old.count ≡ start.base.pages) }
+        requires ready { IsReadyFor self.old.recorded self.old.writer }
+        requires under_way { IsTrue D.tells → IsUnderWay start self.old.write self.old.recorded self.old.writer (D.reads self.old.disk.now)
+            (D.images self.old.disk.now) E.tells (E.drawn self.old.entropy.now) }
+        ensures zeros { OnOk result (IsTrue D.tells → (m : ℕ) → (seen_pages self.new.read self.new.write (main_of (D.reads self.new.disk.now)) self.new.count self.new.recorded self.new.changed.held).page m
+            ≡ (if m == n then replicate (usable self.old.write.profile) 0 else (seen_pages self.old.read self.old.write (main_of (D.reads self.old.disk.now)) self.old.count self.old.recorded self.old.changed.held).page m)) }
+        ensures touched { OnOk result ((m : ℕ) → is_number self.old.count m ≡ true → is_touched self.new.recorded self.new.changed.held m ≡ (if m == n then true else is_touched self.old.recorded self.old.changed.held m)) }
+        ensures out_of_range { is_number self.old.count n ≡ false → result ≡ Err PageError.OutOfRange }
+        ensures refused { IfErr result (IsRefusedAs D.tells (seen_pages self.old.read self.old.write (main_of (D.reads self.old.disk.now)) self.old.count self.old.recorded self.old.changed.held)
+            n (D.faults self.old.disk.now) (D.faults self.new.disk.now) (E.faults self.old.entropy.now) (E.faults self.new.entropy.now)) }
+        ensures unopened { IfErr result (λ e. (page : ℕ) → e ≢ PageError.TagRefused page) }
+        ensures ready { OnOk result (IsReadyFor self.new.recorded self.new.writer) }
+        ensures under_way { OnOk result (IsTrue D.tells → IsUnderWay start self.new.write self.new.recorded self.new.writer (D.reads self.new.disk.now)
+            (D.images self.new.disk.now) E.tells (E.drawn self.new.entropy.now)) }
+        ensures still { IfErr result (λ e. is_failure e ≡ false → (self.new.changed ≡ self.old.changed) × (self.new.recorded ≡ self.old.recorded)
+            × (self.new.writer ≡ self.old.writer) × DiskRead D.tells D.reads D.images D.moment D.since D.faults self.old.disk self.new.disk × Untouched self.old.entropy self.new.entropy) }
+        ensures unwritten { length self.old.changed.numbers < self.old.changed.frames → (self.new.recorded ≡ self.old.recorded) × (self.new.writer ≡ self.old.writer)
+            × DiskRead D.tells D.reads D.images D.moment D.since D.faults self.old.disk self.new.disk × Untouched self.old.entropy self.new.entropy }
+        ensures frames { self.new.changed.frames ≡ self.old.changed.frames }
+        ensures any_moment { IsTrue D.tells → LeavesOnly D.moment D.since self.old.disk.now self.new.disk.now (HoldsOld start.base) }
+        ensures fresh { IsTrue D.tells → LeavesOnly D.moment D.since self.old.disk.now self.new.disk.now (From SameFresh (D.images self.old.disk.now)) }
+        ensures names { (self.new.disk.ghost_name ≡ self.old.disk.ghost_name) × (self.new.entropy.ghost_name ≡ self.old.entropy.ghost_name) }
+        ensures later { (D.faults self.old.disk.now ≤ D.faults self.new.disk.now) × (E.faults self.old.entropy.now ≤ E.faults self.new.entropy.now) }
+        ensures file { (self.new.read ≡ self.old.read) × (self.new.write ≡ self.old.write) × (self.new.count ≡ self.old.count) }
+    {
+        if n == 0 || n > self.count {
+            return Err(PageError::OutOfRange);
+        }
+        if self.changed.has(n) {
+            self.changed.clear(n);
+            return Ok(());
+        }
+        self.make_room()?;
+        self.changed.add(n);
+        Ok(())
+    }
+
+    /// Writes bytes over those of page n, from an offset on; with no bytes, page n is written as it is. Of page 1 the first 16
+    /// bytes stay.
+    pub fn write(&mut self, n: u32, at: usize, bytes: &[u8]) -> Result<(), PageError>
+        ghost start: { Start }
+        requires within { at + length bytes.now ≤ usable self.old.write.profile }
+        requires first { n ≡ 1 → 16 ≤ at }
+        requires sizes { (self.old.write.profile.page_size ≡ start.base.size) × (self.old.count ≡ start.base.pages) }
+        requires ready { IsReadyFor self.old.recorded self.old.writer }
+        requires under_way { IsTrue D.tells → IsUnderWay start self.old.write self.old.recorded self.old.writer (D.reads self.old.disk.now)
+            (D.images self.old.disk.now) E.tells (E.drawn self.old.entropy.now) }
+        ensures changed { OnOk result (IsTrue D.tells → (m : ℕ) → (seen_pages self.new.read self.new.write (main_of (D.reads self.new.disk.now)) self.new.count self.new.recorded self.new.changed.held).page m
+            ≡ (if m == n then with_bytes at bytes.now ((seen_pages self.old.read self.old.write (main_of (D.reads self.old.disk.now)) self.old.count self.old.recorded self.old.changed.held).page n) else (seen_pages self.old.read self.old.write (main_of (D.reads self.old.disk.now)) self.old.count self.old.recorded self.old.changed.held).page m)) }
+        ensures touched { OnOk result ((m : ℕ) → is_number self.old.count m ≡ true → is_touched self.new.recorded self.new.changed.held m ≡ (if m == n then true else is_touched self.old.recorded self.old.changed.held m)) }
+        ensures out_of_range { is_number self.old.count n ≡ false → result ≡ Err PageError.OutOfRange }
+        ensures refused { IfErr result (IsRefusedAs D.tells (seen_pages self.old.read self.old.write (main_of (D.reads self.old.disk.now)) self.old.count self.old.recorded self.old.changed.held)
+            n (D.faults self.old.disk.now) (D.faults self.new.disk.now) (E.faults self.old.entropy.now) (E.faults self.new.entropy.now)) }
+        ensures ready { OnOk result (IsReadyFor self.new.recorded self.new.writer) }
+        ensures under_way { OnOk result (IsTrue D.tells → IsUnderWay start self.new.write self.new.recorded self.new.writer (D.reads self.new.disk.now)
+            (D.images self.new.disk.now) E.tells (E.drawn self.new.entropy.now)) }
+        ensures still { IfErr result (λ e. is_failure e ≡ false → (self.new.changed ≡ self.old.changed) × (self.new.recorded ≡ self.old.recorded)
+            × (self.new.writer ≡ self.old.writer) × DiskRead D.tells D.reads D.images D.moment D.since D.faults self.old.disk self.new.disk × Untouched self.old.entropy self.new.entropy) }
+        ensures unwritten { length self.old.changed.numbers < self.old.changed.frames → (self.new.recorded ≡ self.old.recorded) × (self.new.writer ≡ self.old.writer)
+            × DiskRead D.tells D.reads D.images D.moment D.since D.faults self.old.disk self.new.disk × Untouched self.old.entropy self.new.entropy }
+        ensures frames { self.new.changed.frames ≡ self.old.changed.frames }
+        ensures any_moment { IsTrue D.tells → LeavesOnly D.moment D.since self.old.disk.now self.new.disk.now (HoldsOld start.base) }
+        ensures fresh { IsTrue D.tells → LeavesOnly D.moment D.since self.old.disk.now self.new.disk.now (From SameFresh (D.images self.old.disk.now)) }
+        ensures names { (self.new.disk.ghost_name ≡ self.old.disk.ghost_name) × (self.new.entropy.ghost_name ≡ self.old.entropy.ghost_name) }
+        ensures later { (D.faults self.old.disk.now ≤ D.faults self.new.disk.now) × (E.faults self.old.entropy.now ≤ E.faults self.new.entropy.now) }
+        ensures file { (self.new.read ≡ self.old.read) × (self.new.write ≡ self.old.write) × (self.new.count ≡ self.old.count) }
+    {
+        if n == 0 || n > self.count {
+            return Err(PageError::OutOfRange);
+        }
+        if self.changed.has(n) {
+            self.changed.put(n, at, bytes);
+            return Ok(());
+        }
+        self.take_in(n)?;
+        self.changed.put(n, at, bytes);
+        Ok(())
+    }
+
+    // Reads page n, which no frame holds, out of Main, under the codec that it stands under.
+    fn read_in(&mut self, n: u32) -> Result<(), PageError>
+        ghost start: { Start }
+        requires number { (1 ≤ n) × (n ≤ self.old.count) }
+        requires free { is_held n self.old.changed.held ≡ false }
+        requires sizes { (self.old.write.profile.page_size ≡ start.base.size) × (self.old.count ≡ start.base.pages) }
+        requires ready { IsReadyFor self.old.recorded self.old.writer }
+        requires under_way { IsTrue D.tells → IsUnderWay start self.old.write self.old.recorded self.old.writer (D.reads self.old.disk.now)
+            (D.images self.old.disk.now) E.tells (E.drawn self.old.entropy.now) }
+        ensures told { OnOk result (IsTrue D.tells → self.new.plain.items ≡ (seen_pages self.old.read self.old.write (main_of (D.reads self.old.disk.now)) self.old.count self.old.recorded self.old.changed.held).page n) }
+        ensures refused { IfErr result (IsRefusedAs D.tells (seen_pages self.old.read self.old.write (main_of (D.reads self.old.disk.now)) self.old.count self.old.recorded self.old.changed.held)
+            n (D.faults self.old.disk.now) (D.faults self.new.disk.now) (E.faults self.old.entropy.now) (E.faults self.new.entropy.now)) }
+        ensures under_way { IsTrue D.tells → IsUnderWay start self.new.write self.new.recorded self.new.writer (D.reads self.new.disk.now)
+            (D.images self.new.disk.now) E.tells (E.drawn self.new.entropy.now) }
+        ensures disk { DiskRead D.tells D.reads D.images D.moment D.since D.faults self.old.disk self.new.disk }
+        ensures entropy { Untouched self.old.entropy self.new.entropy }
+        ensures kept { (self.new.changed ≡ self.old.changed) × (self.new.recorded ≡ self.old.recorded) × (self.new.writer ≡ self.old.writer) }
+        ensures file { (self.new.read ≡ self.old.read) × (self.new.write ≡ self.old.write) × (self.new.count ≡ self.old.count) }
+    {
+        if self.recorded.has(n) {
+            return read_plain(
+                &mut *self.disk,
+                &self.write,
+                n,
+                &mut self.stored,
+                &mut self.plain,
+            );
+        }
+        read_plain(
+            &mut *self.disk,
+            &self.read,
+            n,
+            &mut self.stored,
+            &mut self.plain,
+        )
+    }
+
+    // Page n, which no frame holds, is in a frame from now on, as the transaction sees it.
+    fn take_in(&mut self, n: u32) -> Result<(), PageError>
+        ghost start: { Start }
+        requires number { (1 ≤ n) × (n ≤ self.old.count) }
+        requires free { is_held n self.old.changed.held ≡ false }
+        requires sizes { (self.old.write.profile.page_size ≡ start.base.size) × (self.old.count ≡ start.base.pages) }
+        requires ready { IsReadyFor self.old.recorded self.old.writer }
+        requires under_way { IsTrue D.tells → IsUnderWay start self.old.write self.old.recorded self.old.writer (D.reads self.old.disk.now)
+            (D.images self.old.disk.now) E.tells (E.drawn self.old.entropy.now) }
+        ensures seen { OnOk result (IsTrue D.tells → (m : ℕ) → (seen_pages self.new.read self.new.write (main_of (D.reads self.new.disk.now)) self.new.count self.new.recorded self.new.changed.held).page m ≡ (seen_pages self.old.read self.old.write (main_of (D.reads self.old.disk.now)) self.old.count self.old.recorded self.old.changed.held).page m) }
+        ensures held { OnOk result (is_held n self.new.changed.held ≡ true) }
+        ensures touched { OnOk result ((m : ℕ) → is_number self.old.count m ≡ true → is_touched self.new.recorded self.new.changed.held m ≡ (if m == n then true else is_touched self.old.recorded self.old.changed.held m)) }
+        ensures refused { IfErr result (IsRefusedAs D.tells (seen_pages self.old.read self.old.write (main_of (D.reads self.old.disk.now)) self.old.count self.old.recorded self.old.changed.held)
+            n (D.faults self.old.disk.now) (D.faults self.new.disk.now) (E.faults self.old.entropy.now) (E.faults self.new.entropy.now)) }
+        ensures ready { OnOk result (IsReadyFor self.new.recorded self.new.writer) }
+        ensures under_way { OnOk result (IsTrue D.tells → IsUnderWay start self.new.write self.new.recorded self.new.writer (D.reads self.new.disk.now)
+            (D.images self.new.disk.now) E.tells (E.drawn self.new.entropy.now)) }
+        ensures still { IfErr result (λ e. is_failure e ≡ false → (self.new.changed ≡ self.old.changed) × (self.new.recorded ≡ self.old.recorded)
+            × (self.new.writer ≡ self.old.writer) × DiskRead D.tells D.reads D.images D.moment D.since D.faults self.old.disk self.new.disk × Untouched self.old.entropy self.new.entropy) }
+        ensures unwritten { length self.old.changed.numbers < self.old.changed.frames → (self.new.recorded ≡ self.old.recorded) × (self.new.writer ≡ self.old.writer)
+            × DiskRead D.tells D.reads D.images D.moment D.since D.faults self.old.disk self.new.disk × Untouched self.old.entropy self.new.entropy }
+        ensures frames { self.new.changed.frames ≡ self.old.changed.frames }
+        ensures any_moment { IsTrue D.tells → LeavesOnly D.moment D.since self.old.disk.now self.new.disk.now (HoldsOld start.base) }
+        ensures fresh { IsTrue D.tells → LeavesOnly D.moment D.since self.old.disk.now self.new.disk.now (From SameFresh (D.images self.old.disk.now)) }
+        ensures names { (self.new.disk.ghost_name ≡ self.old.disk.ghost_name) × (self.new.entropy.ghost_name ≡ self.old.entropy.ghost_name) }
+        ensures later { (D.faults self.old.disk.now ≤ D.faults self.new.disk.now) × (E.faults self.old.entropy.now ≤ E.faults self.new.entropy.now) }
+        ensures file { (self.new.read ≡ self.old.read) × (self.new.write ≡ self.old.write) × (self.new.count ≡ self.old.count) }
+    {
+        self.read_in(n)?;
+        self.make_room()?;
+        self.place(n);
+        Ok(())
+    }
+
+    // The page that was read last, n, is in a frame from now on.
+    fn place(&mut self, n: u32)
+        requires number { (1 ≤ n) × (n ≤ self.old.count) }
+        requires free { is_held n self.old.changed.held ≡ false }
+        requires room { length self.old.changed.numbers < self.old.changed.frames }
+        ensures bytes { (n ≡ 1 → take 16 self.old.plain.items ≡ magic) → (m : ℕ) → bytes_at m self.new.changed.held ≡ (if m == n then Some self.old.plain.items else bytes_at m self.old.changed.held) }
+        ensures listed { (m : ℕ) → is_held m self.new.changed.held ≡ (if m == n then true else is_held m self.old.changed.held) }
+        ensures held { is_held n self.new.changed.held ≡ true }
+        ensures sizes { (self.new.changed.frames ≡ self.old.changed.frames) × (self.new.changed.usable ≡ self.old.changed.usable) × (self.new.changed.pages ≡ self.old.changed.pages) }
+        ensures kept { (self.new.recorded ≡ self.old.recorded) × (self.new.writer ≡ self.old.writer) × (self.new.last ≡ self.old.last) }
+        ensures disk { Untouched self.old.disk self.new.disk }
+        ensures entropy { Untouched self.old.entropy self.new.entropy }
+        ensures file { (self.new.read ≡ self.old.read) × (self.new.write ≡ self.old.write) × (self.new.count ≡ self.old.count) }
+    {
+        self.changed.bring(n, &self.plain);
+        if n == 1 {
+            self.changed.put(1, 0, &MAGIC);
+        }
+    }
+
+    // A frame is free: where none is, the changed pages are written.
+    fn make_room(&mut self) -> Result<(), PageError>
+        ghost start: { Start }
+        requires some { 0 < start.base.pages }
+        requires sizes { (self.old.write.profile.page_size ≡ start.base.size) × (self.old.count ≡ start.base.pages) }
+        requires ready { IsReadyFor self.old.recorded self.old.writer }
+        requires under_way { IsTrue D.tells → IsUnderWay start self.old.write self.old.recorded self.old.writer (D.reads self.old.disk.now)
+            (D.images self.old.disk.now) E.tells (E.drawn self.old.entropy.now) }
+        ensures seen { OnOk result (IsTrue D.tells → (m : ℕ) → (seen_pages self.new.read self.new.write (main_of (D.reads self.new.disk.now)) self.new.count self.new.recorded self.new.changed.held).page m ≡ (seen_pages self.old.read self.old.write (main_of (D.reads self.old.disk.now)) self.old.count self.old.recorded self.old.changed.held).page m) }
+        ensures touched { OnOk result ((m : ℕ) → is_number self.old.count m ≡ true → is_touched self.new.recorded self.new.changed.held m ≡ is_touched self.old.recorded self.old.changed.held m) }
+        ensures room { OnOk result (length self.new.changed.numbers < self.new.changed.frames) }
+        ensures free { OnOk result ((m : ℕ) → is_held m self.old.changed.held ≡ false → is_held m self.new.changed.held ≡ false) }
+        ensures ready { OnOk result (IsReadyFor self.new.recorded self.new.writer) }
+        ensures under_way { OnOk result (IsTrue D.tells → IsUnderWay start self.new.write self.new.recorded self.new.writer (D.reads self.new.disk.now)
+            (D.images self.new.disk.now) E.tells (E.drawn self.new.entropy.now)) }
+        ensures faults { IfErr result (λ e. ((e ≡ PageError.DiskFault) × Rose (D.faults self.old.disk.now) (D.faults self.new.disk.now))
+            ⊎ ((e ≡ PageError.EntropyFault) × Rose (E.faults self.old.entropy.now) (E.faults self.new.entropy.now))) }
+        ensures any_moment { IsTrue D.tells → LeavesOnly D.moment D.since self.old.disk.now self.new.disk.now (HoldsOld start.base) }
+        ensures fresh { IsTrue D.tells → LeavesOnly D.moment D.since self.old.disk.now self.new.disk.now (From SameFresh (D.images self.old.disk.now)) }
+        ensures names { (self.new.disk.ghost_name ≡ self.old.disk.ghost_name) × (self.new.entropy.ghost_name ≡ self.old.entropy.ghost_name) }
+        ensures later { (D.faults self.old.disk.now ≤ D.faults self.new.disk.now) × (E.faults self.old.entropy.now ≤ E.faults self.new.entropy.now) }
+        ensures plain { self.new.plain.items ≡ self.old.plain.items }
+        ensures unwritten { length self.old.changed.numbers < self.old.changed.frames → (self.new.recorded ≡ self.old.recorded) × (self.new.writer ≡ self.old.writer)
+            × Untouched self.old.disk self.new.disk × Untouched self.old.entropy self.new.entropy }
+        ensures frames { self.new.changed.frames ≡ self.old.changed.frames }
+        ensures file { (self.new.read ≡ self.old.read) × (self.new.write ≡ self.old.write) × (self.new.count ≡ self.old.count) }
+    {
+        if self.changed.is_full() {
+            self.spill()?;
+        }
+        Ok(())
+    }
+
+    // Writes the changed pages, so that their frames are free.
+    fn spill(&mut self) -> Result<(), PageError>
+        ghost start: { Start }
+        requires some { 0 < start.base.pages }
+        requires sizes { (self.old.write.profile.page_size ≡ start.base.size) × (self.old.count ≡ start.base.pages) }
+        requires ready { IsReadyFor self.old.recorded self.old.writer }
+        requires under_way { IsTrue D.tells → IsUnderWay start self.old.write self.old.recorded self.old.writer (D.reads self.old.disk.now)
+            (D.images self.old.disk.now) E.tells (E.drawn self.old.entropy.now) }
+        ensures seen { OnOk result (IsTrue D.tells → (m : ℕ) → (seen_pages self.new.read self.new.write (main_of (D.reads self.new.disk.now)) self.new.count self.new.recorded self.new.changed.held).page m ≡ (seen_pages self.old.read self.old.write (main_of (D.reads self.old.disk.now)) self.old.count self.old.recorded self.old.changed.held).page m) }
+        ensures touched { OnOk result ((m : ℕ) → is_number self.old.count m ≡ true → is_touched self.new.recorded self.new.changed.held m ≡ is_touched self.old.recorded self.old.changed.held m) }
+        ensures free { OnOk result (self.new.changed ≡ unchanged self.old.changed.frames self.old.changed.usable self.old.changed.pages) }
+        ensures ready { OnOk result (IsReadyFor self.new.recorded self.new.writer) }
+        ensures under_way { OnOk result (IsTrue D.tells → IsUnderWay start self.new.write self.new.recorded self.new.writer (D.reads self.new.disk.now)
+            (D.images self.new.disk.now) E.tells (E.drawn self.new.entropy.now)) }
+        ensures faults { IfErr result (λ e. ((e ≡ PageError.DiskFault) × Rose (D.faults self.old.disk.now) (D.faults self.new.disk.now))
+            ⊎ ((e ≡ PageError.EntropyFault) × Rose (E.faults self.old.entropy.now) (E.faults self.new.entropy.now))) }
+        ensures any_moment { IsTrue D.tells → LeavesOnly D.moment D.since self.old.disk.now self.new.disk.now (HoldsOld start.base) }
+        ensures fresh { IsTrue D.tells → LeavesOnly D.moment D.since self.old.disk.now self.new.disk.now (From SameFresh (D.images self.old.disk.now)) }
+        ensures names { (self.new.disk.ghost_name ≡ self.old.disk.ghost_name) × (self.new.entropy.ghost_name ≡ self.old.entropy.ghost_name) }
+        ensures later { (D.faults self.old.disk.now ≤ D.faults self.new.disk.now) × (E.faults self.old.entropy.now ≤ E.faults self.new.entropy.now) }
+        ensures plain { (self.new.plain.items ≡ self.old.plain.items) × (self.new.last ≡ self.old.last) }
+        ensures frames { self.new.changed.frames ≡ self.old.changed.frames }
+        ensures file { (self.new.read ≡ self.old.read) × (self.new.write ≡ self.old.write) × (self.new.count ≡ self.old.count) }
+    {
+        let _listed = self.changed.len();
+        let written = write_frames(
+            &mut *self.disk,
+            &mut *self.entropy,
+            &mut self.writer,
+            &mut self.recorded,
+            &self.write,
+            &self.changed,
+            &mut self.draws,
+            &mut self.stored,
+        );
+        match written {
+            Ok(()) => {
+                self.changed.free();
+                Ok(())
+            }
+            Err(CommitFault::DiskFault) => Err(PageError::DiskFault),
+            Err(CommitFault::EntropyFault) => Err(PageError::EntropyFault),
+        }
+    }
+}
+
+impl<'d, D: Disk, E: Entropy> Txn<'d, D, E> {
+    /// Ends the transaction: the changed pages that stand in frames are sealed, each with bytes of its own that are drawn here, and written
+    /// so that a stop at any moment leaves all changes or none. Where none was changed, no call is made. The disk and the entropy come back
+    /// in any case.
+    pub fn end(self) -> (&'d mut D, &'d mut E, Result<(), CommitFault>)
+        ghost start: { Start }
+        requires sizes { (self.write.profile.page_size ≡ start.base.size) × (self.count ≡ start.base.pages) }
+        requires base_is { IsBase start.base }
+        requires ready { IsReadyFor self.recorded self.writer }
+        requires under_way { IsTrue D.tells → IsUnderWay start self.write self.recorded self.writer (D.reads self.disk.now)
+            (D.images self.disk.now) E.tells (E.drawn self.entropy.now) }
+        ensures disk { result.0.ghost_name ≡ self.entry.disk.ghost_name }
+        ensures entropy { result.1.ghost_name ≡ self.entry.entropy.ghost_name }
+        ensures changed { OnOk result.2 (IsTrue D.tells → HasNewPages start self.entry.write (is_touched self.entry.recorded self.entry.changed.held)
+            (λ n. (seen_pages self.entry.read self.entry.write (main_of (D.reads self.entry.disk.now)) self.entry.count self.entry.recorded self.entry.changed.held).page n)
+            E.tells (E.drawn result.1.now) (main_of (D.reads result.0.now))) }
+        ensures new { OnOk result.2 (IsTrue D.tells → Each (D.images result.0.now) (IsCommitted start.base (main_of (D.reads result.0.now)))) }
+        ensures one_new { OnOk result.2 (IsTrue D.tells → LeavesOnly D.moment D.since self.entry.disk.now result.0.now
+            (HoldsEither start.base (stored_pages start.base.size start.base.pages (main_of (D.reads result.0.now))))) }
+        ensures any_moment { IsTrue D.tells → LeavesChanged D.moment D.since start.base (HasNewPages start self.entry.write (is_touched self.entry.recorded self.entry.changed.held)
+            (λ n. (seen_pages self.entry.read self.entry.write (main_of (D.reads self.entry.disk.now)) self.entry.count self.entry.recorded self.entry.changed.held).page n)
+            E.tells (E.drawn result.1.now)) self.entry.disk.now result.0.now }
+        ensures only_old { result.2 ≡ Err CommitFault.EntropyFault → IsTrue D.tells → LeavesOnly D.moment D.since self.entry.disk.now result.0.now (HoldsOld start.base) }
+        ensures fresh { IsTrue D.tells → LeavesOnly D.moment D.since self.entry.disk.now result.0.now (From SameFresh (D.images self.entry.disk.now)) }
+        ensures none { self.entry.changed.numbers ≡ [] → marked_count self.entry.recorded ≡ 0 → IsOk result.2 × (result.0.now ≡ self.entry.disk.now)
+            × (result.1.now ≡ self.entry.entropy.now) }
+        ensures disk_fault { result.2 ≡ Err CommitFault.DiskFault → Rose (D.faults self.entry.disk.now) (D.faults result.0.now) }
+        ensures entropy_fault { result.2 ≡ Err CommitFault.EntropyFault → Rose (E.faults self.entry.entropy.now) (E.faults result.1.now) }
+        ensures disk_later { D.faults self.entry.disk.now ≤ D.faults result.0.now }
+        ensures entropy_later { E.faults self.entry.entropy.now ≤ E.faults result.1.now }
+    {
+        let Txn {
+            disk,
+            entropy,
+            read: _,
+            write,
+            count: _,
+            changed,
+            mut recorded,
+            mut writer,
+            mut draws,
+            mut stored,
+            plain: _,
+            last: _,
+        } = self;
+        let _listed = changed.len();
+        let done = end_frames(
+            &mut *disk,
+            &mut *entropy,
+            &mut writer,
+            &mut recorded,
+            &write,
+            &changed,
+            &mut draws,
+            &mut stored,
+        );
+        (disk, entropy, done)
+    }
+
+    /// The disk and the entropy, as a call that failed left them. No call is made: what was written stays, and a recovery lays the old
+    /// pages back.
+    pub fn into_parts(self) -> (&'d mut D, &'d mut E)
+        ensures disk { (result.0.ghost_name ≡ self.entry.disk.ghost_name) × (result.0.now ≡ self.entry.disk.now) }
+        ensures entropy { (result.1.ghost_name ≡ self.entry.entropy.ghost_name) × (result.1.now ≡ self.entry.entropy.now) }
+    {
+        let Txn {
+            disk,
+            entropy,
+            read: _,
+            write: _,
+            count: _,
+            changed: _,
+            recorded: _,
+            writer: _,
+            draws: _,
+            stored: _,
+            plain: _,
+            last: _,
+        } = self;
+        (disk, entropy)
+    }
+
+    /// Takes all changes back: Main has its old pages again, and the journal is removed. Where none was written, no call is made. The disk
+    /// and the entropy come back in any case.
+    pub fn abandon(self) -> (&'d mut D, &'d mut E, Result<(), Failed>)
+        ghost start: { Start }
+        requires sizes { (self.write.profile.page_size ≡ start.base.size) × (self.count ≡ start.base.pages) }
+        requires base_is { IsBase start.base }
+        requires ready { IsReadyFor self.recorded self.writer }
+        requires under_way { IsTrue D.tells → IsUnderWay start self.write self.recorded self.writer (D.reads self.disk.now)
+            (D.images self.disk.now) E.tells (E.drawn self.entropy.now) }
+        ensures disk { result.0.ghost_name ≡ self.entry.disk.ghost_name }
+        ensures entropy { (result.1.ghost_name ≡ self.entry.entropy.ghost_name) × (result.1.now ≡ self.entry.entropy.now) }
+        ensures old { OnOk result.2 (IsTrue D.tells → Each (D.images result.0.now) (λ c. HoldsOld start.base c × (c.journal ≡ None))) }
+        ensures any_moment { IsTrue D.tells → LeavesOnly D.moment D.since self.entry.disk.now result.0.now (HoldsOld start.base) }
+        ensures fresh { IsTrue D.tells → LeavesOnly D.moment D.since self.entry.disk.now result.0.now (From SameFresh (D.images self.entry.disk.now)) }
+        ensures none { marked_count self.entry.recorded ≡ 0 → IsOk result.2 × (result.0.now ≡ self.entry.disk.now) }
+        ensures cause { HasCause (D.faults self.entry.disk.now) (D.faults result.0.now) result.2 }
+    {
+        let Txn {
+            disk,
+            entropy,
+            read: _,
+            write: _,
+            count: _,
+            changed: _,
+            recorded,
+            mut writer,
+            draws: _,
+            stored: _,
+            plain: _,
+            last: _,
+        } = self;
+        let done = undo_batches(&mut *disk, &mut writer, &recorded);
+        (disk, entropy, done)
+    }
+}
+
 impl<'d, D: Disk, E: Entropy> Pager<'d, D, E> {
-    /// Begins a transaction that may change so many pages, which are sealed under this codec. All memory of the transaction is taken
-    /// here, and neither the disk nor the entropy is called.
+    /// Begins a transaction that may change all pages. Its changed pages are sealed under this codec, and stand in so many frames, out of which they are written
+    /// where more are changed. All memory of the transaction is taken here, and neither the disk nor the entropy is called. The frames for
+    /// reading are let go.
     pub fn begin(
         self,
         alloc: Global,
         write: Codec,
         frames: u32,
     ) -> Result<Txn<'d, D, E>, (Pager<'d, D, E>, BeginError)>
+        ghost start: { Start }
         requires frames { (1 ≤ frames) × (frames ≤ 64) }
-        ensures disk { IfOk result (λ t. (t.pager.disk.ghost_name ≡ self.entry.disk.ghost_name) × (t.pager.disk.now ≡ self.entry.disk.now)) }
-        ensures entropy { IfOk result (λ t. (t.pager.entropy.ghost_name ≡ self.entry.entropy.ghost_name) × (t.pager.entropy.now ≡ self.entry.entropy.now)) }
-        ensures file { IfOk result (λ t. (t.pager.codec ≡ self.entry.codec) × (t.pager.header ≡ self.entry.header) × (t.pager.count ≡ self.entry.count) × (t.pager.cache ≡ self.entry.cache)) }
-        ensures begun { IfOk result (λ t. (t.write ≡ write) × (t.changed.numbers ≡ []) × (t.changed.held ≡ [])) }
+        requires sizes { (self.codec.profile.page_size ≡ start.base.size) × (self.count ≡ start.base.pages) }
+        requires drawn { start.drawn ≡ E.drawn self.entropy.now }
+        requires begun { IsTrue D.tells → IsBegun start.base (D.images self.disk.now) }
+        ensures disk { IfOk result (λ t. (t.disk.ghost_name ≡ self.entry.disk.ghost_name) × (t.disk.now ≡ self.entry.disk.now)) }
+        ensures entropy { IfOk result (λ t. (t.entropy.ghost_name ≡ self.entry.entropy.ghost_name) × (t.entropy.now ≡ self.entry.entropy.now)) }
+        ensures file { IfOk result (λ t. (t.read ≡ self.entry.codec) × (t.write ≡ write) × (t.count ≡ self.entry.count)) }
+        ensures unchanged { IfOk result (λ t. (t.changed.held ≡ []) × (marked_count t.recorded ≡ 0)) }
+        ensures untouched { IfOk result (λ t. (n : ℕ) → is_touched t.recorded t.changed.held n ≡ false) }
+        ensures room { IfOk result (λ t. t.changed.frames ≤ frames) }
+        ensures ready { IfOk result (λ t. IsReadyFor t.recorded t.writer) }
+        ensures under_way { IfOk result (λ t. IsTrue D.tells → IsUnderWay start write t.recorded t.writer (D.reads t.disk.now) (D.images t.disk.now)
+            E.tells (E.drawn t.entropy.now)) }
         ensures back { IfErr result (λ e. (e.0.disk.ghost_name ≡ self.entry.disk.ghost_name) × (e.0.disk.now ≡ self.entry.disk.now)
             × (e.0.entropy.ghost_name ≡ self.entry.entropy.ghost_name) × (e.0.entropy.now ≡ self.entry.entropy.now) × (e.0.codec ≡ self.entry.codec)
             × (e.0.header ≡ self.entry.header) × (e.0.count ≡ self.entry.count) × (e.0.cache ≡ self.entry.cache)) }
@@ -93,203 +563,41 @@ impl<'d, D: Disk, E: Entropy> Pager<'d, D, E> {
         let Ok(changed) = ChangedPages::new(alloc, frames, profile.usable(), self.count) else {
             return Err((self, BeginError::OutOfMemory));
         };
+        let Ok(recorded) = PageMarks::new(alloc, self.count) else {
+            return Err((self, BeginError::OutOfMemory));
+        };
         let Ok(writer) = JournalWriter::new(alloc, profile.page_size, self.count) else {
             return Err((self, BeginError::OutOfMemory));
         };
         let Ok(draws) = vec![in alloc; 0u8; frames as usize * profile.reserve as usize] else {
             return Err((self, BeginError::OutOfMemory));
         };
+        let Ok(plain) = vec![in alloc; 0u8; profile.usable()] else {
+            return Err((self, BeginError::OutOfMemory));
+        };
+        let Pager {
+            disk,
+            entropy,
+            codec,
+            header: _,
+            count,
+            cache: _,
+            stored,
+            last: _,
+        } = self;
         Ok(Txn {
-            pager: self,
+            disk,
+            entropy,
+            read: codec,
             write,
+            count,
             changed,
+            recorded,
             writer,
             draws,
+            stored,
+            plain,
             last: 0,
         })
-    }
-}
-
-impl<'d, D: Disk, E: Entropy> Txn<'d, D, E> {
-    /// Lends page n as it was changed so far, or out of the file.
-    pub fn page(&mut self, n: u32) -> Result<&[u8], PageError>
-        ensures told { IfOk result (λ page. IsTrue D.tells
-            → page.now ≡ (seen_pages (opened_pages self.old.pager.codec (main_of (D.reads self.old.pager.disk.now)) self.old.pager.count) self.old.changed.held).page n) }
-        ensures touched { is_held n self.old.changed.held ≡ true → IsOk result }
-        ensures refused { IfErr result (MayRefuse D.tells (opened_pages self.old.pager.codec (main_of (D.reads self.old.pager.disk.now)) self.old.pager.count) n) }
-    {
-        self.load(n)?;
-        Ok(self.loaded())
-    }
-
-    /// Brings page n in, for `loaded` to lend: as it was changed so far, or out of the file. A page that was changed is never refused.
-    pub fn load(&mut self, n: u32) -> Result<(), PageError>
-        ensures told { OnOk result (IsTrue D.tells → lent_page self.new.last self.new.changed.held self.new.pager.last self.new.pager.cache.held
-            ≡ (seen_pages (opened_pages self.old.pager.codec (main_of (D.reads self.old.pager.disk.now)) self.old.pager.count) self.old.changed.held).page n) }
-        ensures touched { is_held n self.old.changed.held ≡ true → IsOk result }
-        ensures in_range { OnOk result ((is_held n self.old.changed.held ≡ true) ⊎ (is_number self.old.pager.count n ≡ true)) }
-        ensures cause { IfErr result (IsRefused D.tells (opened_pages self.old.pager.codec (main_of (D.reads self.old.pager.disk.now)) self.old.pager.count)
-            n self.old.pager.cache (D.faults self.old.pager.disk.now) (D.faults self.new.pager.disk.now)) }
-        // what stays
-        ensures disk { DiskRead D.tells D.reads D.images D.moment D.since D.faults self.old.pager.disk self.new.pager.disk }
-        ensures entropy { Untouched self.old.pager.entropy self.new.pager.entropy }
-        ensures file { (self.new.pager.codec ≡ self.old.pager.codec) × (self.new.pager.count ≡ self.old.pager.count) }
-        ensures kept { (self.new.changed ≡ self.old.changed) × (self.new.write ≡ self.old.write) }
-    {
-        if !self.changed.has(n) {
-            self.pager.bring_in(n)?;
-        }
-        self.last = n;
-        Ok(())
-    }
-
-    /// The page that was loaded last.
-    pub fn loaded(&self) -> &[u8]
-        ensures { result.now ≡ lent_page self.now.last self.now.changed.held self.now.pager.last self.now.pager.cache.held }
-    {
-        match self.changed.get(self.last) {
-            Some(page) => page,
-            None => self.pager.lent(),
-        }
-    }
-
-    /// Makes page n zeros. Its stored bytes are not opened. AllPinned comes exactly where every frame holds another changed page.
-    pub fn page_zero(&mut self, n: u32) -> Result<(), PageError>
-        requires { n ≢ 1 }
-        ensures zeros { OnOk result ((m : ℕ) → bytes_at m self.new.changed.held
-            ≡ (if m == n then Some (replicate (usable self.old.write.profile) 0) else bytes_at m self.old.changed.held)) }
-        ensures numbers { OnOk result (self.new.changed.numbers ≡ numbers_with n self.old.changed) }
-        ensures refused { IfErr result (IsUnchangeable self.old.changed n) }
-        ensures kept { OnErr result (self.new.changed ≡ self.old.changed) }
-        ensures pager { self.new.pager ≡ self.old.pager }
-        ensures write { self.new.write ≡ self.old.write }
-    {
-        if n == 0 || n > self.pager.count {
-            return Err(PageError::OutOfRange);
-        }
-        if self.changed.has(n) {
-            self.changed.clear(n);
-            return Ok(());
-        }
-        if self.changed.is_full() {
-            return Err(PageError::AllPinned);
-        }
-        self.changed.add(n);
-        Ok(())
-    }
-
-    /// Writes bytes over those of page n, from an offset on; with no bytes, page n is written as it is. Of page 1 the first 16
-    /// bytes stay. AllPinned comes where every frame holds another changed page, or no frame for reading can be had.
-    pub fn write(&mut self, n: u32, at: usize, bytes: &[u8]) -> Result<(), PageError>
-        requires within { at + length bytes.now ≤ usable self.old.write.profile }
-        requires first { n ≡ 1 → 16 ≤ at }
-        ensures changed { OnOk result (IsTrue D.tells → (m : ℕ) → bytes_at m self.new.changed.held
-            ≡ (if m == n then Some (with_bytes at bytes.now ((seen_pages (opened_pages self.old.pager.codec (main_of (D.reads self.old.pager.disk.now)) self.old.pager.count) self.old.changed.held).page n))
-            else bytes_at m self.old.changed.held)) }
-        ensures numbers { OnOk result (self.new.changed.numbers ≡ numbers_with n self.old.changed) }
-        ensures listed { OnOk result ((m : ℕ) → is_held m self.new.changed.held ≡ (if m == n then true else is_held m self.old.changed.held)) }
-        ensures refused { IfErr result (λ e. IsUnchangeable self.old.changed n e ⊎ IsRefused D.tells (opened_pages self.old.pager.codec (main_of (D.reads self.old.pager.disk.now)) self.old.pager.count)
-            n self.old.pager.cache (D.faults self.old.pager.disk.now) (D.faults self.new.pager.disk.now) e) }
-        // what stays
-        ensures kept { OnErr result (self.new.changed ≡ self.old.changed) }
-        ensures disk { DiskRead D.tells D.reads D.images D.moment D.since D.faults self.old.pager.disk self.new.pager.disk }
-        ensures entropy { Untouched self.old.pager.entropy self.new.pager.entropy }
-        ensures file { (self.new.pager.codec ≡ self.old.pager.codec) × (self.new.pager.count ≡ self.old.pager.count) × (self.new.write ≡ self.old.write) }
-    {
-        if !self.changed.has(n) {
-            self.take_in(n)?;
-        }
-        self.changed.put(n, at, bytes);
-        Ok(())
-    }
-
-    // Page n, which was not changed so far, is one of the changed pages from now on, as it is in the file.
-    fn take_in(&mut self, n: u32) -> Result<(), PageError>
-        requires { is_held n self.old.changed.held ≡ false }
-        ensures told { OnOk result (IsTrue D.tells → (m : ℕ) → bytes_at m self.new.changed.held
-            ≡ (if m == n then Some ((opened_pages self.old.pager.codec (main_of (D.reads self.old.pager.disk.now)) self.old.pager.count).page n) else bytes_at m self.old.changed.held)) }
-        ensures numbers { OnOk result (self.new.changed.numbers ≡ self.old.changed.numbers ++ n ∷ []) }
-        ensures listed { OnOk result ((m : ℕ) → is_held m self.new.changed.held ≡ (if m == n then true else is_held m self.old.changed.held)) }
-        ensures refused { IfErr result (λ e. IsUnchangeable self.old.changed n e ⊎ IsRefused D.tells (opened_pages self.old.pager.codec (main_of (D.reads self.old.pager.disk.now)) self.old.pager.count)
-            n self.old.pager.cache (D.faults self.old.pager.disk.now) (D.faults self.new.pager.disk.now) e) }
-        ensures kept { OnErr result (self.new.changed ≡ self.old.changed) }
-        ensures disk { DiskRead D.tells D.reads D.images D.moment D.since D.faults self.old.pager.disk self.new.pager.disk }
-        ensures entropy { Untouched self.old.pager.entropy self.new.pager.entropy }
-        ensures file { (self.new.pager.codec ≡ self.old.pager.codec) × (self.new.pager.count ≡ self.old.pager.count) × (self.new.write ≡ self.old.write) }
-    {
-        if n == 0 || n > self.pager.count {
-            return Err(PageError::OutOfRange);
-        }
-        if self.changed.is_full() {
-            return Err(PageError::AllPinned);
-        }
-        self.pager.bring_in(n)?;
-        self.changed.bring(n, self.pager.lent());
-        if n == 1 {
-            self.changed.put(1, 0, &MAGIC);
-        }
-        Ok(())
-    }
-
-    /// Ends the transaction: the changed pages are sealed, each with bytes of its own that are drawn here, and written so that a stop at
-    /// any moment leaves all of them or none. Where none was changed, no call is made. The disk and the entropy come back in any case.
-    pub fn end(self) -> (&'d mut D, &'d mut E, Result<(), CommitFault>)
-        ghost base: { Base }
-        requires sizes { (self.write.profile.page_size ≡ base.size) × (self.pager.count ≡ base.pages) }
-        requires base_is { IsBase base }
-        requires begun { IsTrue D.tells → IsBegun base (D.images self.pager.disk.now) }
-        ensures disk { result.0.ghost_name ≡ self.entry.pager.disk.ghost_name }
-        ensures entropy { result.1.ghost_name ≡ self.entry.pager.entropy.ghost_name }
-        ensures changed { OnOk result.2 (IsTrue D.tells → HasNewPages base self.entry.write self.entry.changed
-            (IsDrawn E.tells (E.drawn self.entry.pager.entropy.now) (E.drawn result.1.now)) (read_main (D.reads result.0.now))) }
-        ensures new { OnOk result.2 (IsTrue D.tells → Each (D.images result.0.now) (IsCommitted base (read_main (D.reads result.0.now)))) }
-        ensures one_new { OnOk result.2 (IsTrue D.tells → LeavesOnly D.moment D.since self.entry.pager.disk.now result.0.now (HoldsEither base (stored_pages base.size base.pages (read_main (D.reads result.0.now))))) }
-        ensures any_moment { IsTrue D.tells → LeavesChanged D.moment D.since base (HasNewPages base self.entry.write self.entry.changed
-            (IsDrawn E.tells (E.drawn self.entry.pager.entropy.now) (E.drawn result.1.now))) self.entry.pager.disk.now result.0.now }
-        ensures only_old { result.2 ≡ Err CommitFault.EntropyFault → IsTrue D.tells → LeavesOnly D.moment D.since self.entry.pager.disk.now result.0.now (HoldsOld base) }
-        ensures fresh { IsTrue D.tells → LeavesOnly D.moment D.since self.entry.pager.disk.now result.0.now (From SameFresh (D.images self.entry.pager.disk.now)) }
-        ensures untouched { self.entry.changed.numbers ≡ [] → IsOk result.2 × (result.0.now ≡ self.entry.pager.disk.now) × (result.1.now ≡ self.entry.pager.entropy.now) }
-        ensures disk_fault { result.2 ≡ Err CommitFault.DiskFault → Rose (D.faults self.entry.pager.disk.now) (D.faults result.0.now) }
-        ensures entropy_fault { result.2 ≡ Err CommitFault.EntropyFault → Rose (E.faults self.entry.pager.entropy.now) (E.faults result.1.now) }
-        ensures disk_later { D.faults self.entry.pager.disk.now ≤ D.faults result.0.now }
-        ensures entropy_later { E.faults self.entry.pager.entropy.now ≤ E.faults result.1.now }
-    {
-        let Txn {
-            pager,
-            write,
-            changed,
-            mut writer,
-            draws,
-            last: _,
-        } = self;
-        let _listed = changed.len();
-        let (disk, entropy, mut stored) = pager.take_apart();
-        let done = write_changed(
-            &mut *disk,
-            &mut *entropy,
-            &mut writer,
-            write,
-            changed,
-            draws,
-            &mut stored,
-        );
-        (disk, entropy, done)
-    }
-
-    /// Takes all changes back. Nothing of them was written, and no call is made.
-    pub fn abandon(self) -> Pager<'d, D, E>
-        ensures disk { (result.disk.ghost_name ≡ self.entry.pager.disk.ghost_name) × (result.disk.now ≡ self.entry.pager.disk.now) }
-        ensures entropy { (result.entropy.ghost_name ≡ self.entry.pager.entropy.ghost_name) × (result.entropy.now ≡ self.entry.pager.entropy.now) }
-        ensures file { (result.codec ≡ self.entry.pager.codec) × (result.header ≡ self.entry.pager.header) × (result.count ≡ self.entry.pager.count) × (result.cache ≡ self.entry.pager.cache) }
-    {
-        let Txn {
-            pager,
-            write: _,
-            changed: _,
-            writer: _,
-            draws: _,
-            last: _,
-        } = self;
-        pager
     }
 }

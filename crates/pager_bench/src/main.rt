@@ -1,24 +1,29 @@
 //! Reads pages through a pager, to be timed.
 //!
 //! `pager_bench FILE P scan TIMES`: every page of FILE, which is of profile P, so many times in order, each read from the file and
-//! opened. `pager_bench FILE P held TIMES`: so many pages that are held, in order. The key is the raw key of the bytes 0 to 31. It
-//! prints how many pages were lent. Without words it prints 0.
+//! opened. `pager_bench FILE P held TIMES`: so many pages that are held, in order. `pager_bench FILE P change COUNT`: so many of the
+//! first pages are changed in one transaction, with the journal in the folder where the program runs. The key is the raw key of the
+//! bytes 0 to 31. It prints how many pages were lent, or changed. Without words it prints 0.
 #![tactic(auto)]
 
+mod changed_file;
+mod changing;
 mod read_file;
 
+use crate::changed_file::ChangedFile;
+use crate::changing::change;
 use crate::read_file::ReadFile;
 use cipher_profile::{Secret, profile_of};
-use edge_model::{Entropy, MemEntropy};
+use edge_model::{Disk, Entropy, MemEntropy, SilentEntropy};
 use page_codec::Codec;
 use pager::{PageSource, Pager, codec_of, served_length};
-use std::fs::File;
+use std::fs::{File, OpenOptions};
 use std::{env, io};
 
 const FRAMES: u32 = 64;
 
 // The codec of the file under the key of the bytes 0 to 31.
-fn codec_for(file: &mut ReadFile, word: &str) -> Option<Codec> {
+fn codec_for<D: Disk>(file: &mut D, word: &str) -> Option<Codec> {
     let profile = profile_of(word)?;
     let mut key = [0u8; 32];
     for i in 0..32 {
@@ -52,6 +57,11 @@ fn read_pages(rt: &HostRuntime, words: &Vec<String>) -> io::Result<u64> {
         return Ok(0);
     };
     let times = times.as_str().parse::<u64>().unwrap_or(1);
+    if what.as_str() == "change" {
+        let journal = format!(in rt.alloc(); "{path}-journal")?;
+        let count = times.min(1_000_000) as u32;
+        return change_file(rt, path.as_str(), profile.as_str(), journal.as_str(), count);
+    }
     let mut file = ReadFile::new(File::open(rt, path.as_str())?);
     let Some(codec) = codec_for(&mut file, profile.as_str()) else {
         return Err(io::ErrorKind::InvalidData.into());
@@ -69,6 +79,33 @@ fn read_pages(rt: &HostRuntime, words: &Vec<String>) -> io::Result<u64> {
         pages
     };
     Ok(lend(&mut pager, count, times))
+}
+
+// The most bytes that a page is sealed with.
+const RESERVE: usize = 80;
+
+fn change_file(
+    rt: &HostRuntime,
+    path: &str,
+    profile: &str,
+    journal: &str,
+    count: u32,
+) -> io::Result<u64> {
+    let opened = OpenOptions::new().read(true).write(true).open(rt, path)?;
+    let mut file = ChangedFile::new(rt, opened, journal);
+    let (Some(read), Some(write)) = (codec_for(&mut file, profile), codec_for(&mut file, profile))
+    else {
+        return Err(io::ErrorKind::InvalidData.into());
+    };
+    let drawn = vec![in rt.alloc(); 7u8; count as usize * RESERVE]?;
+    let Ok(inner) = MemEntropy::new(rt.alloc(), &drawn, &[]) else {
+        return Err(io::ErrorKind::OutOfMemory.into());
+    };
+    let mut entropy = SilentEntropy { inner };
+    let Ok(pager) = Pager::open(rt.alloc(), &mut file, &mut entropy, read, FRAMES) else {
+        return Err(io::ErrorKind::InvalidData.into());
+    };
+    Ok(u64::from(change(rt.alloc(), pager, write, count)))
 }
 
 fn main(rt: HostRuntime) -> io::Result<()> {

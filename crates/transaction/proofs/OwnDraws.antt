@@ -6,7 +6,7 @@ use Rattle.rollback_journal.proofs.Played.{either, eq_is}
 use Rattle.transaction.specs.Draws.{draw_at, OwnDraws}
 
 -- what was drawn before is not moved by what is drawn next
-draw_stays : (reserve at : ℕ) (drawn more : List ℕ) → at + reserve ≤ length drawn → draw_at reserve at (drawn ++ more) ≡ draw_at reserve at drawn
+pub draw_stays : (reserve at : ℕ) (drawn more : List ℕ) → at + reserve ≤ length drawn → draw_at reserve at (drawn ++ more) ≡ draw_at reserve at drawn
 draw_stays reserve at drawn more within =
     ap (λ (l : List ℕ). take reserve l) (drop-append-le at drawn more (omega (arith, within)))
     ∙ take-append-le reserve (drop at drawn) more (omega (arith, within, length-drop at drawn))

@@ -7,7 +7,7 @@ ghost use Rattle.edge_model.specs.Images.{Each, From, LeavesOnly};
 ghost use Rattle.rollback_journal.specs.Playing.{journal_of, main_of};
 ghost use Rattle.transaction.specs.Batches.{AreMarked, HasBatches, HasMarked, IsReady, IsWritten};
 ghost use Rattle.transaction.specs.Commit.{AreChanges, IsCommitted, LeavesChanged, SameSeals};
-ghost use Rattle.transaction.specs.Database.{Base, HoldsOld};
+ghost use Rattle.transaction.specs.Database.{Base, HoldsEither, HoldsOld, stored_pages};
 ghost use Rattle.transaction.specs.Facts.{HasFacts, HasRecord, IsBase, SameFresh};
 ghost use Rattle.transaction.specs.Journals.{AsLeft, records_in};
 ghost use Rattle.transaction.specs.Marks.{marked_count};
@@ -177,6 +177,8 @@ pub fn end_batches<D: Disk, W: RecordWriter, C: Changes>(
     ensures changed { OnOk result (IsTrue D.tells → IsWritten base (main_of (D.reads disk.old)) (C.numbers changes.old)
         (C.seals changes.old) (length (C.numbers changes.old)) (main_of (D.reads disk.new))) }
     ensures new { OnOk result (IsTrue D.tells → Each (D.images disk.new) (IsCommitted base (main_of (D.reads disk.new)))) }
+    ensures one_new { OnOk result (IsTrue D.tells →
+        LeavesOnly D.moment D.since disk.old disk.new (HoldsEither base (stored_pages base.size base.pages (main_of (D.reads disk.new))))) }
     ensures any_moment { IsTrue D.tells → LeavesChanged D.moment D.since base (IsWritten base (main_of (D.reads disk.old))
         (C.numbers changes.old) (C.seals changes.old) (length (C.numbers changes.old))) disk.old disk.new }
     ensures only_old { result ≡ Err CommitFault.EntropyFault → IsTrue D.tells →

@@ -18,8 +18,8 @@
 //! 5. Main is synced before the journal is closed (`close: settled`, which is its condition).
 //! 6. At every moment before the journal is closed each image holds the old database alone (`any_moment` of each step); while
 //!    it is closed, the old one or the new one; after Ok the new one alone, and no journal (`finish: any_moment, new`).
-//! 7. A commit leaves the changed pages sealed, and every other page as it was (`commit: changed`). Where the entropy fails,
-//!    each image holds the old database alone (`commit: only_old`).
+//! 7. A commit leaves the changed pages sealed, and every other page as it was (`end_batches: changed`). Where the entropy fails,
+//!    each image holds the old database alone (`end_batches: only_old`).
 //! 8. What was written is taken back from the journal: each image then holds the old database, and no journal
 //!    (`abandon: old, any_moment`; `undo_batches: old`).
 //! 9. Fresh is left alone (`fresh` of each step).
@@ -44,7 +44,7 @@ mod writer;
 
 pub use batches::{end_batches, undo_batches, write_batch};
 pub use changes::{Changes, DrawFailed};
-pub use committing::{CommitFault, commit, keep_all, prepare, write_all, write_one, write_rest};
+pub use committing::CommitFault;
 pub use guarding::guard_batch;
 pub use marks::PageMarks;
 pub use recording::keep_marked;

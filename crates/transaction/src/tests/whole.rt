@@ -1,39 +1,15 @@
 // Whole transactions over any disk: the contracts of the steps join.
-ghost use Rattle.std.specs.Prelude.{◌≡◌, ◌⊎◌, ◌+◌, ◌*◌, ◌<◌, ◌≤◌, ℕ, List, length, replicate, false, IsTrue, OnOk, Err, None};
-ghost use Rattle.edge_model.specs.Images.{Each, From, LeavesOnly};
+ghost use Rattle.std.specs.Prelude.{◌≡◌, ◌<◌, ◌≤◌, length, replicate, false, IsTrue, OnOk, Err, None};
+ghost use Rattle.edge_model.specs.Images.{Each, LeavesOnly};
 ghost use Rattle.rollback_journal.specs.Playing.{main_of};
 ghost use Rattle.rollback_journal.specs.Writing.{at_first};
 ghost use Rattle.transaction.specs.Database.{Base, HoldsOld};
 ghost use Rattle.transaction.specs.Facts.{IsBase, IsBegun};
-ghost use Rattle.transaction.specs.Commit.{AreChanges, IsChanged, LeavesChanged, IsCommitted};
+ghost use Rattle.transaction.specs.Commit.{AreChanges, IsCommitted};
 
-use crate::{Changes, CommitFault, PageMarks, commit, end_batches, undo_batches, write_batch};
+use crate::{Changes, CommitFault, PageMarks, end_batches, undo_batches, write_batch};
 use edge_model::Disk;
 use rollback_journal::JournalWriter;
-
-/// The changed pages into Main.
-pub fn change<D: Disk, C: Changes>(
-    disk: &mut D,
-    writer: &mut JournalWriter,
-    changes: &mut C,
-    buffer: &mut [u8],
-) -> Result<(), CommitFault>
-    ghost base: { Base }
-    requires new { writer.old ≡ at_first base.size base.pages }
-    requires base_is { IsBase base }
-    requires changes { AreChanges base.pages (C.numbers changes.old) × (0 < length (C.numbers changes.old)) }
-    requires buffer { (length buffer.old ≡ base.size) × (base.size ≤ 65536) × (C.size changes.old ≡ base.size) }
-    requires begun { IsTrue D.tells → IsBegun base (D.images disk.old) }
-    ensures changed { OnOk result (IsTrue D.tells →
-        IsChanged base (C.numbers changes.old) (C.seals changes.old) (length (C.numbers changes.old))
-        (main_of (D.reads disk.new))) }
-    ensures new { OnOk result (IsTrue D.tells → Each (D.images disk.new) (IsCommitted base (main_of (D.reads disk.new)))) }
-    ensures any_moment { IsTrue D.tells → LeavesChanged D.moment D.since base
-        (IsChanged base (C.numbers changes.old) (C.seals changes.old) (length (C.numbers changes.old))) disk.old disk.new }
-{
-    commit(disk, writer, changes, buffer)?;
-    Ok(())
-}
 
 /// Two batches before the commit, and the last with it.
 pub fn change_in_batches<D: Disk, C: Changes>(

@@ -1,36 +1,20 @@
-use Rattle.std.proofs.Common.{◌∙◌, ◌*◌, ◌≤◌, ℕ, length, sym, ap, subst}
-use Rattle.std.proofs.Math.Nat.{mul-le-mul_right}
-use Rattle.rollback_journal.specs.Writing.{at_first}
+use Rattle.std.proofs.Common.{ℕ, sym, subst}
+use Rattle.pager.specs.UnderWay.{HasNewPages, is_touched, seen_pages}
+use Rattle.rollback_journal.specs.Playing.{main_of}
+use Rattle.transaction.specs.Commit.{LeavesChanged}
+use Rattle.pager.proofs.UnderWayLemmas.{ok_map}
 use Rattle.pager.proofs.txn.Txn.end.Goals as goal
 
--- the conditions, by their places: sizes, base_is, begun
-pub write_changed-done-requires : goal.write_changed-done-requires
-write_changed-done-requires g c κs within =
-    let r = c.requires.1.1 in
-    let self = c.args.self in (
-      within.0,
-      (
-        within.1,
-        (
-          self.unwritten ∙ ap (λ (k : ℕ). at_first k self.pager.count) r.0.0 ∙ ap (λ (k : ℕ). at_first g.base.size k) r.0.1,
-          (
-            (r.0.0, self.fits.1 ∙ r.0.1, c.deref_mut.ensures.len ∙ c.take_apart-disk.ensures.buffer ∙ sym self.layout.0 ∙ r.0.0),
-            (
-              (self.fits.0, self.begins),
-              (
-                subst (λ (k : ℕ). length self.changed.numbers * self.write.profile.reserve ≤ k) (sym self.room)
-                    (mul-le-mul_right self.write.profile.reserve c.len-listed.ensures.listing.within),
-                (
-                  r.1.0,
-                  λ told. rw c.take_apart-disk.ensures.disk.1 (r.1.1 told),
-                ),
-              ),
-            ),
-          ),
-        ),
-      ),
-    )
+-- the conditions, by their places: sizes, base_is, ready, under_way
+pub returns-clause-changed : goal.returns-clause-changed
+returns-clause-changed g c =
+    let s = c.args.self in
+    ok_map c.end_frames-done.result c.end_frames-done.ensures.changed (λ has told.
+    subst (λ (p : ℕ). HasNewPages g.start s.write (is_touched s.recorded s.changed.held) (λ n. (seen_pages s.read s.write (main_of (g.D.Disk.reads s.disk.now)) p s.recorded s.changed.held).page n)
+    g.E.Entropy.tells (g.E.Entropy.drawn c.end_frames-done.new.entropy) (main_of (g.D.Disk.reads c.end_frames-done.new.disk))) (sym c.requires.1.1.0.1) (has told s.read s.layout.0))
 
 pub returns-clause-any_moment : goal.returns-clause-any_moment
 returns-clause-any_moment g c = λ told.
-    rw (← c.take_apart-disk.ensures.disk.1, ← c.take_apart-disk.ensures.entropy.1) (c.write_changed-done.ensures.any_moment told)
+    let s = c.args.self in
+    subst (λ (p : ℕ). LeavesChanged g.D.Disk.moment g.D.Disk.since g.start.base (HasNewPages g.start s.write (is_touched s.recorded s.changed.held) (λ n. (seen_pages s.read s.write (main_of (g.D.Disk.reads s.disk.now)) p s.recorded s.changed.held).page n)
+    g.E.Entropy.tells (g.E.Entropy.drawn c.end_frames-done.new.entropy)) s.disk.now c.end_frames-done.new.disk) (sym c.requires.1.1.0.1) (c.end_frames-done.ensures.any_moment told s.read s.layout.0)

@@ -1,4 +1,4 @@
 use Rattle.pager.proofs.txn.Txn.end.Given as goal
 
-abbrev pub ghost-write_changed : goal.ghost-write_changed
-ghost-write_changed g a = g.base
+abbrev pub ghost-end_frames : goal.ghost-end_frames
+ghost-end_frames g a = g.start

@@ -1,0 +1,53 @@
+use Rattle.std.proofs.Common.{◌≡◌, ◌*◌, ◌≤◌, ◌∙◌, ℕ, List, true, length, ap, sym, subst, arith, rules}
+use Rattle.page_codec.specs.Page.{opened}
+use Rattle.pager.specs.File.{page_stored}
+use Rattle.rollback_journal.specs.Playing.{main_of}
+use Rattle.pager.proofs.BatchLemmas.{number_is}
+use Rattle.pager.proofs.UnderWayLemmas.{batches_long, laid_whole, ok_map, same_main, seen_free, there_page, under_way_read}
+use Rattle.pager.proofs.txn.Txn.read_in.Goals as goal
+
+-- the conditions, by their places: number, free, sizes, ready, under_way
+pub read_plain-requires-clause-there : goal.read_plain-requires-clause-there
+read_plain-requires-clause-there g c told =
+    let r = c.requires.1.1 in
+    let s = c.args.self.now in
+    let now = g.D.Disk.reads s.disk.now in
+    subst (λ (l : List ℕ). c.args.n * s.write.profile.page_size ≤ length l) (sym (same_main now))
+    (there_page c.args.n s.write.profile.page_size s.count g.start.base (main_of now) r.0.1 r.1.1.0.1 (r.1.1.0.0) (batches_long g.start.base _ _ _ _ _ now (g.D.Disk.images s.disk.now) (g.met.D.Disk.reads_now s.disk.now) (r.1.1.1.1 told).batches))
+
+pub read_plain-requires-2-clause-there : goal.read_plain-requires-2-clause-there
+read_plain-requires-2-clause-there g c told =
+    let r = c.requires.1.1 in
+    let s = c.args.self.now in
+    let now = g.D.Disk.reads s.disk.now in
+    subst (λ (l : List ℕ). c.args.n * s.read.profile.page_size ≤ length l) (sym (same_main now))
+    (there_page c.args.n s.read.profile.page_size s.count g.start.base (main_of now) r.0.1 r.1.1.0.1 (sym s.layout.0 ∙ r.1.1.0.0) (batches_long g.start.base _ _ _ _ _ now (g.D.Disk.images s.disk.now) (g.met.D.Disk.reads_now s.disk.now) (r.1.1.1.1 told).batches))
+
+pub returns-then-has-clause-under_way : goal.returns-then-has-clause-under_way
+returns-then-has-clause-under_way g c told =
+    let r = c.requires.1.1 in
+    let s = c.args.self.now in
+    let only = c.read_plain.ensures.only_read told in
+    under_way_read g.start s.write s.recorded s.writer (g.D.Disk.reads s.disk.now) (g.D.Disk.reads c.read_plain.new.disk) (g.D.Disk.images s.disk.now) (g.D.Disk.images c.read_plain.new.disk) g.E.Entropy.tells (g.E.Entropy.drawn s.entropy.now)
+    only.stays only.same_images.no_more (r.1.1.1.1 told)
+
+pub returns-clause-under_way : goal.returns-clause-under_way
+returns-clause-under_way g c told =
+    let r = c.requires.1.1 in
+    let s = c.args.self.now in
+    let only = c.read_plain-2.ensures.only_read told in
+    under_way_read g.start s.write s.recorded s.writer (g.D.Disk.reads s.disk.now) (g.D.Disk.reads c.read_plain-2.new.disk) (g.D.Disk.images s.disk.now) (g.D.Disk.images c.read_plain-2.new.disk) g.E.Entropy.tells (g.E.Entropy.drawn s.entropy.now)
+    only.stays only.same_images.no_more (r.1.1.1.1 told)
+
+pub returns-then-has-clause-told : goal.returns-then-has-clause-told
+returns-then-has-clause-told g c =
+    let r = c.requires.1.1 in
+    let s = c.args.self.now in
+    let now = g.D.Disk.reads s.disk.now in
+    let n = c.args.n in
+    let long : length c.read_plain.new.plain ≡ s.plain.len = search (rules, arith, c.read_plain.auto, c.deref_mut-then-has.ensures, c.deref_mut.ensures) in
+    ok_map c.read_plain.result c.read_plain.ensures.plain (λ has told.
+    laid_whole s.plain.len c.read_plain.new.plain s.plain.items long
+    ∙ has told
+    ∙ ap (λ (l : List ℕ). opened s.write n (page_stored s.write l n)) (same_main now)
+    ∙ seen_free s.read s.write (main_of now) s.count n s.recorded s.changed.held true (number_is s.count n r.0.0 r.0.1) r.1.0 (sym c.has.ensures.answer ∙ c.if-has.true))
