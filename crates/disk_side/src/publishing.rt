@@ -1,7 +1,7 @@
 // Fresh takes the place of Main.
 ghost use Rattle.std.specs.Prelude.{◌≡◌, IsTrue, List, ℕ, OnOk, None, Some};
 ghost use Rattle.edge_model.specs.Causes.{HasCause};
-ghost use Rattle.edge_model.specs.Files.{bytes_of};
+ghost use Rattle.edge_model.specs.Files.{bytes_of, renamed};
 ghost use Rattle.edge_model.specs.Images.{Each, LeavesOnly};
 ghost use Rattle.disk_side.specs.OnlyFresh.{IsFreshSynced};
 ghost use Rattle.disk_side.specs.Published.{IsNew, IsOldOrNew, IsOldOrPublished, IsPublished};
@@ -11,7 +11,7 @@ use edge_model::{Disk, Failed};
 /// Puts Fresh in the place of Main. After a fault each image has the old Main or the new one.
 pub fn publish<D: Disk>(disk: &mut D) -> Result<(), Failed>
     requires synced { IsTrue D.tells → IsFreshSynced (D.images disk.old) (D.reads disk.old) }
-    ensures reads { OnOk result (IsTrue D.tells → (D.reads disk.new).main ≡ (D.reads disk.old).fresh) }
+    ensures reads { OnOk result (IsTrue D.tells → D.reads disk.new ≡ renamed (D.reads disk.old)) }
     ensures done { OnOk result (IsTrue D.tells → Each (D.images disk.new) (IsPublished (D.images disk.old) (D.reads disk.old).fresh)) }
     ensures any_moment { IsTrue D.tells → LeavesOnly D.moment D.since disk.old disk.new (IsOldOrPublished (D.images disk.old) (D.reads disk.old).fresh) }
     ensures cause { HasCause (D.faults disk.old) (D.faults disk.new) result }

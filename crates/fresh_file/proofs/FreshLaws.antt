@@ -12,11 +12,16 @@ use Rattle.page_codec.specs.Page.{FileKeys, opened, sealed}
 use Rattle.db_format.specs.declared.header.Header.{Header}
 use Rattle.db_format.specs.Header.{header_bytes}
 use Rattle.db_format.specs.Pages.{Pages, Test, also, is_page, nothing}
+use Rattle.db_format.specs.Seen.{marked}
 use Rattle.page_build.specs.Draft.{laid}
+use Rattle.bulk_load.specs.Out.{AreAllPut}
 use Rattle.transaction.specs.Draws.{OwnDraws}
 use Rattle.transaction.proofs.OwnDraws.{own_next, own_none, same_or}
 use Rattle.fresh_file.specs.Sealed.{IsSealed, IsSealedWith, IsSealing, plain_page}
+use Rattle.fresh_file.specs.declared.state.FreshState.{FreshState}
+use Rattle.fresh_file.specs.State.{pages_of}
 use Rattle.fresh_file.specs.Fresh.{IsFinished, IsOwned, IsPaged, IsWell, contents, fresh_page, sized, with_head}
+use Rattle.fresh_file.proofs.SaltLaws.{salt_first}
 use Rattle.fresh_file.proofs.PageLaws.{opens_here, page_end, page_stays, sealed_here, sealed_stays, torn_page}
 
 -- ---- marks
@@ -229,6 +234,29 @@ well_as keys put other count start tells draws_tell fresh drawn same was = subst
 
 -- ---- the end
 
+-- where each page was put, each number above 1 has its mark
+pub all_marked : (first : Bool) (put : Test) (count : ℕ) → ((n : ℕ) → (nat_le 1 n && nat_le n count) ≡ true → (if n == 1 then first else put n) ≡ true)
+    → (n : ℕ) → 2 ≤ n → n ≤ count → put n ≡ true
+all_marked first put count all n high le = sym (ap (λ b. if b then first else put n) (above_one n high)) ∙ all n (within n high le)
+  where
+    above_one : (k : ℕ) → 2 ≤ k → (k == 1) ≡ false
+    above_one k h = grind (arith, nat_tests, h)
+
+    within : (k : ℕ) → 2 ≤ k → k ≤ count → (nat_le 1 k && nat_le k count) ≡ true
+    within k h g = grind (arith, nat_tests, h, g)
+
+-- so are two pages
+pub two_put : (state : FreshState) (fresh : Option (List ℕ)) → state.taken ≡ 1 → state.has_first ≡ true → marked state.put 2 ≡ true → AreAllPut (pages_of state fresh)
+two_put state fresh taken first second n is = by_first (n == 1) refl
+  where
+    is_two : (k p : ℕ) → p ≡ 1 → (nat_le 1 k && nat_le k (p + 1)) ≡ true → (k == 1) ≡ false → k ≡ 2
+    is_two k p one inside other = grind (arith, nat_tests)
+
+    by_first : (b : Bool) → (n == 1) ≡ b → (if n == 1 then state.has_first else marked state.put n) ≡ true
+    by_first true one = ap (λ b. if b then state.has_first else marked state.put n) one ∙ first
+    by_first false other =
+        ap (λ b. if b then state.has_first else marked state.put n) other ∙ ap (marked state.put) (is_two n state.taken taken is other) ∙ second
+
 pub head_first : (head rest bytes magic : List ℕ) → length head ≡ 100 → bytes ≡ head ++ rest → take 16 head ≡ magic → take 16 bytes ≡ magic
 head_first head rest bytes magic sized is begins = ap (λ (l : List ℕ). take 16 l) is ∙ take-append-le 16 head rest (omega (arith, sized)) ∙ begins
 
@@ -249,6 +277,7 @@ module _ (keys : FileKeys) (header : Header) (first head : List ℕ) (put accept
     (stays : (m : ℕ) → put m ≡ true → (m ≡ 1 → ⊥) → plain_page keys m (contents mid) ≡ plain_page keys m (contents fresh))
     (is_head : head ≡ header_bytes (sized header count))
     (all : (n : ℕ) → 2 ≤ n → n ≤ count → put n ≡ true)
+    (salt : length keys.salt ≡ 16) (room : 16 ≤ keys.profile.page_size)
     (same : after ≡ mid) (no_draw : now ≡ drawn) where
   abbrev pages : Pages
   pages = record { count = count; usable = usable; page = fresh_page keys first put fresh; accepts = accepts }
@@ -276,6 +305,7 @@ module _ (keys : FileKeys) (header : Header) (first head : List ℕ) (put accept
   finished = record {
     file = well.paged.file;
     is = same ∙ well.paged.is;
+    salt = salt_first keys well.paged.file (well.paged.sealed 1 (also_here 1 put)) salt room;
     size = omega (arith, (well.paged.sealed count last_put).1.whole, well.paged.short);
     sealed = λ n is. well.paged.sealed n (put_of n is);
     first = ap (λ (l : List ℕ). plain_page keys 1 l) (sym file_is) ∙ here ∙ ap (λ (l : List ℕ). with_head l first) is_head;

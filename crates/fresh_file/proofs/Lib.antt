@@ -1,2 +1,4 @@
+pub mod HeadedLaws
 pub mod PageLaws
 pub mod FreshLaws
+pub mod SaltLaws

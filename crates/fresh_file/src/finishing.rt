@@ -5,6 +5,7 @@ ghost use Rattle.db_format.specs.Header.{IsPageSize};
 ghost use Rattle.db_format.specs.Pages.{also};
 ghost use Rattle.db_format.specs.Seen.{marked};
 ghost use Rattle.page_codec.specs.Page.{magic};
+ghost use Rattle.bulk_load.specs.Out.{AreAllPut};
 ghost use Rattle.fresh_file.specs.Fresh.{IsFinished, IsWell, contents, with_head};
 ghost use Rattle.fresh_file.specs.Sealed.{plain_page};
 
@@ -17,11 +18,10 @@ use page_build::lay;
 impl FreshState {
     ghost use Rattle.fresh_file.specs.State.{IsWellAs, pages_of};
 
-    /// Writes page 1 with this header, in which the size field is set to the count of pages, syncs Fresh and answers the count. Page 1 and
-    /// every number that was taken must have been put.
+    /// Writes page 1 with this header, in which the size field is set to the count of pages, syncs Fresh and answers the count. Each page
+    /// must have been put: page 1, and every number that was taken.
     pub fn finish<T: Side>(&mut self, side: &mut T, header: &Header) -> Result<u32, CommitFault>
-        requires first { self.old.has_first ≡ true }
-        requires put { (n : ℕ) → 2 ≤ n → n ≤ self.old.taken + 1 → marked self.old.put n ≡ true }
+        requires put { AreAllPut (pages_of self.old (T.fresh side.old)) }
         requires page_size { IsPageSize header.now.page_size }
         requires reserve { header.now.reserve ≤ 255 }
         requires format { header.now.format ≤ 4 }
@@ -37,6 +37,7 @@ impl FreshState {
         ensures entropy { result ≡ Err CommitFault.EntropyFault → Rose (T.draw_faults side.old) (T.draw_faults side.new) }
     {
         let count = self.taken + 1;
+        let _salt = self.codec.salt();
         let mut head = [0u8; 100];
         let sized = Header {
             size_field: count,

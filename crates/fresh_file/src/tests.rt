@@ -76,6 +76,7 @@ fn fill_state<T: Side>(state: &mut FreshState, side: &mut T, plain: &[u8]) -> Re
     Ok(())
 }
 
+#[tactic(auto, using(crate::proofs::FreshLaws::two_put))]
 fn write_two<T: Side>(alloc: Global, rt: &impl Abort, side: &mut T) -> Result<u32, Stopped> {
     let codec = codec_of(rt);
     let plain = [6; 976];

@@ -1,8 +1,8 @@
-use Rattle.std.proofs.Common.{◌+◌, arith}
+use Rattle.std.proofs.Common.{◌+◌, arith, rules}
 use Rattle.cipher_profile.specs.Profile.{usable}
 use Rattle.db_format.specs.Seen.{marked}
 use Rattle.fresh_file.specs.State.{pages_of}
-use Rattle.fresh_file.proofs.FreshLaws.{finished}
+use Rattle.fresh_file.proofs.FreshLaws.{all_marked, finished}
 use Rattle.fresh_file.proofs.state.FreshState.finish.Goals as goal
 
 pub returns-clause-file : goal.returns-clause-file
@@ -18,6 +18,8 @@ returns-clause-file g c start was =
     (c.in_ok-put_first.ensures.here start was)
     (c.in_ok-put_first.ensures.others start was)
     c.write_header.ensures.bytes
-    c.requires.put
+    (all_marked old.has_first (marked old.put) (old.taken + 1) c.requires.put)
+    (search rules)
+    (search arith)
     (c.sync_side.ensures.same was.told)
     c.sync_side.ensures.drawn
