@@ -1,0 +1,111 @@
+use Rattle.std.proofs.Common.{refl, sym, ap, subst, arith}
+use Rattle.pager.specs.File.{main_of}
+use Rattle.pager.proofs.UnderWayLemmas.{ok_map}
+use Rattle.transaction.specs.Database.{Base}
+use Rattle.transaction.specs.Facts.{IsBegun}
+use Rattle.rekey_job.proofs.Committed.{at_moments, now_drawn, now_rekeyed, ok_both, told_new, told_old, told_one}
+use Rattle.rekey_job.proofs.Renewed.{base_sizes, is_base, told_base}
+use Rattle.rekey_job.proofs.job.rekey_clean.Goals as goal
+
+-- the conditions, by their places: layout, salt, begun, clean, leaves
+pub rewrite_pages-requires : goal.rewrite_pages-requires
+rewrite_pages-requires g c κs within =
+    let p = c.args.pager in
+    let file = main_of (g.D.Disk.reads p.disk.now) in
+    let r = c.requires in (
+      within.0,
+      (
+        within.1,
+        (
+          r.layout,
+          (
+            base_sizes g.D.Disk.tells p.codec file p.count,
+            (
+              refl,
+              (
+                is_base g.D.Disk.tells p.codec file p.count (omega (arith, p.lendable.least)) p.some (λ told. (r.begun told).base_is),
+                (
+                  λ told. subst (λ (b : Base). IsBegun b (g.D.Disk.images p.disk.now)) (sym (told_base g.D.Disk.tells p.codec file p.count told)) (r.begun told),
+                  (λ told. ap (λ (b : Base). b.start) (told_base g.D.Disk.tells p.codec file p.count told), (r.clean, r.leaves)),
+                ),
+              ),
+            ),
+          ),
+        ),
+      ),
+    )
+
+pub returns-clause-disk : goal.returns-clause-disk
+returns-clause-disk g c = c.rewrite_pages.ensures.disk
+
+pub returns-clause-entropy : goal.returns-clause-entropy
+returns-clause-entropy g c = c.rewrite_pages.ensures.entropy
+
+pub returns-clause-rekeyed : goal.returns-clause-rekeyed
+returns-clause-rekeyed g c =
+    let p = c.args.pager in
+    let r = c.requires in
+    let end = c.rewrite_pages.result.0.now in
+    ok_both c.rewrite_pages.result.2 (λ changed new told. now_rekeyed g.D.Disk.tells p.codec c.args.write p.count (g.D.Disk.reads p.disk.now) (g.D.Disk.images p.disk.now)
+    g.E.Entropy.tells (g.E.Entropy.drawn p.entropy.now) (g.E.Entropy.drawn c.rewrite_pages.result.1.now) r.layout p.some (omega (arith, p.lendable.least)) told (g.met.D.Disk.reads_now p.disk.now)
+    (r.salt told) (r.begun told) (r.clean told) (g.D.Disk.reads end) (g.D.Disk.images end) (g.met.D.Disk.reads_now end) (changed told) (new told))
+    c.rewrite_pages.ensures.changed c.rewrite_pages.ensures.new
+
+pub returns-clause-own_draws : goal.returns-clause-own_draws
+returns-clause-own_draws g c =
+    let p = c.args.pager in
+    let r = c.requires in
+    ok_map c.rewrite_pages.result.2 c.rewrite_pages.ensures.changed (λ changed told. now_drawn g.D.Disk.tells p.codec c.args.write p.count (g.D.Disk.reads p.disk.now) (g.D.Disk.images p.disk.now)
+    g.E.Entropy.tells (g.E.Entropy.drawn p.entropy.now) (g.E.Entropy.drawn c.rewrite_pages.result.1.now) r.layout p.some (omega (arith, p.lendable.least)) told (g.met.D.Disk.reads_now p.disk.now)
+    (r.salt told) (r.begun told) (r.clean told) (g.D.Disk.reads c.rewrite_pages.result.0.now) (changed told))
+
+pub returns-clause-new : goal.returns-clause-new
+returns-clause-new g c =
+    let p = c.args.pager in
+    let end = c.rewrite_pages.result.0.now in
+    ok_map c.rewrite_pages.result.2 c.rewrite_pages.ensures.new
+    (λ new told. told_new g.D.Disk.tells p.codec p.count (main_of (g.D.Disk.reads p.disk.now)) (g.D.Disk.images end) (g.D.Disk.reads end) told (new told))
+
+pub returns-clause-any_moment : goal.returns-clause-any_moment
+returns-clause-any_moment g c told =
+    let p = c.args.pager in
+    let r = c.requires in
+    at_moments g.D.Disk.tells p.codec c.args.write p.count (g.D.Disk.reads p.disk.now) (g.D.Disk.images p.disk.now)
+    g.E.Entropy.tells (g.E.Entropy.drawn p.entropy.now) (g.E.Entropy.drawn c.rewrite_pages.result.1.now) r.layout p.some (omega (arith, p.lendable.least)) told (g.met.D.Disk.reads_now p.disk.now)
+    (r.salt told) (r.begun told) (r.clean told) g.D.Disk.moment g.D.Disk.since p.disk.now c.rewrite_pages.result.0.now (c.rewrite_pages.ensures.any_moment told)
+
+pub returns-clause-one_new : goal.returns-clause-one_new
+returns-clause-one_new g c =
+    let p = c.args.pager in
+    let end = c.rewrite_pages.result.0.now in
+    ok_map c.rewrite_pages.result.2 c.rewrite_pages.ensures.one_new
+    (λ one told. told_one g.D.Disk.tells p.codec p.count (main_of (g.D.Disk.reads p.disk.now)) g.D.Disk.moment g.D.Disk.since p.disk.now end (g.D.Disk.reads end) told (one told))
+
+pub returns-clause-only_old : goal.returns-clause-only_old
+returns-clause-only_old g c is told =
+    let p = c.args.pager in
+    told_old g.D.Disk.tells p.codec p.count (main_of (g.D.Disk.reads p.disk.now)) g.D.Disk.moment g.D.Disk.since p.disk.now c.rewrite_pages.result.0.now told (c.rewrite_pages.ensures.only_old is told)
+
+pub returns-clause-fresh : goal.returns-clause-fresh
+returns-clause-fresh g c = c.rewrite_pages.ensures.fresh
+
+pub returns-clause-unwritten : goal.returns-clause-unwritten
+returns-clause-unwritten g c = c.rewrite_pages.ensures.unwritten
+
+pub returns-clause-layout : goal.returns-clause-layout
+returns-clause-layout g c = c.rewrite_pages.ensures.layout
+
+pub returns-clause-late : goal.returns-clause-late
+returns-clause-late g c = c.rewrite_pages.ensures.late
+
+pub returns-clause-disk_fault : goal.returns-clause-disk_fault
+returns-clause-disk_fault g c = c.rewrite_pages.ensures.disk_fault
+
+pub returns-clause-entropy_fault : goal.returns-clause-entropy_fault
+returns-clause-entropy_fault g c = c.rewrite_pages.ensures.entropy_fault
+
+pub returns-clause-disk_later : goal.returns-clause-disk_later
+returns-clause-disk_later g c = c.rewrite_pages.ensures.disk_later
+
+pub returns-clause-entropy_later : goal.returns-clause-entropy_later
+returns-clause-entropy_later g c = c.rewrite_pages.ensures.entropy_later

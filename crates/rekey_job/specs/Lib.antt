@@ -1,0 +1,3 @@
+pub mod Rekeyed
+pub mod Rewritten
+pub mod Stops

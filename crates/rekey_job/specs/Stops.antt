@@ -1,0 +1,66 @@
+-- Why a file is not rekeyed.
+use Rattle.std.specs.Prelude.{◌≡◌, ◌⊎◌, ◌≤◌, ◌<◌, ℕ, Bool, true, false, ⊤}
+use Rattle.std.specs.List.{Contains}
+use Rattle.btree_model.specs.Parts.{first_faults, first_refusals, is_database, parts}
+use Rattle.btree_model.specs.Plain.{is_leaf}
+use Rattle.btree_walk.specs.declared.error.WalkError.{WalkError}
+use Rattle.btree_walk.specs.declared.error.WalkError.TheVariants.{Defect as WalkDefect, Source, OutOfMemory as WalkMemory}
+use Rattle.db_format.specs.Pages.{Pages, Test, is_page}
+use Rattle.pager.specs.declared.fill.PageError.{PageError}
+use Rattle.pager.specs.declared.fill.PageError.TheVariants.{OutOfRange, TagRefused, DiskFault as PageFault, EntropyFault as DrawFault, AllPinned}
+use Rattle.rekey_job.specs.declared.error.RekeyError.{RekeyError}
+use Rattle.rekey_job.specs.declared.error.RekeyError.TheVariants.{LayoutDiffers, PageTag, Defect, DiskFault, EntropyFault, OutOfMemory}
+
+-- no part has a defect, and each page in use is accepted
+pub record AreClean (pages : Pages) : Type 0 where
+  pub sound : is_database pages ≡ true
+  pub accepted : (n : ℕ) → is_page pages n ≡ true → is_leaf pages n ≡ false → pages.accepts n ≡ true
+
+-- page n is the first of these that is not accepted, but for those of a test
+pub record IsFirstRefused (pages : Pages) (passed : Test) (n : ℕ) : Type 0 where
+  pub range : is_page pages n ≡ true
+  pub used : passed n ≡ false
+  pub refused : pages.accepts n ≡ false
+  pub first : (m : ℕ) → 1 ≤ m → m < n → passed m ≡ false → pages.accepts m ≡ true
+
+-- These pages show this error: a defect or a refused page of the earliest part that has one, and where none has, the first refused page
+-- in use. What else stops a rekey they do not show.
+abbrev pub IsShown : Pages → RekeyError → Type 0
+IsShown pages LayoutDiffers = ⊤
+IsShown pages (PageTag n) = Contains (first_refusals (parts pages)) n ⊎ ((is_database pages ≡ true) × IsFirstRefused pages (is_leaf pages) n)
+IsShown pages (Defect d) = Contains (first_faults (parts pages)) d
+IsShown pages DiskFault = ⊤
+IsShown pages EntropyFault = ⊤
+IsShown pages OutOfMemory = ⊤
+
+-- nothing was written
+abbrev pub is_unwritten : RekeyError → Bool
+is_unwritten LayoutDiffers = true
+is_unwritten (PageTag n) = true
+is_unwritten (Defect d) = true
+is_unwritten DiskFault = false
+is_unwritten EntropyFault = false
+is_unwritten OutOfMemory = true
+
+-- it may stop a rekey of a file that was checked
+abbrev pub IsLate : RekeyError → Type 0
+IsLate LayoutDiffers = ⊥
+IsLate (PageTag n) = ⊥
+IsLate (Defect d) = ⊥
+IsLate DiskFault = ⊤
+IsLate EntropyFault = ⊤
+IsLate OutOfMemory = ⊤
+
+-- how a page that is refused stops a rekey; it asks for pages of the file alone, and pins few
+abbrev pub page_error : PageError → RekeyError
+page_error OutOfRange = OutOfMemory
+page_error (TagRefused n) = PageTag n
+page_error PageFault = DiskFault
+page_error DrawFault = EntropyFault
+page_error AllPinned = OutOfMemory
+
+-- how a walk does
+abbrev pub walk_error : WalkError PageError → RekeyError
+walk_error (WalkDefect d) = Defect d
+walk_error (Source refusal) = page_error refusal
+walk_error WalkMemory = OutOfMemory

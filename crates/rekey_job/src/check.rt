@@ -1,0 +1,147 @@
+// The whole of a database is checked, before anything is written.
+ghost use Rattle.std.specs.Prelude.{◌≡◌, ◌≢◌, ◌≤◌, ℕ, true, false, Err, IfOk, IfErr, OnOk, IsTrue};
+ghost use Rattle.edge_model.specs.Causes.{Rose};
+ghost use Rattle.btree_model.specs.Plain.{is_leaf};
+ghost use Rattle.db_format.specs.Header.{header_fields};
+ghost use Rattle.db_format.specs.Seen.{marked};
+ghost use Rattle.db_format.specs.Source.{no_pins};
+ghost use Rattle.pager.specs.Causes.{MayRefuse};
+ghost use Rattle.pager.specs.File.{main_of};
+ghost use Rattle.pager.specs.Held.{pins_of};
+ghost use Rattle.pager.specs.Pages.{opened_pages};
+ghost use Rattle.pager.specs.Reads.{DiskRead, Untouched};
+ghost use Rattle.schema_map.specs.Census.{IsWhole};
+ghost use Rattle.rekey_job.specs.Stops.{AreClean, IsFirstRefused, IsShown, page_error, walk_error};
+
+use crate::error::RekeyError;
+use btree_walk::WalkError;
+use edge_model::{Disk, Entropy};
+use pager::{PageError, PageSource, Pager};
+use schema_map::{Census, census};
+use space_map::FreeMap;
+use std::alloc::Global;
+
+/// Checks that no part has a defect and that each page in use is accepted. Answers the freelist.
+pub fn check_pages<D: Disk, E: Entropy>(
+    alloc: Global,
+    pager: &mut Pager<'_, D, E>,
+) -> Result<FreeMap, RekeyError>
+    requires unpinned { pins_of pager.old.cache.held ≡ no_pins }
+    requires header { IsTrue D.tells → pager.old.header ≡ header_fields ((opened_pages pager.old.codec (main_of (D.reads pager.old.disk.now)) pager.old.count).page 1) }
+    ensures clean { OnOk result (IsTrue D.tells → AreClean (opened_pages pager.old.codec (main_of (D.reads pager.old.disk.now)) pager.old.count)) }
+    ensures leaves { IfOk result (λ leaves. IsTrue D.tells → (n : ℕ)
+        → marked leaves.leaves n ≡ is_leaf (opened_pages pager.old.codec (main_of (D.reads pager.old.disk.now)) pager.old.count) n) }
+    ensures shown { IfErr result (λ e. IsTrue D.tells → IsShown (opened_pages pager.old.codec (main_of (D.reads pager.old.disk.now)) pager.old.count) e) }
+    ensures reading { IfErr result (λ e. (e ≢ RekeyError.LayoutDiffers) × (e ≢ RekeyError.EntropyFault)) }
+    ensures fault { result ≡ Err RekeyError.DiskFault → Rose (D.faults pager.old.disk.now) (D.faults pager.new.disk.now) }
+    ensures disk { DiskRead D.tells D.reads D.images D.moment D.since D.faults pager.old.disk pager.new.disk }
+    ensures entropy { Untouched pager.old.entropy pager.new.entropy }
+    ensures file { (pager.new.codec ≡ pager.old.codec) × (pager.new.count ≡ pager.old.count) }
+{
+    let header = *pager.header();
+    match census(alloc, pager, &header) {
+        Ok(census) => check_others(pager, census),
+        Err(error) => Err(walk_error(&error)),
+    }
+}
+
+// The database has no defect. Checks the pages that the census has not met, and answers the freelist.
+fn check_others<D: Disk, E: Entropy>(
+    pager: &mut Pager<'_, D, E>,
+    census: Census,
+) -> Result<FreeMap, RekeyError>
+    requires whole { IsTrue D.tells → IsWhole (opened_pages pager.old.codec (main_of (D.reads pager.old.disk.now)) pager.old.count) census }
+    ensures clean { OnOk result (IsTrue D.tells → AreClean (opened_pages pager.old.codec (main_of (D.reads pager.old.disk.now)) pager.old.count)) }
+    ensures leaves { IfOk result (λ leaves. IsTrue D.tells → (n : ℕ)
+        → marked leaves.leaves n ≡ is_leaf (opened_pages pager.old.codec (main_of (D.reads pager.old.disk.now)) pager.old.count) n) }
+    ensures shown { IfErr result (λ e. IsTrue D.tells → IsShown (opened_pages pager.old.codec (main_of (D.reads pager.old.disk.now)) pager.old.count) e) }
+    ensures reading { IfErr result (λ e. (e ≢ RekeyError.LayoutDiffers) × (e ≢ RekeyError.EntropyFault)) }
+    ensures fault { result ≡ Err RekeyError.DiskFault → Rose (D.faults pager.old.disk.now) (D.faults pager.new.disk.now) }
+    ensures disk { DiskRead D.tells D.reads D.images D.moment D.since D.faults pager.old.disk pager.new.disk }
+    ensures entropy { Untouched pager.old.entropy pager.new.entropy }
+    ensures file { (pager.new.codec ≡ pager.old.codec) × (pager.new.count ≡ pager.old.count) }
+{
+    let Census {
+        trees: _,
+        entries: _,
+        free: _,
+        unused,
+        schema: _,
+        leaves,
+    } = census;
+    // Where no page is unused, each was met: it is accepted, or a leaf.
+    if unused == 0 {
+        return Ok(leaves);
+    }
+    match check_tags(pager, &leaves) {
+        Ok(()) => Ok(leaves),
+        Err(error) => Err(page_error(error)),
+    }
+}
+
+// Reads all pages but these leaves.
+fn check_tags<D: Disk, E: Entropy>(
+    pager: &mut Pager<'_, D, E>,
+    leaves: &FreeMap,
+) -> Result<(), PageError>
+    ensures accepted { OnOk result (IsTrue D.tells → (n : ℕ) → 1 ≤ n → n ≤ pager.old.count → marked leaves.now.leaves n ≡ false
+        → (opened_pages pager.old.codec (main_of (D.reads pager.old.disk.now)) pager.old.count).accepts n ≡ true) }
+    ensures refused { IfErr result (λ e. (n : ℕ) → e ≡ PageError.TagRefused n → IsTrue D.tells
+        → IsFirstRefused (opened_pages pager.old.codec (main_of (D.reads pager.old.disk.now)) pager.old.count) (marked leaves.now.leaves) n) }
+    ensures undrawn { result ≢ Err PageError.EntropyFault }
+    ensures fault { result ≡ Err PageError.DiskFault → Rose (D.faults pager.old.disk.now) (D.faults pager.new.disk.now) }
+    ensures disk { DiskRead D.tells D.reads D.images D.moment D.since D.faults pager.old.disk pager.new.disk }
+    ensures entropy { Untouched pager.old.entropy pager.new.entropy }
+    ensures file { (pager.new.codec ≡ pager.old.codec) × (pager.new.count ≡ pager.old.count) }
+{
+    let pages = pager.pages();
+    for done in 0..pages {
+        check_tag(pager, done + 1, leaves)?;
+    }
+    Ok(())
+}
+
+// Reads page n, where it is no leaf.
+fn check_tag<D: Disk, E: Entropy>(
+    pager: &mut Pager<'_, D, E>,
+    n: u32,
+    leaves: &FreeMap,
+) -> Result<(), PageError>
+    ensures accepted { OnOk result (IsTrue D.tells → marked leaves.now.leaves n ≡ false
+        → (opened_pages pager.old.codec (main_of (D.reads pager.old.disk.now)) pager.old.count).accepts n ≡ true) }
+    ensures refused { IfErr result (λ e. (marked leaves.now.leaves n ≡ false)
+        × MayRefuse D.tells (opened_pages pager.old.codec (main_of (D.reads pager.old.disk.now)) pager.old.count) n e) }
+    ensures fault { result ≡ Err PageError.DiskFault → Rose (D.faults pager.old.disk.now) (D.faults pager.new.disk.now) }
+    ensures disk { DiskRead D.tells D.reads D.images D.moment D.since D.faults pager.old.disk pager.new.disk }
+    ensures entropy { Untouched pager.old.entropy pager.new.entropy }
+    ensures file { (pager.new.codec ≡ pager.old.codec) × (pager.new.count ≡ pager.old.count) }
+{
+    if leaves.is_leaf(n) {
+        return Ok(());
+    }
+    pager.load(n)
+}
+
+/// How a page that is refused stops a rekey.
+pub fn page_error(error: PageError) -> RekeyError
+    ensures { result ≡ page_error error }
+{
+    match error {
+        PageError::TagRefused { page } => RekeyError::PageTag { page },
+        PageError::DiskFault => RekeyError::DiskFault,
+        PageError::EntropyFault => RekeyError::EntropyFault,
+        // All pages are asked for by their numbers, and few are pinned.
+        PageError::OutOfRange | PageError::AllPinned => RekeyError::OutOfMemory,
+    }
+}
+
+// How a walk does.
+fn walk_error(error: &WalkError<PageError>) -> RekeyError
+    ensures { result ≡ walk_error error.now }
+{
+    match error {
+        WalkError::Defect(defect) => RekeyError::Defect(*defect),
+        WalkError::Source(refusal) => page_error(*refusal),
+        WalkError::OutOfMemory => RekeyError::OutOfMemory,
+    }
+}
