@@ -1,0 +1,83 @@
+-- The keys of a file with a drawn salt, and what its pages were sealed with after it.
+use Rattle.std.proofs.Common.{◌≡◌, inl, inr, ⊎_elim, ◌≤◌, ◌+◌, ◌-◌, ℕ, Bool, List, ◌++◌, length, take, drop, arith, ap, sym, subst, ◌∙◌, length-append}
+use Rattle.std.specs.Io.{StartsWith}
+use Rattle.std.proofs.Math.Seq.{drop-append-add, drop-append_seam}
+use Rattle.std.proofs.lemmas.List.{append_assoc, take-append-drop, take_at}
+use Rattle.cipher_profile.specs.Keys.{page_keys}
+use Rattle.cipher_profile.specs.declared.keys.Secret.{Secret}
+use Rattle.cipher_profile.specs.declared.profile.Profile.{Profile}
+use Rattle.page_codec.specs.Page.{FileKeys, keys_of, salt_of}
+use Rattle.fresh_file.specs.Sealed.{IsSealedWith}
+use Rattle.pager.specs.File.{whole_pages}
+use Rattle.pager.specs.Pages.{is_number}
+use Rattle.transaction.specs.Draws.{OwnDraws}
+use Rattle.make_job.specs.Made.{HasOwnDraws, IsMade, IsMadeUnder}
+use Rattle.make_job.specs.Written.{AreOwnDraws, IsMadeWith}
+
+-- the keys that the secret gives with this salt
+abbrev pub keys_with : Profile → Secret → List ℕ → FileKeys
+keys_with profile secret salt = record { profile = profile; keys = page_keys profile secret salt; salt = salt }
+
+pub keys_are : (profile : Profile) (secret : Secret) (salt file : List ℕ) (keys : FileKeys) → keys ≡ keys_with profile secret salt → salt_of file ≡ keys.salt
+    → keys ≡ keys_of profile secret file
+keys_are profile secret salt file keys is begins =
+    is ∙ ap (λ (l : List ℕ). keys_with profile secret l) (sym (begins ∙ ap (λ (k : FileKeys). k.salt) is))
+
+pub made_as : (profile : Profile) (secret : Secret) (salt : List ℕ) (rows : ℕ) (keys : FileKeys) → keys ≡ keys_with profile secret salt
+    → (file : List ℕ) → IsMadeWith keys rows file → IsMade profile secret rows file
+made_as profile secret salt rows keys is file made = subst (λ (k : FileKeys). IsMadeUnder k rows file) (keys_are profile secret salt file keys is made.salt) made.made
+
+-- ---- draws, without those from before
+
+drop_more : (at : ℕ) (before more : List ℕ) → length before ≤ at → drop at (before ++ more) ≡ drop (at - length before) more
+drop_more at before more le =
+    let e : at ≡ length before + (at - length before) = omega (arith, le) in
+    ap (λ (k : ℕ). drop k (before ++ more)) e ∙ drop-append-add before more (at - length before)
+
+own_after : (reserve from : ℕ) (before more : List ℕ) (sealed : ℕ → Bool) (seals : ℕ → List ℕ → Type 0)
+    → OwnDraws reserve (length before + from) (before ++ more) sealed seals → OwnDraws reserve from more sealed seals
+own_after reserve from before more sealed seals own = record {
+  place = λ n. own.place n - length before;
+  later = λ n has. omega (arith, own.later n has);
+  within = λ n has. omega (arith, own.later n has, own.within n has, length-append before more);
+  is_sealed = λ n has.
+      subst (seals n) (ap (λ (l : List ℕ). take reserve l) (drop_more (own.place n) before more (omega (arith, own.later n has)))) (own.is_sealed n has);
+  apart = λ m n other has_m has_n.
+      ⊎_elim (λ (le : own.place m + reserve ≤ own.place n). inl (omega (arith, le, own.later m has_m, own.later n has_n)))
+      (λ (le : own.place n + reserve ≤ own.place m). inr (omega (arith, le, own.later m has_m, own.later n has_n))) (own.apart m n other has_m has_n);
+}
+
+-- the salt was drawn first
+pub drawn_with : (keys : FileKeys) (file salt before mid after : List ℕ) → length salt ≡ 16 → keys.salt ≡ salt → salt_of file ≡ keys.salt → mid ≡ before ++ salt
+    → StartsWith after mid
+    → AreOwnDraws keys file (length mid) after → HasOwnDraws keys file (drop (length before) after)
+drawn_with keys file salt before mid after long is begins drew grown own = record {
+  enough = omega (arith, long, ap (λ (l : List ℕ). length l) drawn_is, length-append salt rest);
+  salt = begins ∙ is ∙ sym (ap (λ (l : List ℕ). take 16 l) drawn_is ∙ take_at salt rest 16 long);
+  pages = own_after keys.profile.reserve 16 before drawn (is_number (whole_pages keys.profile file)) (IsSealedWith keys file)
+      (subst (λ (l : List ℕ). AreOwnDraws keys file (length before + 16) l) all_is (subst (λ (k : ℕ). AreOwnDraws keys file k after) mid_long own));
+}
+  where
+    rest : List ℕ
+    rest = drop (length mid) after
+
+    mid_long : length mid ≡ length before + 16
+    mid_long = omega (arith, long, ap (λ (l : List ℕ). length l) drew, length-append before salt)
+
+    drawn : List ℕ
+    drawn = drop (length before) after
+
+    after_is : after ≡ before ++ (salt ++ rest)
+    after_is =
+        sym (take-append-drop (length mid) after) ∙ ap (λ (l : List ℕ). l ++ rest) (grown ∙ drew)
+        ∙ append_assoc before salt rest
+
+    drawn_is : drawn ≡ salt ++ rest
+    drawn_is = ap (λ (l : List ℕ). drop (length before) l) after_is ∙ drop-append_seam before (salt ++ rest)
+
+    all_is : after ≡ before ++ drawn
+    all_is = after_is ∙ ap (λ (l : List ℕ). before ++ l) (sym drawn_is)
+
+-- a file that is that one begins with its salt
+pub salt_is : (keys : FileKeys) (rows : ℕ) (main file : List ℕ) → main ≡ file → IsMadeWith keys rows file → salt_of main ≡ keys.salt
+salt_is keys rows main file is made = ap (λ (l : List ℕ). salt_of l) is ∙ made.salt

@@ -1,0 +1,5 @@
+pub mod DrawLaws
+pub mod HeaderLaws
+pub mod MadeLaws
+pub mod PublishLaws
+pub mod RunLaws

@@ -1,0 +1,43 @@
+use Rattle.std.proofs.Common.{rules, ◌∙◌, length}
+use Rattle.make_job.proofs.MadeLaws.{drawn_for, written}
+use Rattle.make_job.proofs.writing.write_rows.Goals as goal
+
+pub returns-in_err-made-clause-limit : goal.returns-in_err-made-clause-limit
+returns-in_err-made-clause-limit g c limit is = c.fill_state.ensures.limit limit (search rules) ∙ c.in-Ok.ensures.limit
+
+pub returns-in-Ok-finish-clause-written : goal.returns-in-Ok-finish-clause-written
+returns-in-Ok-finish-clause-written g c told =
+    let side = g.T.Side in
+    let start = length (side.drawn c.args.side.now) in
+    let filled = c.in_ok-made.ensures in
+    let well = filled.well start (c.in-Ok.ensures.well told) in
+    written c.args.codec _ c.fill_state.new.state c.args.rows start side.draws_tell (side.fresh c.fill_state.new.side) _ _ (search rules) (filled.same.0 ∙ c.in-Ok.ensures.codec)
+    (filled.same.1 ∙ c.in-Ok.ensures.limit) (search rules) (c.in-Ok-finish.ensures.file start well)
+    (filled.made start (c.in-Ok.ensures.well told))
+
+pub returns-in-Ok-finish-clause-own_draws : goal.returns-in-Ok-finish-clause-own_draws
+returns-in-Ok-finish-clause-own_draws g c told tell file is =
+    let side = g.T.Side in
+    let start = length (side.drawn c.args.side.now) in
+    let filled = c.in_ok-made.ensures in
+    let well = filled.well start (c.in-Ok.ensures.well told) in
+    drawn_for c.args.codec _ c.fill_state.new.state c.args.rows start side.draws_tell (side.fresh c.fill_state.new.side) _ _ (search rules) (filled.same.0 ∙ c.in-Ok.ensures.codec)
+    (filled.same.1 ∙ c.in-Ok.ensures.limit) (search rules) (c.in-Ok-finish.ensures.file start well) tell file is
+
+pub returns-in-Ok-finish-clause-kept : goal.returns-in-Ok-finish-clause-kept
+returns-in-Ok-finish-clause-kept g c =
+    let t = g.met.T.Side in
+    t.joins c.args.side.now c.fill_state.new.side c.finish.new.side
+    (t.joins c.args.side.now c.start.new.side c.fill_state.new.side c.in-Ok.ensures.kept c.in_ok-made.ensures.kept) c.in-Ok-finish.ensures.kept
+
+pub returns-in-Err-DiskFault-finish-clause-kept : goal.returns-in-Err-DiskFault-finish-clause-kept
+returns-in-Err-DiskFault-finish-clause-kept g c =
+    let t = g.met.T.Side in
+    t.joins c.args.side.now c.fill_state.new.side c.finish.new.side
+    (t.joins c.args.side.now c.start.new.side c.fill_state.new.side c.in-Ok.ensures.kept c.in_ok-made.ensures.kept) c.finish.ensures.kept
+
+pub returns-clause-kept : goal.returns-clause-kept
+returns-clause-kept g c =
+    let t = g.met.T.Side in
+    t.joins c.args.side.now c.fill_state.new.side c.finish.new.side
+    (t.joins c.args.side.now c.start.new.side c.fill_state.new.side c.in-Ok.ensures.kept c.in_ok-made.ensures.kept) c.finish.ensures.kept

@@ -1,0 +1,35 @@
+-- Why no database is made.
+use Rattle.std.specs.Prelude.{ℕ, ◌/◌, ◌^◌, Bool, true, false, is_some, Option, Some, None, if◌then◌else◌}
+use Rattle.bulk_load.specs.declared.error.LoadError.{LoadError}
+use Rattle.bulk_load.specs.declared.error.LoadError.TheVariants.{RowidOrder, Out, OutOfMemory as LoadMemory, TooDeep}
+use Rattle.bulk_load.specs.declared.out.OutError.TheVariants.{TooManyPages as OutPages, DiskFault as OutDisk, EntropyFault as OutEntropy}
+use Rattle.cipher_profile.specs.declared.profile.Profile.{Profile}
+use Rattle.edge_model.specs.Files.{Files}
+use Rattle.make_job.specs.declared.error.MakeError.{MakeError}
+use Rattle.make_job.specs.declared.error.MakeError.TheVariants.{FileThere, JournalThere, TooManyPages, DiskFault, EntropyFault, OutOfMemory}
+
+-- the file that stands in the way, if there is one: Main before Journal
+abbrev pub in_the_way : Files → Option MakeError
+in_the_way files = if is_some files.main then Some FileThere else (if is_some files.journal then Some JournalThere else None)
+
+-- it names a file that stands in the way
+abbrev pub is_refusal : MakeError → Bool
+is_refusal FileThere = true
+is_refusal JournalThere = true
+is_refusal (TooManyPages limit) = false
+is_refusal DiskFault = false
+is_refusal EntropyFault = false
+is_refusal OutOfMemory = false
+
+-- how many pages a file of this profile may have: those of 2^30 bytes
+abbrev pub most_pages : Profile → ℕ
+most_pages profile = 2 ^ 30 / profile.page_size
+
+-- How a load that failed stops the command. Rows are pushed in their order, and no tree of so few levels is too deep.
+abbrev pub load_error : LoadError → MakeError
+load_error RowidOrder = OutOfMemory
+load_error (Out (OutPages limit)) = TooManyPages limit
+load_error (Out OutDisk) = DiskFault
+load_error (Out OutEntropy) = EntropyFault
+load_error LoadMemory = OutOfMemory
+load_error TooDeep = OutOfMemory
