@@ -23,8 +23,8 @@ const SUPER_JOURNAL: &str =
     "the journal belongs to a transaction over several files, which only the program that wrote them can settle; \
     nothing was written";
 
-const PROBED_JOURNAL: &str =
-    "a journal stands beside the file; on a copy of both, `recover 4`, or else `recover 3`, plays it back or removes it";
+const JOURNAL_THERE: &str =
+    "a journal is there; if its file is too, then on a copy of both `recover 4`, or else `recover 3`, plays it back or removes it";
 
 const NOT_ENCRYPTED: &str = "the file begins with `SQLite format 3`: it is not encrypted";
 
@@ -88,7 +88,7 @@ fn advice_on(status: Status) -> Option<&'static str> {
         Status::Refused(Refusal::WalMode) => Some(WAL_MODE),
         Status::Refused(Refusal::JournalPageSize { .. }) => Some(JOURNAL_PAGE_SIZE),
         Status::Refused(Refusal::SuperJournal) => Some(SUPER_JOURNAL),
-        Status::Refused(Refusal::JournalThere) => Some(PROBED_JOURNAL),
+        Status::Refused(Refusal::JournalThere) => Some(JOURNAL_THERE),
         _ => None,
     }
 }

@@ -3,9 +3,10 @@
 /// The text of `--help`.
 pub const HELP: &str = "\
 sqlcipher-tool checks SQLCipher database files, plays back the journal that a stop
-has left, and sets two numbers of their header. It writes nothing else to them.
+has left, sets two numbers of their header, and changes their key. It writes nothing
+else to them. It also makes databases of any number of rows.
 
-usage: sqlcipher-tool FILE COMMAND [PROFILE [FIELD N]] < KEYS
+usage: sqlcipher-tool FILE COMMAND [PROFILE [PROFILE | N | FIELD N]] < KEYS
        sqlcipher-tool --help | --version
 
 commands
@@ -19,17 +20,26 @@ commands
   probe           find the profile whose key fits; prints `profile N`
   recover PROFILE play the journal beside the file back into it and remove it;
                   prints `played: N`, `cold` or `nothing`, and takes no key
-                  (every command but `probe` recovers first)
+                  (every command but `probe` and `make` recovers first)
   stamp PROFILE user-version N
   stamp PROFILE application-id N
                   set this number of the database header, at most 4294967295;
                   prints `stamped`. A stop at any moment leaves the old file or
                   the stamped one
+  rekey PROFILE PROFILE
+                  seal every page under another key, of a profile whose pages have
+                  the same size and reserve (the file's own, or 2 and 3); prints
+                  `rekeyed: N pages`. A stop at any moment leaves the file under
+                  the old key or under the new one
+  make PROFILE N  make a database of N rows, at most 4294967295, where there is
+                  neither a file nor a journal; prints `made: N rows, B data bytes`.
+                  A stop at any moment leaves no file or the whole one
 
 profiles
   1, 2, 3, 4      the version of SQLCipher that wrote the file (1 has no tags)
 
-standard input: one line, the key, but for `recover`
+standard input: one line, the key, but for `recover`; for `rekey` two, the old
+key and the new one
   x'HEX'          a raw key, 64 hex digits
   anything else   a passphrase, 1 to 1,024 bytes up to the line feed
 
@@ -49,6 +59,7 @@ Standard error has a line that says why, where the answer leaves that open.
 examples, on a file FILE
   sqlcipher-tool FILE probe < KEYFILE
   IFS= read -rs KEY && printf '%s\\n' \"$KEY\" | sqlcipher-tool FILE tags 4
+  cat OLD_KEYFILE NEW_KEYFILE | sqlcipher-tool FILE rekey 4 4
 ";
 
 /// The text of `--version`.

@@ -1,24 +1,28 @@
 -- What a command answers, and which databases it keeps.
-use Rattle.std.proofs.Common.{◌≡◌, ◌⊎◌, ⊎_elim, inl, inr, ℕ, Bool, IsTrue, List, [], ◌∷◌, length, ◌<◌, Result, Ok, Err, refl, sym, ◌∙◌, subst, arith}
+use Rattle.std.proofs.Common.{◌≡◌, ◌≢◌, ◌⊎◌, ⊎_elim, inl, inr, ℕ, zero, suc, Bool, IsTrue, List, [], ◌∷◌, length, ◌<◌, ◌*◌, Result, Ok, Err, refl, sym, ap, ◌∙◌, subst, arith}
 use Rattle.std.specs.List.{Contains}
 use Rattle.edge_model.specs.Files.{Files}
 use Rattle.edge_model.specs.Images.{Each, From}
 use Rattle.rollback_journal.specs.Recovery.{Recovers, Keeps as KeepsRecovered}
 use Rattle.cipher_profile.specs.declared.key_line.KeyError.{KeyError}
 use Rattle.cipher_profile.specs.declared.keys.Secret.{Secret}
-use Rattle.cipher_profile.specs.KeyLine.{key_line}
-use Rattle.sqlcipher_tool.specs.Answer.{Answer, IsAnswer, IsAnswered, IsFault, Puts, PutsPart}
+use Rattle.cipher_profile.specs.declared.key_line.KeyError.TheVariants.{KeyMissing, KeyEmpty, KeyTooLong, KeyForm, SourceFault}
+use Rattle.cipher_profile.specs.KeyCauses.{UnlessFault}
+use Rattle.cipher_profile.specs.KeyLine.{after_line, key_line}
+use Rattle.sqlcipher_tool.specs.Answer.{Answer, IsAnswer, IsAnswered, IsFault, IsKeyStatus, Puts, PutsPart}
 use Rattle.sqlcipher_tool.specs.Crash.{KeepsHeld}
-use Rattle.sqlcipher_tool.specs.Due.{and_secrets, key_lines, keyed_answers}
+use Rattle.sqlcipher_tool.specs.Due.{and_secrets, key_answer, key_lines, keyed_answers, secret_answers}
 use Rattle.sqlcipher_tool.specs.declared.command.Command.{Command}
-use Rattle.sqlcipher_tool.specs.declared.command.Command.TheVariants.{Tags, Header, Verify, Export, Probe, Recover, Stamp}
+use Rattle.sqlcipher_tool.specs.declared.command.Command.TheVariants.{Tags, Header, Verify, Export, Probe, Recover, Stamp, Rekey, Make}
 use Rattle.sqlcipher_tool.specs.declared.job.Job.TheVariants.{Verify as VerifyPages, Export as ExportPages}
 use Rattle.sqlcipher_tool.specs.declared.status.Status.{Status}
 use Rattle.sqlcipher_tool.specs.declared.status.Status.TheVariants.{Done, Usage, Refused, KeyRefused, DiskFault, OutputFault, InputFault, EntropyFault, OutOfMemory}
 use Rattle.sqlcipher_tool.specs.Holding.{AreOfSize, DiskRun, Held, HoldsOneOf, HoldsOnly}
-use Rattle.sqlcipher_tool.specs.Promises.{AnswersOne, PutsSo}
+use Rattle.sqlcipher_tool.specs.Promises.{AnswersOne, IsAnsweredEarly, PutsSo, TakesAtMost, TakesLines, after_lines, left_after}
+use Rattle.sqlcipher_tool.specs.Recovered.{recovered_main, recovery_of}
+use Rattle.sqlcipher_tool.specs.Words.{keys_taken}
 use Rattle.sqlcipher_tool.proofs.Conclusions.{no_part}
-use Rattle.sqlcipher_tool.proofs.SomeDue.{recovered_some}
+use Rattle.sqlcipher_tool.proofs.SomeDue.{after_some, make_some, recovered_some, rekeyed_some}
 
 -- what was printed of the answer
 puts_so : (status : Status) (answer : Answer) (before after : List ℕ) → Puts status answer.text before after
@@ -100,24 +104,151 @@ pub printed_one : (answer : Answer) (status : Status) (tells : Bool) (before aft
     → (IsTrue tells → Puts status answer.text before after) → AnswersOne (answer ∷ []) status tells before after
 printed_one answer status tells before after = printed_among (answer ∷ []) answer status tells before after (0, omega arith, refl)
 
--- some answer is due, whatever a key line gives
-one_due : (command : Command) (line : Result Secret KeyError) (files : Files) → 0 < length (keyed_answers command (and_secrets line (Ok [])) files)
-one_due (Tags profile) (Ok secret) files = omega arith
-one_due (Header profile) (Ok secret) files = omega arith
-one_due (Verify profile) (Ok secret) files = recovered_some VerifyPages profile secret files
-one_due (Export profile) (Ok secret) files = recovered_some ExportPages profile secret files
-one_due Probe (Ok secret) files = omega arith
-one_due (Recover profile) (Ok secret) files = omega arith
-one_due (Stamp profile field value) (Ok secret) files = omega arith
-one_due command (Err error) files = omega arith
+abbrev keys_ok : List Secret → Result (List Secret) KeyError
+keys_ok secrets = Ok secrets
+
+abbrev keys_err : KeyError → Result (List Secret) KeyError
+keys_err error = Err error
+
+rest_same : (one other : Secret) (xs ys : List Secret) → keys_ok (one ∷ xs) ≡ keys_ok (other ∷ ys) → xs ≡ ys
+rest_same one other xs ys is = cc
+
+-- so many key lines give so many secrets
+lines_many : (n : ℕ) (left : List ℕ) (secrets : List Secret) → key_lines n left ≡ Ok secrets → length secrets ≡ n
+lines_many zero left secrets is = by_list secrets is
+  where
+    by_list : (secrets : List Secret) → key_lines zero left ≡ Ok secrets → length secrets ≡ 0
+    by_list [] is = refl
+    by_list (secret ∷ rest) is = cc
+lines_many (suc more) left secrets is = by_line (key_line left) (key_lines more (after_line left)) (λ others gave. lines_many more (after_line left) others gave) secrets is
+  where
+    by_list : (secret : Secret) (others secrets : List Secret) → length others ≡ more → Ok (secret ∷ others) ≡ keys_ok secrets → length secrets ≡ suc more
+    by_list secret others [] many is = cc
+    by_list secret others (other ∷ rest) many is = ap suc (ap length (sym (rest_same secret other others rest is)) ∙ many)
+
+    by_line : (line : Result Secret KeyError) (rest : Result (List Secret) KeyError) → ((others : List Secret) → rest ≡ Ok others → length others ≡ more) → (secrets : List Secret)
+        → and_secrets line rest ≡ Ok secrets → length secrets ≡ suc more
+    by_line (Err error) rest many secrets is = cc
+    by_line (Ok secret) (Err error) many secrets is = cc
+    by_line (Ok secret) (Ok others) many secrets is = by_list secret others secrets (many others refl) is
+
+-- some answer is due to as many secrets as the command takes
+secrets_due : (command : Command) (secrets : List Secret) (files : Files) → length secrets ≡ keys_taken command → 0 < length (secret_answers command secrets files)
+secrets_due (Tags profile) [] files is = absurd (omega (arith, is))
+secrets_due (Tags profile) (secret ∷ rest) files is = omega arith
+secrets_due (Header profile) [] files is = absurd (omega (arith, is))
+secrets_due (Header profile) (secret ∷ rest) files is = omega arith
+secrets_due (Verify profile) [] files is = absurd (omega (arith, is))
+secrets_due (Verify profile) (secret ∷ rest) files is = recovered_some VerifyPages profile secret files
+secrets_due (Export profile) [] files is = absurd (omega (arith, is))
+secrets_due (Export profile) (secret ∷ rest) files is = recovered_some ExportPages profile secret files
+secrets_due Probe [] files is = absurd (omega (arith, is))
+secrets_due Probe (secret ∷ rest) files is = omega arith
+secrets_due (Recover profile) secrets files is = omega arith
+secrets_due (Stamp profile field value) [] files is = absurd (omega (arith, is))
+secrets_due (Stamp profile field value) (secret ∷ rest) files is = after_some (recovery_of profile files) _ (omega arith)
+secrets_due (Rekey old new) [] files is = absurd (omega (arith, is))
+secrets_due (Rekey old new) (first ∷ []) files is = absurd (omega (arith, is))
+secrets_due (Rekey old new) (first ∷ second ∷ rest) files is = after_some (recovery_of old files) _ (rekeyed_some old first (recovered_main old files))
+secrets_due (Make profile rows) [] files is = absurd (omega (arith, is))
+secrets_due (Make profile rows) (secret ∷ rest) files is = make_some profile rows files
+
+lines_due : (command : Command) (lines : Result (List Secret) KeyError) (files : Files) → ((secrets : List Secret) → lines ≡ Ok secrets → length secrets ≡ keys_taken command)
+    → 0 < length (keyed_answers command lines files)
+lines_due command (Ok secrets) files many = secrets_due command secrets files (many secrets refl)
+lines_due command (Err error) files many = omega arith
 
 pub first_due : (answers : List Answer) → 0 < length answers → (answer : Answer) × Contains answers answer
 first_due [] some = absurd (omega (arith, some))
 first_due (answer ∷ rest) some = (answer, (0, omega arith, refl))
 
 -- where the input failed, nothing is printed
-pub unread_one : (command : Command) (left : List ℕ) (files : Files) (tells : Bool) (before : List ℕ)
-    → AnswersOne (keyed_answers command (key_lines 1 left) files) InputFault tells before before
-unread_one command left files tells before =
-    let due = first_due (keyed_answers command (key_lines 1 left) files) (one_due command (key_line left) files) in
+pub unread_one : (command : Command) (n : ℕ) (left : List ℕ) (files : Files) (tells : Bool) (before : List ℕ) → n ≡ keys_taken command
+    → AnswersOne (keyed_answers command (key_lines n left) files) InputFault tells before before
+unread_one command n left files tells before is =
+    let due = first_due (keyed_answers command (key_lines n left) files) (lines_due command (key_lines n left) files (λ secrets gave. lines_many n left secrets gave ∙ is)) in
     record { answer = due.0; is_due = due.1; answered = inr tt; puts = λ printed. no_part due.0.begun before before refl }
+
+-- a key line gave no secret, or the input failed
+pub key_one : (command : Command) (n : ℕ) (left : List ℕ) (files : Files) (error : KeyError) (status : Status) (tells : Bool) (before after : List ℕ) → n ≡ keys_taken command
+    → (error ≢ SourceFault → key_lines n left ≡ Err error)
+    → (error ≢ SourceFault → (status ≡ (key_answer error).status) ⊎ (status ≡ OutputFault))
+    → (error ≢ SourceFault → IsTrue tells → Puts status (key_answer error).text before after)
+    → (error ≡ SourceFault → (status ≡ InputFault) × (after ≡ before)) → AnswersOne (keyed_answers command (key_lines n left) files) status tells before after
+key_one command n left files error status tells before after many is answered text failed = by_error error is answered text failed
+  where
+    refused_one : (error : KeyError) → IsAnswer (key_answer error).status → key_lines n left ≡ Err error → (status ≡ (key_answer error).status) ⊎ (status ≡ OutputFault)
+        → (IsTrue tells → Puts status (key_answer error).text before after) → AnswersOne (keyed_answers command (key_lines n left) files) status tells before after
+    refused_one error answer is answered text = subst (λ (lines : Result (List Secret) KeyError). AnswersOne (keyed_answers command lines files) status tells before after) (sym is)
+        (printed_one (key_answer error) status tells before after answer answered text)
+
+    by_error : (error : KeyError) → (error ≢ SourceFault → key_lines n left ≡ Err error) → (error ≢ SourceFault → (status ≡ (key_answer error).status) ⊎ (status ≡ OutputFault))
+        → (error ≢ SourceFault → IsTrue tells → Puts status (key_answer error).text before after)
+        → (error ≡ SourceFault → (status ≡ InputFault) × (after ≡ before)) → AnswersOne (keyed_answers command (key_lines n left) files) status tells before after
+    by_error KeyMissing is answered text failed = let other : KeyMissing ≢ SourceFault = λ e. cc in refused_one KeyMissing tt (is other) (answered other) (text other)
+    by_error KeyEmpty is answered text failed = let other : KeyEmpty ≢ SourceFault = λ e. cc in refused_one KeyEmpty tt (is other) (answered other) (text other)
+    by_error KeyTooLong is answered text failed = let other : KeyTooLong ≢ SourceFault = λ e. cc in refused_one KeyTooLong tt (is other) (answered other) (text other)
+    by_error KeyForm is answered text failed = let other : KeyForm ≢ SourceFault = λ e. cc in refused_one KeyForm tt (is other) (answered other) (text other)
+    by_error SourceFault is answered text failed =
+        let both = failed refl in
+        subst (λ (s : Status). AnswersOne (keyed_answers command (key_lines n left) files) s tells before after) (sym both.0)
+        (subst (λ (l : List ℕ). AnswersOne (keyed_answers command (key_lines n left) files) InputFault tells before l) (sym both.1) (unread_one command n left files tells before many))
+
+-- so the answer came early
+pub key_early : (error : KeyError) (n : ℕ) (left : List ℕ) (status : Status) → (error ≢ SourceFault → key_lines n left ≡ Err error)
+    → (error ≢ SourceFault → (status ≡ (key_answer error).status) ⊎ (status ≡ OutputFault)) → (error ≡ SourceFault → status ≡ InputFault)
+    → (other : KeyError) → key_lines n left ≡ Err other → IsAnsweredEarly status (key_answer other)
+key_early error n left status is answered failed other other_is = by_error error is answered failed
+  where
+    same : (one : KeyError) → key_lines n left ≡ Err one → one ≡ other
+    same one is = err_is (sym is ∙ other_is)
+      where
+        err_is : keys_err one ≡ keys_err other → one ≡ other
+        err_is e = cc
+
+    refused_one : (error : KeyError) → key_lines n left ≡ Err error → (status ≡ (key_answer error).status) ⊎ (status ≡ OutputFault) → IsAnsweredEarly status (key_answer other)
+    refused_one error is answered = ⊎_elim (λ one. inl (one ∙ ap (λ (e : KeyError). (key_answer e).status) (same error is))) (λ out. inr (inl out)) answered
+
+    by_error : (error : KeyError) → (error ≢ SourceFault → key_lines n left ≡ Err error) → (error ≢ SourceFault → (status ≡ (key_answer error).status) ⊎ (status ≡ OutputFault))
+        → (error ≡ SourceFault → status ≡ InputFault) → IsAnsweredEarly status (key_answer other)
+    by_error KeyMissing is answered failed = let no : KeyMissing ≢ SourceFault = λ e. cc in refused_one KeyMissing (is no) (answered no)
+    by_error KeyEmpty is answered failed = let no : KeyEmpty ≢ SourceFault = λ e. cc in refused_one KeyEmpty (is no) (answered no)
+    by_error KeyTooLong is answered failed = let no : KeyTooLong ≢ SourceFault = λ e. cc in refused_one KeyTooLong (is no) (answered no)
+    by_error KeyForm is answered failed = let no : KeyForm ≢ SourceFault = λ e. cc in refused_one KeyForm (is no) (answered no)
+    by_error SourceFault is answered failed = inr (inr (failed refl))
+
+-- and no line more was taken
+pub takes_key : (error : KeyError) (n : ℕ) (status : Status) (before after : List ℕ) → IsKeyStatus status → (error ≡ SourceFault → status ≡ InputFault)
+    → (error ≢ SourceFault → after ≡ after_lines n before) → TakesAtMost (1025 * n) before after → TakesLines status n before after
+takes_key error n Done before after is failed rest most = absurd is
+takes_key error n Usage before after is failed rest most = absurd is
+takes_key error n (Refused refusal) before after is failed rest most = rest (λ e. never (failed e))
+  where
+    never : Refused refusal ≡ InputFault → ⊥
+    never e = cc
+takes_key error n KeyRefused before after is failed rest most = absurd is
+takes_key error n DiskFault before after is failed rest most = absurd is
+takes_key error n OutputFault before after is failed rest most = rest (λ e. never (failed e))
+  where
+    never : OutputFault ≡ InputFault → ⊥
+    never e = cc
+takes_key error n InputFault before after is failed rest most = most
+takes_key error n EntropyFault before after is failed rest most = absurd is
+takes_key error n OutOfMemory before after is failed rest most = absurd is
+
+-- after one line, whatever it gave
+pub one_line : (line : Result Secret KeyError) (rest : List ℕ) → left_after line rest rest ≡ rest
+one_line (Ok secret) rest = refl
+one_line (Err error) rest = refl
+
+-- what a key line that gives no secret says of its line
+pub unless_fault : (T : Type 0) (error : KeyError) (P : KeyError → Type 0) → UnlessFault {T = T} (Err error) (P error) → error ≢ SourceFault → P error
+unless_fault T KeyMissing P holds other = holds
+unless_fault T KeyEmpty P holds other = holds
+unless_fault T KeyTooLong P holds other = holds
+unless_fault T KeyForm P holds other = holds
+unless_fault T SourceFault P holds other = absurd (other refl)
+
+-- it was not carried out
+pub key_not_done : (status : Status) → IsKeyStatus status → status ≡ Done → ⊥
+key_not_done status is done = subst IsKeyStatus done is

@@ -1,17 +1,18 @@
 -- What a command that was asked for keeps, changes and draws, by cases on the command.
-use Rattle.std.proofs.Common.{◌≡◌, ◌⊎◌, ⊎_elim, inl, ◌≤◌, ℕ, Bool, true, false, List, [], ◌∷◌, Option, Some, None, Result, Ok, Err, IsTrue, refl, sym, ap, subst, ◌∙◌, arith}
+use Rattle.std.proofs.Common.{◌≡◌, ◌⊎◌, ⊎_elim, inl, ◌==◌, ◌&&◌, not, if◌then◌else◌, rules, ℕ, Bool, true, false, List, [], ◌∷◌, Option, Some, None, Result, Ok, IsTrue, refl, sym, ap, subst, ◌∙◌, arith}
 use Rattle.cipher_profile.specs.declared.key_line.KeyError.{KeyError}
 use Rattle.cipher_profile.specs.declared.keys.Secret.{Secret}
+use Rattle.cipher_profile.specs.declared.profile.Profile.{Profile}
 use Rattle.edge_model.specs.Files.{Files}
-use Rattle.edge_model.specs.Images.{Each, From}
-use Rattle.rollback_journal.specs.Recovery.{Keeps as KeepsRecovered}
 use Rattle.sqlcipher_tool.specs.Answer.{HasCauses, HasDrawnCauses}
-use Rattle.sqlcipher_tool.specs.Crash.{Changes, GaveKeys, HasOwnDraws, IsDrawnFor, IsSafely, Keeps, KeepsHeld, Stays}
+use Rattle.sqlcipher_tool.specs.Crash.{Changes, GaveKeys, HasOwnDraws, IsDrawnFor, IsSafely, Keeps, KeepsHeld, MakesWith, Stays}
 use Rattle.sqlcipher_tool.specs.Holding.{DiskRun, disk_run}
-use Rattle.sqlcipher_tool.specs.Renewal.{Renewal, renewal, same_key}
-use Rattle.sqlcipher_tool.specs.Words.{draws}
+use Rattle.sqlcipher_tool.specs.Renewal.{Renewal, renewal, same_key, two_keys}
+use Rattle.sqlcipher_tool.specs.Due.{word_refusal}
+use Rattle.sqlcipher_tool.specs.Words.{draws, lacks_tags, layouts_differ}
+use Rattle.sqlcipher_tool.specs.declared.status.Refusal.TheVariants.{NoTags, LayoutDiffers}
 use Rattle.sqlcipher_tool.specs.declared.command.Command.{Command}
-use Rattle.sqlcipher_tool.specs.declared.command.Command.TheVariants.{Tags, Header, Verify, Export, Probe, Recover, Stamp}
+use Rattle.sqlcipher_tool.specs.declared.command.Command.TheVariants.{Tags, Header, Verify, Export, Probe, Recover, Stamp, Rekey, Make}
 use Rattle.sqlcipher_tool.specs.declared.status.Refusal.{Refusal}
 use Rattle.sqlcipher_tool.specs.declared.status.Status.{Status}
 use Rattle.sqlcipher_tool.specs.declared.status.Status.TheVariants.{Done, Refused, OutputFault}
@@ -32,10 +33,10 @@ refusal_not_done refusal status is done = ⊎_elim (λ (same : status ≡ Refuse
 ok_same : (a b : List Secret) → keys_ok a ≡ keys_ok b → a ≡ b
 ok_same a b is = cc
 
--- the one secret that a key line gave
-pub one_secret : (tells : Bool) (lines : Result (List Secret) KeyError) (secret : Secret) → (IsTrue tells → lines ≡ Ok (secret ∷ [])) → (secrets : List Secret)
-    → GaveKeys tells lines secrets → secrets ≡ secret ∷ []
-one_secret tells lines secret is secrets gave = ok_same secrets (secret ∷ []) (sym gave.1 ∙ is gave.0)
+-- the secrets that the key lines gave
+pub same_secrets : (tells : Bool) (lines : Result (List Secret) KeyError) (these : List Secret) → (IsTrue tells → lines ≡ Ok these) → (secrets : List Secret)
+    → GaveKeys tells lines secrets → secrets ≡ these
+same_secrets tells lines these is secrets gave = ok_same secrets these (sym gave.1 ∙ is gave.0)
 
 -- what holds of all secrets that may have been given holds of those that were
 pub changes_of : (status : Status) (command : Command) (run : DiskRun) (gave given : List Secret → Type 0) → ((secrets : List Secret) → given secrets → gave secrets)
@@ -47,6 +48,8 @@ changes_of status (Export profile) run gave given more was = was
 changes_of status Probe run gave given more was = was
 changes_of status (Recover profile) run gave given more was = was
 changes_of status (Stamp profile field value) run gave given more was = λ secrets has. was secrets (more secrets has)
+changes_of status (Rekey old new) run gave given more was = λ secrets has. was secrets (more secrets has)
+changes_of status (Make profile rows) run gave given more was = λ secrets has. was secrets (more secrets has)
 
 pub draws_of : (command : Command) (file drawn : List ℕ) (gave given : List Secret → Type 0) → ((secrets : List Secret) → given secrets → gave secrets)
     → HasOwnDraws command gave file drawn → HasOwnDraws command given file drawn
@@ -82,6 +85,23 @@ undrawn status draws a b d e f g causes same = record {
   entropy_later = omega (arith, same);
 }
 
+-- ---- what the words refuse
+
+-- a command that they don't refuse has the tags that it asks for, and pages of one layout
+pub none_refused : (command : Command) → word_refusal command ≡ None → (lacks_tags command ≡ false) × (layouts_differ command ≡ false)
+none_refused command is = both (lacks_tags command) (layouts_differ command) is
+  where
+    both : (a b : Bool) → (if a then Some NoTags else (if b then Some LayoutDiffers else None)) ≡ None → (a ≡ false) × (b ≡ false)
+    both true b is = cc
+    both false true is = cc
+    both false false is = (refl, refl)
+
+pub same_layout : (old new : Profile) → layouts_differ (Rekey old new) ≡ false → (new.page_size ≡ old.page_size) × (new.reserve ≡ old.reserve)
+same_layout old new is = equal old.page_size new.page_size old.reserve new.reserve is
+  where
+    equal : (a b d e : ℕ) → not (a == b && d == e) ≡ false → (b ≡ a) × (e ≡ d)
+    equal a b d e is = (search (rules, is), search (rules, is))
+
 -- ---- no call of the disk
 
 module _ {D : Type 0} (reads : D → Files) (images : D → Files → Type 0) (moment : D → ℕ) (since : D → ℕ → Files → Type 0)
@@ -95,18 +115,30 @@ module _ {D : Type 0} (reads : D → Files) (images : D → Files → Type 0) (m
     holds = λ list sizes start c ever. start c (only_now disk c ever);
   }
 
+  stays : (disk : D) → Stays (still disk)
+  stays disk = record { reads = refl; no_more = λ c ever. only_now disk c ever; no_fewer = λ c now. now }
+
   pub unchanged_keeps : (command : Command) (disk : D) → Keeps command (still disk)
   unchanged_keeps (Tags profile) disk = held profile.page_size disk
   unchanged_keeps (Header profile) disk = held profile.page_size disk
   unchanged_keeps (Verify profile) disk = held profile.page_size disk
   unchanged_keeps (Export profile) disk = held profile.page_size disk
-  unchanged_keeps Probe disk = record { reads = refl; no_more = λ c ever. only_now disk c ever; no_fewer = λ c now. now }
+  unchanged_keeps Probe disk = stays disk
   unchanged_keeps (Recover profile) disk = held profile.page_size disk
   unchanged_keeps (Stamp profile field value) disk = λ c ever. (c, only_now disk c ever, refl)
+  unchanged_keeps (Rekey old new) disk = λ c ever. (c, only_now disk c ever, refl)
+  unchanged_keeps (Make profile rows) disk = λ there. stays disk
 
   safely : (status : Status) (command : Command) (disk : D) (renewal : Option Renewal) → (status ≡ Done → ⊥) → IsSafely status command (still disk) renewal
   safely status command disk None never = tt
   safely status command disk (Some renewal) never = λ start. inl (record { any_moment = λ c ever. start c (only_now disk c ever); not_done = never })
+
+  makes : (status : Status) (profile : Profile) (rows : ℕ) (disk : D) (secrets : List Secret) → (status ≡ Done → ⊥) → MakesWith status profile rows (still disk) secrets
+  makes status profile rows disk [] never = tt
+  makes status profile rows disk (secret ∷ rest) never = record {
+    made = λ done. absurd (never done);
+    safely = λ free. inl (record { any_moment = λ c ever. (free c (only_now disk c ever)).main; not_done = never });
+  }
 
   pub unchanged_changes : (status : Status) (command : Command) (gave : List Secret → Type 0) (disk : D) → (status ≡ Done → ⊥) → Changes status command gave (still disk)
   unchanged_changes status (Tags profile) gave disk never = tt
@@ -116,3 +148,5 @@ module _ {D : Type 0} (reads : D → Files) (images : D → Files → Type 0) (m
   unchanged_changes status Probe gave disk never = tt
   unchanged_changes status (Recover profile) gave disk never = λ done. absurd (never done)
   unchanged_changes status (Stamp profile field value) gave disk never = λ secrets has. safely status (Stamp profile field value) disk (same_key profile secrets) never
+  unchanged_changes status (Rekey old new) gave disk never = λ secrets has. safely status (Rekey old new) disk (two_keys old new secrets) never
+  unchanged_changes status (Make profile rows) gave disk never = λ secrets has. makes status profile rows disk secrets never

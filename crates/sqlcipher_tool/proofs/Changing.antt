@@ -1,14 +1,15 @@
 -- A change of the file as its disk shows it: old or new at every moment, and at the exit by the status.
-use Rattle.std.proofs.Common.{◌≡◌, ◌⊎◌, ⊎_elim, inl, inr, ◌≤◌, ℕ, List, Some, None, refl, sym, ap, subst, ◌∙◌}
+use Rattle.std.proofs.Common.{◌≡◌, ◌⊎◌, ⊎_elim, inl, inr, ◌≤◌, ℕ, List, Some, None, refl, sym, subst}
 use Rattle.edge_model.specs.Files.{Files, bytes_of}
 use Rattle.edge_model.specs.Images.{Each, From, LeavesOnly}
 use Rattle.edge_model.specs.Moments.{and_then, at_exit, goes_less, started, weaker}
 use Rattle.edge_model.specs.OnlyRead.{OnlyRead}
+use Rattle.transaction.specs.Commit.{IsCommitted, LeavesChanged}
+use Rattle.transaction.specs.Database.{Base, HoldsEither, HoldsOld, HoldsOnly, stored_pages}
 use Rattle.transaction.specs.Facts.{SameFresh}
 use Rattle.sqlcipher_tool.specs.Change.{Commits, KeepsOld, KeepsOrCommits}
 use Rattle.sqlcipher_tool.specs.Crash.{AtExit, StaysOrRenews}
 use Rattle.sqlcipher_tool.specs.Holding.{disk_run}
-use Rattle.sqlcipher_tool.specs.declared.status.Refusal.{Refusal}
 use Rattle.sqlcipher_tool.specs.declared.status.Status.{Status}
 use Rattle.sqlcipher_tool.specs.declared.status.Status.TheVariants.{Done, Usage, Refused, KeyRefused, DiskFault, OutputFault, InputFault, EntropyFault, OutOfMemory}
 
@@ -143,3 +144,29 @@ module _ {D : Type 0} (reads : D → Files) (images : D → Files → Type 0) (m
         is_main = commits.is_main;
         no_journal = commits.no_journal;
       })) was
+
+  -- A transaction from a database that `base` names, after a run in which each image had the old one. `Has` is what the transaction says
+  -- of the new Main.
+  module _ (base : Base) {P : Files → Type 0} {Q : List ℕ → Files → Type 0} {is_new : List ℕ → Type 0} (Has : List ℕ → Type 0)
+      (was_old : (c : Files) → HoldsOld base c → P c) (is_one : (main : List ℕ) → Has main → is_new main)
+      (has_one : (main : List ℕ) → Has main → (c : Files) → HoldsOnly base (stored_pages base.size base.pages main) c → Q main c)
+      {old mid new : D} (before : LeavesOnly moment since old mid P) where
+    joined : (main : List ℕ) → Has main → LeavesOnly moment since mid new (HoldsEither base (stored_pages base.size base.pages main))
+        → LeavesOnly moment since old new (λ c. P c ⊎ Q main c)
+    joined main has run =
+        and_then (weaker (λ c was. inl was) before) (weaker (λ c either. ⊎_elim (λ was. inl (was_old c was)) (λ now. inr (has_one main has c now)) either) run)
+
+    -- it was not committed
+    pub uncommitted : (status : Status) → (status ≡ Done → ⊥) → LeavesOnly moment since mid new (HoldsOld base) → KeepsOld moment since status P old new
+    uncommitted status never run = record { any_moment = and_then before (weaker was_old run); not_done = never }
+
+    pub committed : (main : List ℕ) → Has main → Each (images new) (IsCommitted base main) → LeavesOnly moment since mid new (HoldsEither base (stored_pages base.size base.pages main))
+        → bytes_of (reads new).main ≡ Some main → Commits reads images moment since Done is_new P Q old new
+    committed main has now run is =
+        commits_done main (is_one main has) (joined main has run) (λ c here. (has_one main has c (now c here).0, (now c here).1)) is
+
+    -- the disk failed in it
+    pub broken : LeavesChanged moment since base Has mid new → KeepsOrCommits reads images moment since DiskFault is_new P Q old new
+    broken run = ⊎_elim
+        (λ was. inl (uncommitted DiskFault failed_not_done was))
+        (λ now. inr (commits_failed now.0 (is_one now.0 now.1) (joined now.0 now.1 now.2))) run

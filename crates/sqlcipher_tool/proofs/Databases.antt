@@ -1,20 +1,20 @@
 -- A database as a transaction names it, by its stored pages, and as the tool does, by its keys too.
-use Rattle.std.proofs.Common.{◌≡◌, ◌⊎◌, ⊎_elim, inl, inr, ◌==◌, ◌≤◌, ◌<◌, ◌+◌, ◌-◌, ◌*◌, ◌/◌, ◌%◌, ◌&&◌, not, ℕ, suc, zero, Bool, true, false, List, [], ◌∷◌, length, map, take, drop, Option, Some, None, Result, Ok, Err, refl, sym, ap, subst, ◌∙◌, arith, rules}
+use Rattle.std.proofs.Common.{◌≡◌, ◌==◌, ◌≤◌, ◌+◌, ◌-◌, ◌*◌, ◌/◌, ◌%◌, ◌&&◌, not, ℕ, suc, zero, Bool, true, false, List, [], ◌∷◌, length, map, take, drop, Option, Some, None, Ok, refl, sym, ap, subst, ◌∙◌, arith, rules}
 use Rattle.std.specs.Prelude.{if◌then◌else◌, nat_lt, replicate, IsTrue}
 use Rattle.std.specs.List.{range_with_len, slice_index_or}
 use Rattle.std.proofs.lemmas.List.{drop-drop, length-replicate}
 use Rattle.std.proofs.Math.Nat.{mul-div_cancel, mul-mod_left}
 use Rattle.db_format.specs.Count.{count_of_pages, largest_database, page_count, size_counts}
-use Rattle.db_format.specs.Header.{header_read}
 use Rattle.db_format.specs.Rules.{unless_broken}
 use Rattle.db_format.specs.declared.count.CountRefusal.{CountRefusal}
 use Rattle.db_format.specs.declared.count.CountRefusal.TheVariants.{Ragged, TooLarge, Short}
 use Rattle.db_format.specs.declared.header.Header.{Header}
-use Rattle.db_format.specs.declared.header.HeaderRefusal.{HeaderRefusal}
 use Rattle.edge_model.specs.Files.{File, Files, bytes_of}
-use Rattle.page_codec.specs.Page.{FileKeys, opened, stored_page}
-use Rattle.pager.specs.Database.{Stored, stored_pages as with_pages, count_by, count_of, counted, database, ok_count, stored_by}
+use Rattle.page_codec.specs.Page.{FileKeys, stored_page}
+use Rattle.pager.specs.Database.{stored_pages as with_pages, count_by, count_of, database, stored_by}
+use Rattle.pager.specs.Base.{base_of, is_some_of}
 use Rattle.pager.specs.File.{page_stored}
+use Rattle.pager.specs.UnderWay.{Start}
 use Rattle.rollback_journal.specs.Recovery.{Recovers, RecoversTo}
 use Rattle.transaction.specs.Database.{Base, stored_pages, IsDatabase, HoldsOld, HoldsOnly as HoldsPages}
 use Rattle.transaction.specs.Facts.{IsBase}
@@ -132,10 +132,6 @@ whole_count h len n size is =
 
 -- ---- what a transaction starts from
 
-abbrev pub is_some_of : ℕ → Option ℕ → Bool
-is_some_of n None = false
-is_some_of n (Some m) = m == n
-
 pub some_is : (n : ℕ) (o : Option ℕ) → is_some_of n o ≡ true → o ≡ Some n
 some_is n None is = cc
 some_is n (Some m) is = ap (λ (k : ℕ). Some k) (search rules)
@@ -146,15 +142,6 @@ is_some_is n o is = rw is (itself n)
     itself : (a : ℕ) → (a == a) ≡ true
     itself a = search rules
 
--- of a file with so many pages under these keys
-abbrev pub base_of : FileKeys → List ℕ → ℕ → Base
-base_of keys file n = record {
-  size = keys.profile.page_size;
-  pages = n;
-  start = file;
-  counts = λ len. is_some_of n (count_by keys (page_stored keys file 1) len);
-}
-
 -- of a file that may not be told
 abbrev pub any_base : Bool → FileKeys → List ℕ → ℕ → Base
 any_base tells keys file n = record {
@@ -163,6 +150,10 @@ any_base tells keys file n = record {
   start = if tells then file else replicate (n * keys.profile.page_size) 0;
   counts = λ len. if tells then is_some_of n (count_by keys (page_stored keys file 1) len) else true;
 }
+
+-- after so much was drawn
+abbrev pub start_of : FileKeys → List ℕ → ℕ → List ℕ → Start
+start_of keys file n drawn = record { base = base_of keys file n; drawn = drawn }
 
 pub told_base : (tells : Bool) (keys : FileKeys) (file : List ℕ) (n : ℕ) → IsTrue tells → any_base tells keys file n ≡ base_of keys file n
 told_base tells keys file n told = ap (λ (b : Bool). any_base b keys file n) told

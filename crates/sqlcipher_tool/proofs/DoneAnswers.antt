@@ -1,4 +1,4 @@
--- What `verify` and `export` answer of a file in which nothing stands in the way.
+-- What `verify`, `rekey` and `export` answer of a file in which nothing stands in the way.
 use Rattle.std.proofs.Common.{◌≡◌, ℕ, Bool, true, false, List, [], ◌∷◌, Option, Some, None, Result, Ok, Err, if◌then◌else◌, length, sym, ap, subst, refl, ◌∙◌}
 use Rattle.std.specs.Prelude.{nat_lt}
 use Rattle.cipher_profile.specs.declared.keys.Secret.{Secret}
@@ -23,11 +23,13 @@ use Rattle.pager.specs.declared.opening.OpenError.{OpenError}
 use Rattle.sqlcipher_tool.specs.Answer.{done}
 use Rattle.sqlcipher_tool.specs.Opening.{opened_with}
 use Rattle.sqlcipher_tool.specs.Plain.{IsClean, Opens, refused_in_use}
-use Rattle.sqlcipher_tool.specs.Text.{verify_report}
+use Rattle.sqlcipher_tool.specs.Text.{rekeyed_report, verify_report}
 use Rattle.sqlcipher_tool.specs.Job.{job_answers}
 use Rattle.sqlcipher_tool.specs.Verify.{opened_answers, pages_answers, rest_answers, tags_or}
 use Rattle.sqlcipher_tool.specs.Export.{content_answers}
 use Rattle.sqlcipher_tool.specs.declared.job.Job.TheVariants.{Verify, Export}
+use Rattle.sqlcipher_tool.specs.Rekey.{rekey_answers, rekey_due}
+use Rattle.sqlcipher_tool.proofs.Rekeying.{report_alone}
 use Rattle.sqlcipher_tool.proofs.Verified.{some_is, tags_next, whole_due}
 
 -- ---- the count of a file that opens
@@ -74,6 +76,17 @@ verify_done profile secret file x is clean =
     let same : clean.opens.count ≡ x.count = some_is clean.opens.count x.count (sym clean.opens.is_count ∙ opened_count keys file x is) in
     ap (λ o. opened_answers o (λ count. pages_answers (opened_pages keys file count))) is
     ∙ pages_clean (opened_pages keys file x.count)
+    (subst (λ (n : ℕ). is_database (opened_pages keys file n) ≡ true) same clean.opens.sound)
+    (subst (λ (n : ℕ). refused_in_use (opened_pages keys file n) ≡ []) same clean.accepted)
+
+-- the count of pages alone is due to `rekey`
+pub rekey_done : (profile : Profile) (secret : Secret) (file : List ℕ) (x : Opened) → opened_with profile secret file ≡ Ok x
+    → IsClean (keys_of profile secret file) file → rekey_answers profile secret file ≡ done (rekeyed_report x.count) ∷ []
+rekey_done profile secret file x is clean =
+    let keys = keys_of profile secret file in
+    let same : clean.opens.count ≡ x.count = some_is clean.opens.count x.count (sym clean.opens.is_count ∙ opened_count keys file x is) in
+    ap (λ o. opened_answers o (λ count. rekey_due (opened_pages keys file count))) is
+    ∙ report_alone (opened_pages keys file x.count)
     (subst (λ (n : ℕ). is_database (opened_pages keys file n) ≡ true) same clean.opens.sound)
     (subst (λ (n : ℕ). refused_in_use (opened_pages keys file n) ≡ []) same clean.accepted)
 

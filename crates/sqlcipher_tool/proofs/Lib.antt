@@ -14,9 +14,14 @@ pub mod DoneAnswers
 pub mod StampedFields
 pub mod OpenedParts
 pub mod Databases
+pub mod FileDraws
 pub mod StampedPages
 pub mod Changing
 pub mod Stamping
-pub mod Stamped
+pub mod Changed
+pub mod Making
+pub mod MadeFile
+pub mod Rekeying
+pub mod RekeyedFile
 pub mod Asked
 pub mod Numbers

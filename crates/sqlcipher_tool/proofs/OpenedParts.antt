@@ -1,5 +1,5 @@
 -- What is known of a file that opens.
-use Rattle.std.proofs.Common.{◌≡◌, ◌⊎◌, ◌==◌, ◌≤◌, ◌*◌, ℕ, Bool, true, false, not, List, [], ◌∷◌, length, Option, Some, None, Result, Ok, Err, refl, sym, ap, subst, ◌∙◌, arith, rules}
+use Rattle.std.proofs.Common.{◌≡◌, ◌==◌, ◌≤◌, ℕ, Bool, true, false, not, List, [], ◌∷◌, length, Option, Some, None, Result, Ok, Err, refl, sym, ap, ◌∙◌, rules}
 use Rattle.std.specs.Prelude.{if◌then◌else◌, nat_lt, IsTrue}
 use Rattle.db_format.specs.Bytes.{u16_at}
 use Rattle.db_format.specs.Count.{count_of_pages}
@@ -11,7 +11,7 @@ use Rattle.db_format.specs.declared.header.HeaderRefusal.{HeaderRefusal}
 use Rattle.db_format.specs.declared.header.HeaderRefusal.TheVariants.{HeaderFault}
 use Rattle.page_codec.specs.Page.{FileKeys, accepts, bears_sign, fits, opened}
 use Rattle.page_codec.proofs.TagPlace.{accepts-no_tag}
-use Rattle.pager.specs.Database.{count_by, count_of, counted, ok_count}
+use Rattle.pager.specs.Database.{count_of, counted, ok_count}
 use Rattle.pager.specs.File.{first_page, page_stored}
 use Rattle.pager.specs.Opening.{Opened, file_header, file_opened, first_broken, key_rules, length_rules, unless, with_count, with_header}
 use Rattle.pager.specs.declared.opening.OpenError.{OpenError}
@@ -111,3 +111,13 @@ header_size plain size reserve h is =
 
     same : (a b : ℕ) → (a == b) ≡ true → a ≡ b
     same a b is = search rules
+
+-- the same of keys, a file, a header and a count that are these
+pub opened_same : (keys now : FileKeys) (file main : List ℕ) (header found : Header) (n count : ℕ) → now ≡ keys → main ≡ file → found ≡ header → count ≡ n
+    → file_opened keys file ≡ Ok (record { header = header; count = n }) → file_opened now main ≡ Ok (record { header = found; count = count })
+opened_same keys now file main header found n count one two three four is =
+    ap (λ (k : FileKeys). file_opened k main) one
+    ∙ ap (λ (l : List ℕ). file_opened keys l) two
+    ∙ is
+    ∙ ap (λ (h : Header). Ok (record { header = h; count = n })) (sym three)
+    ∙ ap (λ (m : ℕ). Ok (record { header = found; count = m })) (sym four)

@@ -42,7 +42,7 @@ first_part [] = []
 first_part (part ∷ rest) = part
 
 -- the freelist is the first part
-free_same : (old new : Pages) → parts new ≡ parts old → freelist_walk new nothing ≡ freelist_walk old nothing
+pub free_same : (old new : Pages) → parts new ≡ parts old → freelist_walk new nothing ≡ freelist_walk old nothing
 unfolding first_part
 free_same old new all = ap first_part all
 

@@ -1,5 +1,5 @@
 -- Some answer is due.
-use Rattle.std.proofs.Common.{ℕ, ◌<◌, List, [], ◌∷◌, length, Result, Ok, Err, arith}
+use Rattle.std.proofs.Common.{ℕ, ◌<◌, Bool, true, false, is_some, if◌then◌else◌, List, [], ◌∷◌, length, Result, Ok, Err, arith}
 use Rattle.db_format.specs.Pages.{Pages, nothing}
 use Rattle.btree_model.specs.Finding.{faults, refusals}
 use Rattle.btree_model.specs.Freelist.{freelist_walk}
@@ -15,16 +15,22 @@ use Rattle.pager.specs.Pages.{opened_pages}
 use Rattle.pager.specs.declared.opening.OpenError.{OpenError}
 use Rattle.rollback_journal.specs.declared.recovery.Recovery.{Recovery}
 use Rattle.rollback_journal.specs.declared.recovery.RecoverError.{RecoverError}
-use Rattle.sqlcipher_tool.specs.Answer.{Answer, done}
+use Rattle.sqlcipher_tool.specs.Answer.{Answer, done, refused}
 use Rattle.export_rows.specs.Report.{export_report}
 use Rattle.sqlcipher_tool.specs.Export.{content_answers}
 use Rattle.sqlcipher_tool.specs.Job.{job_answers, job_due}
+use Rattle.sqlcipher_tool.specs.Change.{change_answers}
+use Rattle.sqlcipher_tool.specs.declared.change.Change.{Change}
+use Rattle.sqlcipher_tool.specs.declared.change.Change.TheVariants.{Stamp as StampOf, Rekey as RekeyOf}
 use Rattle.sqlcipher_tool.specs.declared.job.Job.{Job}
 use Rattle.sqlcipher_tool.specs.declared.job.Job.TheVariants.{Verify, Export}
+use Rattle.sqlcipher_tool.specs.Make.{made_answers, make_answers}
 use Rattle.sqlcipher_tool.specs.Opening.{opened_with}
 use Rattle.sqlcipher_tool.specs.Plain.{refused_in_use}
 use Rattle.sqlcipher_tool.specs.Recovered.{answers_after, recovered_answers, recovered_main, recovery_of}
-use Rattle.sqlcipher_tool.specs.Text.{verify_report}
+use Rattle.sqlcipher_tool.specs.Text.{rekeyed_report, verify_report}
+use Rattle.sqlcipher_tool.specs.Rekey.{rekey_answers, rekey_due}
+use Rattle.sqlcipher_tool.specs.declared.status.Refusal.TheVariants.{FileThere, JournalThere}
 use Rattle.sqlcipher_tool.specs.Verify.{else_answers, opened_answers, pages_answers, parts_answers, rest_answers, stop_answers, tags_or}
 
 else_some : (xs ys : List Answer) → 0 < length ys → 0 < length (else_answers xs ys)
@@ -59,6 +65,12 @@ after_some (Err error) answers some = omega arith
 pub content_some : (pages : Pages) → 0 < length (content_answers pages)
 content_some pages = parts_some pages (done (export_report (content (with_zeros pages))))
 
+-- to `rekey`
+pub rekey_some : (pages : Pages) → 0 < length (rekey_due pages)
+rekey_some pages =
+    else_some (stop_answers (first_faults (parts pages)) (first_refusals (parts pages))) _
+    (else_some (stop_answers [] (refused_in_use pages)) (done (rekeyed_report pages.count) ∷ []) (omega arith))
+
 -- to a job
 pub job_some : (job : Job) (pages : Pages) → 0 < length (job_due job pages)
 job_some Verify pages = pages_some pages
@@ -70,3 +82,21 @@ recovered_some job profile secret files =
     let keys = keys_of profile secret main in
     after_some (recovery_of profile files) (job_answers job profile secret main)
     (opened_some (opened_with profile secret main) (λ n. job_due job (opened_pages keys main n)) (λ n. job_some job (opened_pages keys main n)))
+
+pub rekeyed_some : (profile : Profile) (secret : Secret) (file : List ℕ) → 0 < length (rekey_answers profile secret file)
+rekeyed_some profile secret file =
+    let keys = keys_of profile secret file in
+    opened_some (opened_with profile secret file) (λ n. rekey_due (opened_pages keys file n)) (λ n. rekey_some (opened_pages keys file n))
+
+pub change_some : (change : Change) (profile : Profile) (secret : Secret) (file : List ℕ) → 0 < length (change_answers change profile secret file)
+change_some (StampOf field value) profile secret file = omega arith
+change_some RekeyOf profile secret file = rekeyed_some profile secret file
+
+-- to `make`
+pub make_some : (profile : Profile) (rows : ℕ) (files : Files) → 0 < length (make_answers profile rows files)
+make_some profile rows files = by_files (is_some files.main) (is_some files.journal)
+  where
+    by_files : (m j : Bool) → 0 < length (if m then refused FileThere ∷ [] else (if j then refused JournalThere ∷ [] else made_answers profile rows))
+    by_files true j = omega arith
+    by_files false true = omega arith
+    by_files false false = omega arith

@@ -1,30 +1,26 @@
 -- What a transaction leaves that changed page 1 to the stamped one.
-use Rattle.std.proofs.Common.{◌≡◌, ◌≢◌, ◌⊎◌, ⊎_elim, inl, inr, ◌==◌, ◌≤◌, ◌<◌, ◌+◌, ◌-◌, ◌*◌, ◌^◌, ◌%◌, ◌++◌, ℕ, suc, zero, Bool, true, false, IsTrue, List, [], ◌∷◌, length, take, drop, Option, Some, None, Result, Ok, Err, refl, sym, ap, subst, ◌∙◌, arith, rules, length-append, length-take, length-drop}
-use Rattle.std.specs.Prelude.{slice_index, unwrap_or}
-use Rattle.std.specs.List.{Contains}
+use Rattle.std.proofs.Common.{◌≡◌, ◌⊎◌, ⊎_elim, ◌==◌, ◌≤◌, ◌<◌, ◌+◌, ◌-◌, ◌*◌, ◌^◌, ◌++◌, ℕ, suc, zero, Bool, true, false, IsTrue, List, length, take, drop, Some, Result, Ok, sym, ap, subst, ◌∙◌, arith, rules, length-append, length-take, length-drop}
+use Rattle.std.specs.Prelude.{unwrap_or}
 use Rattle.std.proofs.lemmas.List.{take-append-le, take-take, take_all}
-use Rattle.std.proofs.Math.Seq.{take-append_seam, drop-append_seam}
 use Rattle.cipher_profile.specs.Profile.{usable}
 use Rattle.db_format.specs.Bytes.{u32_at}
 use Rattle.db_format.specs.Count.{count_of_pages, largest_database}
 use Rattle.db_format.specs.Header.{header_fields, header_read}
 use Rattle.db_format.specs.declared.header.Header.{Header}
 use Rattle.db_format.specs.declared.header.HeaderRefusal.{HeaderRefusal}
-use Rattle.page_cache.specs.Pages.{bytes_at}
-use Rattle.page_codec.specs.Page.{FileKeys, accepts, opened, salt_of, sealed, tag, untagged, with_tag}
-use Rattle.pager.specs.Changed.{Changed, HasNewPages, IsDrawn, IsSealed, draw_of}
-use Rattle.pager.specs.Database.{count_by, count_of, counted, ok_count}
+use Rattle.page_codec.specs.Page.{FileKeys, opened, salt_of, sealed, tag, untagged}
+use Rattle.pager.specs.Database.{count_by, counted, ok_count}
 use Rattle.pager.specs.File.{page_stored}
-use Rattle.pager.specs.Held.{bytes_of_page}
-use Rattle.transaction.specs.Commit.{IsChanged}
-use Rattle.transaction.specs.Database.{stored_page}
-use Rattle.sqlcipher_tool.specs.Draws.{OwnDraws, draw_at}
+use Rattle.pager.specs.Pages.{is_number}
+use Rattle.pager.specs.UnderWay.{HasNewPages}
+use Rattle.sqlcipher_tool.specs.Draws.{FileDraws}
 use Rattle.sqlcipher_tool.specs.Stamp.{IsStamped, field_at, next_change, stamped_page, with_field}
 use Rattle.sqlcipher_tool.specs.declared.command.Field.{Field}
 use Rattle.sqlcipher_tool.specs.declared.command.Field.TheVariants.{UserVersion, ApplicationId}
-use Rattle.sqlcipher_tool.proofs.Databases.{base_of, counted_pages}
+use Rattle.sqlcipher_tool.proofs.Databases.{counted_pages, start_of}
+use Rattle.sqlcipher_tool.proofs.FileDraws.{both, file_draws, number_is}
 use Rattle.sqlcipher_tool.proofs.OpenedParts.{IsOpen, header_size, open_count}
-use Rattle.sqlcipher_tool.proofs.StampedFields.{stamped, stamped_count, stamped_length, stamped_read}
+use Rattle.sqlcipher_tool.proofs.StampedFields.{stamped_count, stamped_read}
 
 -- ---- lengths
 
@@ -149,10 +145,10 @@ salt_stands keys plain draw long =
 -- A file that opens, and what a transaction leaves of it that changed page 1 alone, to this page.
 module _ (keys : FileKeys) (field : Field) (value n : ℕ) (file : List ℕ) (header : Header) (is_open : IsOpen keys file header n) (some : 1 ≤ n)
     (salt : length keys.salt ≡ 16) (room : 120 ≤ usable keys.profile)
-    (c : Changed) (tells : Bool) (before after main : List ℕ)
-    (is_page : bytes_at 1 c.held ≡ Some (stamped_page field value n (opened keys 1 (page_stored keys file 1))))
-    (numbers : c.numbers ≡ 1 ∷ [])
-    (new : HasNewPages (base_of keys file n) keys c (IsDrawn tells before after) main) where
+    (touched : ℕ → Bool) (pages : ℕ → List ℕ) (tells : Bool) (before after main : List ℕ)
+    (is_page : pages 1 ≡ stamped_page field value n (opened keys 1 (page_stored keys file 1)))
+    (alone : (m : ℕ) → is_number n m ≡ true → touched m ≡ (m == 1))
+    (new : HasNewPages (start_of keys file n before) keys touched pages tells after main) where
   abbrev plain : List ℕ
   plain = opened keys 1 (page_stored keys file 1)
 
@@ -162,22 +158,20 @@ module _ (keys : FileKeys) (field : Field) (value n : ℕ) (file : List ℕ) (he
   abbrev change : ℕ
   change = next_change (u32_at plain 24)
 
-  -- page 1 as it was sealed
-  one : IsSealed keys (record c { numbers = 1 ∷ [] }) new.draws 0 first
-  one = subst (λ (l : List ℕ). IsSealed keys (record c { numbers = l }) new.draws 0 (stored_page keys.profile.page_size (slice_index l 0) main)) numbers
-      (new.changed.sealed 0 (subst (λ (l : List ℕ). 0 < length l) (sym numbers) (omega arith)))
+  numbered : is_number n 1 ≡ true
+  numbered = number_is n 1 (omega arith) some
 
-  held : bytes_of_page 1 c.held ≡ stamped_page field value n plain
-  held = ap (λ (o : Option (List ℕ)). unwrap_or o []) is_page
+  is_touched : touched 1 ≡ true
+  is_touched = alone 1 numbered
 
   pub first_opened : opened keys 1 first ≡ stamped_page field value n plain
-  first_opened = one.opens_to ∙ held
+  first_opened = new.opens 1 numbered is_touched ∙ is_page
 
   place : (60 ≤ field_at field) × (field_at field ≤ 68)
   place = field_place field
 
   long : 100 ≤ length plain
-  long = long_before (field_at field) value n change plain place.1 (omega (arith, room, one.plain, ap length held))
+  long = long_before (field_at field) value n change plain place.1 (omega (arith, room, new.sizes 1 numbered is_touched, ap length is_page))
 
   fits : change < 2 ^ 32
   fits = Rattle.std.proofs.Math.Nat.mod-lt (u32_at plain 24 + 1) (omega arith)
@@ -206,17 +200,19 @@ module _ (keys : FileKeys) (field : Field) (value n : ℕ) (file : List ℕ) (he
 
   -- all other pages stay
   pub others : (m : ℕ) → 2 ≤ m → m ≤ n → page_stored keys main m ≡ page_stored keys file m
-  others m from to = new.changed.others m (omega (arith, from)) to
-      (λ k less same. let two : k ≡ 0 = omega (arith, less, ap length numbers) in
-      let is_one : slice_index c.numbers k ≡ 1 = ap (λ (l : List ℕ). slice_index l k) numbers ∙ ap (λ (i : ℕ). slice_index (1 ∷ []) i) two in
-      omega (arith, from, same, is_one))
+  others m from to =
+      let num = number_is n m (omega (arith, from)) to in
+      new.others m num (alone m num ∙ not_one m from)
+    where
+      not_one : (m : ℕ) → 2 ≤ m → (m == 1) ≡ false
+      not_one m from = search (rules, from)
 
   within : n * keys.profile.page_size ≤ length file
   within = subst (λ (k : ℕ). n * k ≤ length file) sized.1 (counted_pages header (length file) n is_open.counts).within
 
   -- and the new file has all pages
   pub new_long : n * keys.profile.page_size ≤ length main
-  new_long = all_long keys n file main some (omega (arith, size_some)) within one.size others
+  new_long = all_long keys n file main some (omega (arith, size_some)) within (new.whole 1 numbered is_touched) others
 
   pub is_stamped : IsStamped keys field value file main
   is_stamped = record {
@@ -224,32 +220,22 @@ module _ (keys : FileKeys) (field : Field) (value n : ℕ) (file : List ℕ) (he
     was = open_count keys file header n is_open;
     is = new_count (length main) new_long;
     first = first_opened;
-    accepted = one.accepted;
+    accepted = new.accepted 1 numbered is_touched;
     others = others;
   }
 
   pub same_salt : salt_of main ≡ keys.salt
   same_salt =
+      let one = new.own.is_sealed 1 (both (is_number n 1) (touched 1) numbered is_touched) in
       sym (take-take 16 keys.profile.page_size main (omega (arith, size_some)))
       ∙ (ap (λ (at : ℕ). take 16 (take keys.profile.page_size (drop at main))) {x = 0} {y = (1 - 1) * keys.profile.page_size} (omega arith)
-      ∙ (ap (λ (l : List ℕ). take 16 l) one.is ∙ salt_stands keys (bytes_of_page 1 c.held) (draw_of keys.profile.reserve new.draws 0) salt))
+      ∙ (ap (λ (l : List ℕ). take 16 l) one ∙ salt_stands keys (pages 1) _ salt))
 
-  -- its page 1 has the first bytes that were drawn
-  pub own_draws : IsTrue tells → OwnDraws keys main (1 ∷ []) 0 (drop (length before) after)
-  own_draws told = subst (λ (l : List ℕ). OwnDraws keys main (1 ∷ []) 0 l) (sym drawn) (record {
-    places = λ m. 0;
-    within = λ m has. (omega arith, omega (arith, many));
-    sealed_so = λ m has. subst (λ (k : ℕ). page_stored keys main k ≡ sealed keys k (opened keys k (page_stored keys main k)) (draw_at keys new.draws 0)) (sym (the_one m has))
-        (one.is ∙ ap (λ (l : List ℕ). sealed keys 1 l (draw_of keys.profile.reserve new.draws 0)) (sym one.opens_to)
-        ∙ ap (λ (at : ℕ). sealed keys 1 (opened keys 1 first) (take keys.profile.reserve (drop at new.draws))) {x = 0 * keys.profile.reserve} {y = 0} (omega arith));
-    apart = λ m k has_m has_k other. absurd (other (the_one m has_m ∙ sym (the_one k has_k)));
-  })
+  -- its page 1 has bytes of its own of those that were drawn
+  pub own_draws : IsTrue tells → FileDraws keys main (λ m. m == 1) 0 (drop (length before) after)
+  own_draws told = file_draws (start_of keys file n before) keys touched pages tells after main new told (λ m. m == 1) (λ m is.
+      let one = is_one m is in
+      (ap (is_number n) one ∙ numbered, ap touched one ∙ is_touched))
     where
-      drawn : drop (length before) after ≡ new.draws
-      drawn = ap (λ (l : List ℕ). drop (length before) l) (new.own.told told) ∙ drop-append_seam before new.draws
-
-      many : length new.draws ≡ 1 * keys.profile.reserve
-      many = new.own.many ∙ ap (λ (l : List ℕ). length l * keys.profile.reserve) numbers
-
-      the_one : (m : ℕ) → Contains (1 ∷ []) m → m ≡ 1
-      the_one m has = search (rules, has)
+      is_one : (m : ℕ) → (m == 1) ≡ true → m ≡ 1
+      is_one m is = search rules

@@ -1,22 +1,22 @@
 -- A transaction that stamps page 1, as its disk shows it.
-use Rattle.std.proofs.Common.{◌≡◌, ◌⊎◌, ⊎_elim, inl, inr, ◌≤◌, ◌*◌, ℕ, Bool, List, [], ◌∷◌, length, drop, Option, Some, None, Result, Ok, Err, IsTrue, refl, sym, ap, subst, ◌∙◌, arith, rules}
-use Rattle.std.specs.Prelude.{OnOk, unwrap_or, if◌then◌else◌, ◌&&◌, true}
+use Rattle.std.proofs.Common.{◌≡◌, ◌≤◌, ◌*◌, ℕ, Bool, List, [], length, drop, Option, Some, None, Result, Ok, Err, IsTrue, refl, sym, ap, subst, ◌∙◌, arith, rules}
+use Rattle.std.specs.Prelude.{OnOk, unwrap_or, if◌then◌else◌, ◌&&◌, ◌||◌, ◌==◌, true, false}
 use Rattle.cipher_profile.specs.Profile.{IsListed, usable}
 use Rattle.cipher_profile.specs.declared.profile.Profile.{Profile}
 use Rattle.db_format.specs.declared.header.Header.{Header}
 use Rattle.edge_model.specs.Files.{File, Files, bytes_of}
 use Rattle.edge_model.specs.Images.{Each, LeavesOnly}
-use Rattle.edge_model.specs.Moments.{and_then, weaker}
-use Rattle.edge_model.specs.OnlyRead.{OnlyRead}
-use Rattle.page_cache.specs.Pages.{bytes_at}
+use Rattle.edge_model.specs.Moments.{and_then, started, weaker}
+use Rattle.db_format.specs.Pages.{Pages}
+use Rattle.page_cache.specs.Pages.{Page, is_held}
 use Rattle.cipher_profile.specs.Keys.{page_keys}
 use Rattle.cipher_profile.specs.declared.keys.Secret.{Secret}
 use Rattle.edge_model.specs.Causes.{Rose}
 use Rattle.page_codec.specs.Page.{FileKeys, accepts, keys_of, opened, salt_of}
-use Rattle.pager.specs.Changed.{Changed, HasNewPages, IsDrawn}
-use Rattle.pager.specs.Database.{count_by, count_of, counted}
+use Rattle.pager.specs.Base.{base_of}
+use Rattle.pager.specs.Database.{count_by, count_of}
 use Rattle.pager.specs.File.{main_of, page_stored}
-use Rattle.pager.specs.Opening.{Opened, file_opened}
+use Rattle.pager.specs.Opening.{file_opened}
 use Rattle.pager.specs.declared.opening.OpenError.{OpenError}
 use Rattle.pager.specs.declared.opening.OpenError.TheVariants.{Empty as IsEmpty, Short as IsShort, KeyRefused as NoKey, HeaderFault as AtFault, WalMode as IsWal, AutoVacuum as IsVacuum, Ragged as IsRagged, TooLarge as IsLarge, DiskFault as DiskFails, OutOfMemory as MemoryEnds}
 use Rattle.pager.specs.Pages.{is_number, opened_pages}
@@ -24,22 +24,24 @@ use Rattle.pager.specs.declared.fill.PageError.{PageError}
 use Rattle.pager.specs.declared.fill.PageError.TheVariants.{OutOfRange, TagRefused, DiskFault as PageFault, EntropyFault as DrawFault, AllPinned}
 use Rattle.rollback_journal.specs.Playing.{contents, main_of as read_main}
 use Rattle.transaction.specs.Commit.{IsCommitted, LeavesChanged}
-use Rattle.transaction.specs.Database.{Base, HoldsEither, HoldsOld, stored_pages}
-use Rattle.transaction.specs.Facts.{IsBegun}
+use Rattle.pager.specs.UnderWay.{HasNewPages, Start, is_touched, seen_pages}
+use Rattle.transaction.specs.Database.{Base, HoldsEither, HoldsOld, HoldsOnly as HoldsPages, stored_pages}
+use Rattle.transaction.specs.Facts.{IsBase, IsBegun}
+use Rattle.transaction.specs.Marks.{is_marked}
 use Rattle.sqlcipher_tool.specs.Answer.{IsFault}
-use Rattle.sqlcipher_tool.specs.Change.{Commits, IsAlone, KeepsOld, KeepsOrCommits, page_stop, stop_status}
-use Rattle.sqlcipher_tool.specs.Opening.{unopened_answer}
-use Rattle.sqlcipher_tool.specs.Stop.{IsLate, IsOutside, stop_answer, stop_of}
-use Rattle.sqlcipher_tool.specs.Draws.{OwnDraws}
+use Rattle.sqlcipher_tool.specs.Change.{Commits, IsAlone, IsLateChange, KeepsOld, KeepsOrCommits, change_status, page_error, stop_status}
+use Rattle.sqlcipher_tool.specs.Stop.{IsLate, stop_of}
+use Rattle.sqlcipher_tool.specs.Draws.{FileDraws}
 use Rattle.sqlcipher_tool.specs.Holding.{HoldsOnly, held_by}
-use Rattle.sqlcipher_tool.specs.Stamp.{IsStamped, field_at, next_change, stamped_answer, stamped_page, with_field}
+use Rattle.sqlcipher_tool.specs.Stamp.{IsStamped, field_at, next_change, stamped_page, with_field}
 use Rattle.sqlcipher_tool.specs.declared.command.Field.{Field}
+use Rattle.sqlcipher_tool.specs.declared.opening.ChangeError.TheVariants.{Stopped, EntropyFault as EntropyFails}
 use Rattle.sqlcipher_tool.specs.declared.opening.Stop.{Stop}
 use Rattle.sqlcipher_tool.specs.declared.opening.Stop.TheVariants.{Refused as StopRefused, KeyRefused as StopKey, DiskFault as StopDisk, OutOfMemory as StopMemory}
 use Rattle.sqlcipher_tool.specs.declared.status.Status.{Status}
-use Rattle.sqlcipher_tool.specs.declared.status.Status.TheVariants.{Done, DiskFault, EntropyFault}
-use Rattle.sqlcipher_tool.proofs.Changing.{commits_done, commits_failed, read_only}
-use Rattle.sqlcipher_tool.proofs.Databases.{alone_old, any_base, base_of, holds_new, holds_old, is_base, told_base, whole_count}
+use Rattle.sqlcipher_tool.specs.declared.status.Status.TheVariants.{Done, DiskFault}
+use Rattle.sqlcipher_tool.proofs.Changing.{broken, committed}
+use Rattle.sqlcipher_tool.proofs.Databases.{alone_old, any_base, counted_pages, holds_new, holds_old, is_base, start_of, whole_count}
 use Rattle.sqlcipher_tool.proofs.OpenedParts.{IsOpen, header_size, open_accepts, open_count, open_parts}
 use Rattle.sqlcipher_tool.proofs.StampedPages.{is_stamped, new_count, new_long, own_draws, same_salt, count_read}
 
@@ -72,46 +74,69 @@ whole_counts keys file header n is_open size some =
         let each : size ≤ size * n = Rattle.std.proofs.Math.Nat.le-mul_of_pos_right {m = n} size (omega (arith, some)) in
         omega (arith, each, Rattle.std.proofs.Math.Nat.mul_comm size n)
 
--- the same of keys, a file and a count that are these
-pub counts_whole : (keys now : FileKeys) (file main : List ℕ) (header : Header) (n count : ℕ) → now ≡ keys → main ≡ file → count ≡ n
-    → 1 ≤ now.profile.page_size → 1 ≤ count → file_opened keys file ≡ Ok (record { header = header; count = n })
-    → count_by now (page_stored now main 1) (count * now.profile.page_size) ≡ Some count
-counts_whole keys now file main header n count one two three size some opens =
-    subst (λ (i : ℕ). count_by now (page_stored now main 1) (i * now.profile.page_size) ≡ Some i) (sym three)
-    (subst (λ (l : List ℕ). count_by now (page_stored now l 1) (n * now.profile.page_size) ≡ Some n) (sym two)
-    (subst (λ (k : FileKeys). count_by k (page_stored k file 1) (n * k.profile.page_size) ≡ Some n) (sym one)
-    (whole_counts keys file header n (open_parts keys file header n opens) (subst (λ (k : FileKeys). 1 ≤ k.profile.page_size) one size) (subst (λ (i : ℕ). 1 ≤ i) three some))))
-
--- the base of a pager that was only read since
-pub same_base : (tells : Bool) (keys now : FileKeys) (file main : List ℕ) (n count : ℕ) → now ≡ keys → main ≡ file → count ≡ n → IsTrue tells
-    → any_base tells now main count ≡ base_of keys file n
-same_base tells keys now file main n count one two three told =
-    ap (λ (k : FileKeys). any_base tells k main count) one
-    ∙ (ap (λ (l : List ℕ). any_base tells keys l count) two ∙ (ap (λ (i : ℕ). any_base tells keys file i) three ∙ told_base tells keys file n told))
+-- what a transaction of a file that opens starts from
+pub starts : (tells : Bool) (keys : FileKeys) (file : List ℕ) (header : Header) (n : ℕ) → 1 ≤ keys.profile.page_size → 1 ≤ n
+    → (IsTrue tells → file_opened keys file ≡ Ok (record { header = header; count = n })) → IsBase (any_base tells keys file n)
+starts tells keys file header n size some opens = is_base tells keys file n size some (λ told.
+    let is_open = open_parts keys file header n (opens told) in
+    let sized = header_size (opened keys 1 (page_stored keys file 1)) keys.profile.page_size keys.profile.reserve header is_open.read in
+    (subst (λ (k : ℕ). n * k ≤ length file) sized.1 (counted_pages header (length file) n is_open.counts).within, whole_counts keys file header n is_open size some))
 
 -- ---- what is written, and what a refused page stops
 
 one_number : (n : ℕ) → 1 ≤ n → is_number n 1 ≡ true
 one_number n some = search (rules, some)
 
--- page 1 is accepted of a file that opens
-pub accepts_one : (keys now : FileKeys) (file main : List ℕ) (header : Header) (n count : ℕ) → now ≡ keys → main ≡ file → count ≡ n → 1 ≤ n
-    → file_opened keys file ≡ Ok (record { header = header; count = n }) → (opened_pages now main count).accepts 1 ≡ true
-accepts_one keys now file main header n count one two three some opens =
-    same now main count keys file n one two three
-    ∙ (ap (λ (b : Bool). b && accepts keys 1 (page_stored keys file 1)) (one_number n some) ∙ open_accepts keys file header n (open_parts keys file header n opens))
+-- a transaction that changed nothing sees page 1 of the file, which is accepted where the file opens
+pub record SeesFirst (keys : FileKeys) (file : List ℕ) (seen : Pages) : Type 0 where
+  pub page : seen.page 1 ≡ opened keys 1 (page_stored keys file 1)
+  pub accepted : seen.accepts 1 ≡ true
+
+pub sees_first : (keys read write : FileKeys) (file main : List ℕ) (header : Header) (n count : ℕ) (marks : List Bool) (held : List Page) → read ≡ keys → main ≡ file → count ≡ n → held ≡ []
+    → is_touched marks held 1 ≡ false → 1 ≤ n → file_opened keys file ≡ Ok (record { header = header; count = n }) → SeesFirst keys file (seen_pages read write main count marks held)
+sees_first keys read write file main header n count marks held one two three free untouched some opens =
+    subst (λ (k : FileKeys). SeesFirst keys file (seen_pages k write main count marks held)) (sym one)
+    (subst (λ (l : List ℕ). SeesFirst keys file (seen_pages keys write l count marks held)) (sym two)
+    (subst (λ (i : ℕ). SeesFirst keys file (seen_pages keys write file i marks held)) (sym three)
+    (subst (λ (hs : List Page). SeesFirst keys file (seen_pages keys write file n marks hs)) (sym free) sees)))
   where
-    same : (now : FileKeys) (main : List ℕ) (count : ℕ) (keys : FileKeys) (file : List ℕ) (n : ℕ) → now ≡ keys → main ≡ file → count ≡ n
-        → (opened_pages now main count).accepts 1 ≡ (opened_pages keys file n).accepts 1
-    same now main count keys file n one two three = ap (λ (k : FileKeys). (opened_pages k main count).accepts 1) one
-        ∙ (ap (λ (l : List ℕ). (opened_pages keys l count).accepts 1) two ∙ ap (λ (i : ℕ). (opened_pages keys file i).accepts 1) three)
+    unmarked : is_marked 1 marks ≡ false
+    unmarked = ap (λ (hs : List Page). is_touched marks hs 1) (sym free) ∙ untouched
+
+    at_one : (b : Bool) → is_marked 1 marks ≡ b → b ≡ false → (if b then write else keys) ≡ keys
+    at_one true is not = absurd (differ not)
+      where
+        differ : true ≡ false → ⊥
+        differ is = cc
+    at_one false is not = refl
+
+    same : (if is_marked 1 marks then write else keys) ≡ keys
+    same = at_one (is_marked 1 marks) refl unmarked
+
+    sees : SeesFirst keys file (seen_pages keys write file n marks [])
+    sees = record {
+      page = ap (λ (k : FileKeys). (opened_pages k file n).page 1) same ∙ ap (λ (b : Bool). if b then opened keys 1 (page_stored keys file 1) else []) (one_number n some);
+      accepted = ap (λ (k : FileKeys). (opened_pages k file n).accepts 1) same
+          ∙ (ap (λ (b : Bool). b && accepts keys 1 (page_stored keys file 1)) (one_number n some) ∙ open_accepts keys file header n (open_parts keys file header n opens));
+    }
+
+-- a changed page is accepted, as the transaction sees it
+pub sees_changed : (read write : FileKeys) (file : List ℕ) (count n : ℕ) (marks : List Bool) (held : List Page) → is_number count n ≡ true → is_touched marks held n ≡ true
+    → (is_marked n marks ≡ true → accepts write n (page_stored write file n) ≡ true) → (seen_pages read write file count marks held).accepts n ≡ true
+sees_changed read write file count n marks held num is accepted =
+    (elim (is_held n held) as (λ b. (b || is_marked n marks) ≡ true → (b || (opened_pages (if is_marked n marks then write else read) file count).accepts n) ≡ true) [
+      | true ↦ λ t. refl
+      | false ↦ λ t. by_mark (is_marked n marks) t (accepted t)
+    ]) is
+  where
+    by_mark : (b : Bool) → b ≡ true → accepts write n (page_stored write file n) ≡ true → (opened_pages (if b then write else read) file count).accepts n ≡ true
+    by_mark b is here = ap (λ (b : Bool). (opened_pages (if b then write else read) file count).accepts n) is ∙ (ap (λ (b : Bool). b && accepts write n (page_stored write file n)) num ∙ here)
 
 -- the page that is written is the stamped one
-pub page_is : (keys now : FileKeys) (file main : List ℕ) (header fields : Header) (n count pages change : ℕ) (field : Field) (value : ℕ) → now ≡ keys → main ≡ file → count ≡ n
-    → 1 ≤ n → file_opened keys file ≡ Ok (record { header = header; count = n }) → fields ≡ header → change ≡ next_change fields.change → pages ≡ n
-    → with_field 92 change (with_field 28 pages (with_field 24 change (with_field (field_at field) value ((opened_pages now main count).page 1))))
-    ≡ stamped_page field value n (opened keys 1 (page_stored keys file 1))
-page_is keys now file main header fields n count pages change field value one two three some opens same is all =
+pub page_is : (keys : FileKeys) (file seen : List ℕ) (header fields : Header) (n pages change : ℕ) (field : Field) (value : ℕ)
+    → file_opened keys file ≡ Ok (record { header = header; count = n }) → seen ≡ opened keys 1 (page_stored keys file 1) → fields ≡ header → change ≡ next_change fields.change → pages ≡ n
+    → with_field 92 change (with_field 28 pages (with_field 24 change (with_field (field_at field) value seen))) ≡ stamped_page field value n (opened keys 1 (page_stored keys file 1))
+page_is keys file seen header fields n pages change field value opens first same is all =
     ap (λ (l : List ℕ). with_field 92 change (with_field 28 pages (with_field 24 change (with_field (field_at field) value l)))) first
     ∙ (ap (λ (k : ℕ). with_field 92 change (with_field 28 k (with_field 24 change (with_field (field_at field) value plain)))) all
     ∙ ap (λ (k : ℕ). with_field 92 k (with_field 28 n (with_field 24 k (with_field (field_at field) value plain)))) next)
@@ -119,35 +144,44 @@ page_is keys now file main header fields n count pages change field value one tw
     plain : List ℕ
     plain = opened keys 1 (page_stored keys file 1)
 
-    first : (opened_pages now main count).page 1 ≡ plain
-    first = ap (λ (k : FileKeys). (opened_pages k main count).page 1) one
-        ∙ (ap (λ (l : List ℕ). (opened_pages keys l count).page 1) two
-        ∙ (ap (λ (i : ℕ). (opened_pages keys file i).page 1) three ∙ ap (λ (b : Bool). if b then plain else []) (one_number n some)))
-
     next : change ≡ next_change (Rattle.db_format.specs.Bytes.u32_at plain 24)
     next = is ∙ ap (λ (h : Header). next_change h.change)
         (same ∙ sym (header_size plain keys.profile.page_size keys.profile.reserve header (open_parts keys file header n opens).read).0)
 
-pub page_faults : (error : PageError) → ((page : ℕ) → error ≡ TagRefused page → ⊥) → IsFault (stop_status (page_stop error))
+pub page_faults : (error : PageError) → ((page : ℕ) → error ≡ TagRefused page → ⊥) → IsFault (change_status (Err (page_error error)))
 page_faults OutOfRange never = tt
 page_faults (TagRefused page) never = absurd (never page refl)
 page_faults PageFault never = tt
 page_faults DrawFault never = tt
 page_faults AllPinned never = tt
 
-pub page_late : (error : PageError) → IsLate (page_stop error)
+pub page_late : (error : PageError) → IsLateChange (page_error error)
 page_late OutOfRange = tt
 page_late (TagRefused page) = refl
 page_late PageFault = tt
 page_late DrawFault = tt
 page_late AllPinned = tt
 
-pub page_not_done : (error : PageError) → stop_status (page_stop error) ≡ Done → ⊥
+pub page_not_done : (error : PageError) → change_status (Err (page_error error)) ≡ Done → ⊥
 page_not_done OutOfRange is = cc
 page_not_done (TagRefused page) is = cc
 page_not_done PageFault is = cc
 page_not_done DrawFault is = cc
 page_not_done AllPinned is = cc
+
+pub page_disk : (error : PageError) → page_error error ≡ Stopped StopDisk → error ≡ PageFault
+page_disk OutOfRange is = cc
+page_disk (TagRefused page) is = cc
+page_disk PageFault is = refl
+page_disk DrawFault is = cc
+page_disk AllPinned is = cc
+
+pub page_entropy : (error : PageError) → page_error error ≡ EntropyFails → error ≡ DrawFault
+page_entropy OutOfRange is = cc
+page_entropy (TagRefused page) is = cc
+page_entropy PageFault is = cc
+page_entropy DrawFault is = refl
+page_entropy AllPinned is = cc
 
 -- ---- a file that does not open
 
@@ -184,18 +218,6 @@ disk_stops MemoryEnds is = cc
 pub rose_from : (before mid now : ℕ) → before ≤ mid → Rose mid now → Rose before now
 rose_from before mid now le rose = omega (arith, le, rose)
 
-pub unopened_stamp : (stop : Stop) (opened : Result Opened OpenError) → IsOutside stop ⊎ (stop_answer stop ≡ unopened_answer opened)
-    → IsFault (stop_status stop) ⊎ (stop_answer stop ≡ Some (stamped_answer opened))
-unopened_stamp StopDisk opened is = inl tt
-unopened_stamp StopMemory opened is = inl tt
-unopened_stamp StopKey (Ok opened) is = ⊎_elim (λ outside. ⊎_elim (λ (disk : StopKey ≡ StopDisk). cc) (λ (memory : StopKey ≡ StopMemory). cc) outside) (λ same. cc) is
-unopened_stamp StopKey (Err error) is =
-    ⊎_elim (λ outside. ⊎_elim (λ (disk : StopKey ≡ StopDisk). cc) (λ (memory : StopKey ≡ StopMemory). cc) outside) (λ same. inr same) is
-unopened_stamp (StopRefused refusal) (Ok opened) is =
-    ⊎_elim (λ outside. ⊎_elim (λ (disk : StopRefused refusal ≡ StopDisk). cc) (λ (memory : StopRefused refusal ≡ StopMemory). cc) outside) (λ same. cc) is
-unopened_stamp (StopRefused refusal) (Err error) is =
-    ⊎_elim (λ outside. ⊎_elim (λ (disk : StopRefused refusal ≡ StopDisk). cc) (λ (memory : StopRefused refusal ≡ StopMemory). cc) outside) (λ same. inr same) is
-
 -- files with the same salt have the same keys
 pub same_keys : (profile : Profile) (secret : Secret) (one two : List ℕ) → salt_of one ≡ salt_of two → keys_of profile secret one ≡ keys_of profile secret two
 same_keys profile secret one two same = ap (λ (salt : List ℕ). keys_with profile secret salt) same
@@ -205,11 +227,12 @@ same_keys profile secret one two same = ap (λ (salt : List ℕ). keys_with prof
 
 -- ---- the disk
 
+-- A file that opens, alone in each image, and a transaction from it.
 module _ {D : Type 0} (reads : D → Files) (images : D → Files → Type 0) (moment : D → ℕ) (since : D → ℕ → Files → Type 0)
     (counts_now : (disk : D) (t : ℕ) (c : Files) → t ≤ moment disk → images disk c → since disk t c)
     (only_now : (disk : D) (c : Files) → since disk (moment disk) c → images disk c)
     (keys : FileKeys) (file : List ℕ) (header : Header) (n : ℕ) (opens : file_opened keys file ≡ Ok (record { header = header; count = n })) (some : 1 ≤ n)
-    (old mid new : D) (alone : Each (images old) (IsAlone file)) (read : OnlyRead reads images moment since old mid) where
+    (start : Start) (is_start : start.base ≡ base_of keys file n) (old mid new : D) (alone : Each (images old) (IsAlone file)) where
   abbrev pub Old : Files → Type 0
   Old image = HoldsOnly (held_by keys file) image
 
@@ -222,96 +245,89 @@ module _ {D : Type 0} (reads : D → Files) (images : D → Files → Type 0) (m
   counts : count_of keys file ≡ Some n
   counts = open_count keys file header n parts
 
-  pub start : Each (images old) Old
-  start c now = holds_old keys file n c some counts (alone_old keys file n c counts (alone c now))
+  was_old : (c : Files) → HoldsOld start.base c → Old c
+  was_old c holds = holds_old keys file n c some counts (subst (λ (b : Base). HoldsOld b c) is_start holds)
 
-  pub before : LeavesOnly moment since old mid Old
-  before = read_only reads images moment since counts_now only_now start read
-
-  pub begun : (base : Base) → base ≡ base_of keys file n → Rattle.transaction.specs.Facts.IsBase base → IsBegun base (images mid)
-  begun base same is = record {
+  -- what the transaction asks of the images
+  pub begun : IsBase start.base → IsBegun start.base (images old)
+  begun is = record {
     base_is = is;
-    no_journal = λ c now. (alone c (read.same_images.no_more c now)).no_journal;
-    holds = λ c now. subst (λ (b : Base). HoldsOld b c) (sym same) (alone_old keys file n c counts (alone c (read.same_images.no_more c now)));
+    no_journal = λ c now. (alone c now).no_journal;
+    holds = λ c now. subst (λ (b : Base). HoldsOld b c) (sym is_start) (alone_old keys file n c counts (alone c now));
   }
 
-  -- the disk was only read
-  pub kept : (status : Status) → (status ≡ Done → ⊥) → KeepsOld moment since status Old old mid
-  kept status never = record { any_moment = before; not_done = never }
-
-  -- it was not done, and each image had the old database
-  pub not_done : (status : Status) → (status ≡ Done → ⊥) → (base : Base) → base ≡ base_of keys file n → LeavesOnly moment since mid new (HoldsOld base)
-      → KeepsOld moment since status Old old new
-  not_done status never base same run = record {
-    any_moment = and_then before (weaker (λ c holds. holds_old keys file n c some counts (subst (λ (b : Base). HoldsOld b c) same holds)) run);
+  -- it was not begun
+  pub unbegun : (status : Status) → (status ≡ Done → ⊥) → new ≡ old → KeepsOld moment since status Old old new
+  unbegun status never same = record {
+    any_moment = subst (λ (d : D). LeavesOnly moment since old d Old) (sym same) (started only_now old Old (λ c now. holds_old keys file n c some counts (alone_old keys file n c counts (alone c now))));
     not_done = never;
   }
 
-  module _ (field : Field) (value : ℕ) (salt : keys.salt ≡ salt_of file) (listed : IsListed keys.profile)
-      (c : Changed) (is_page : bytes_at 1 c.held ≡ Some (stamped_page field value n (opened keys 1 (page_stored keys file 1)))) (numbers : c.numbers ≡ 1 ∷ [])
-      (tells : Bool) (drawn after : List ℕ) where
-    abbrev pub IsNew : List ℕ → Type 0
-    IsNew main = IsStamped keys field value file main × (salt_of main ≡ keys.salt)
+  module _ (run : LeavesOnly moment since old mid (HoldsOld start.base)) where
+    before : LeavesOnly moment since old mid Old
+    before = weaker was_old run
 
-    abbrev pub HasNew : List ℕ → Type 0
-    HasNew main = HasNewPages (base_of keys file n) keys c (IsDrawn tells drawn after) main
+    -- it was not ended
+    pub unended : (status : Status) → (status ≡ Done → ⊥) → new ≡ mid → KeepsOld moment since status Old old new
+    unended status never same = record { any_moment = subst (λ (d : D). LeavesOnly moment since old d Old) (sym same) before; not_done = never }
 
-    room : 120 ≤ usable keys.profile
-    room = search (rules, listed)
+    -- it was not committed
+    pub unwritten : (status : Status) → (status ≡ Done → ⊥) → LeavesOnly moment since mid new (HoldsOld start.base) → KeepsOld moment since status Old old new
+    unwritten status never next = record { any_moment = and_then before (weaker was_old next); not_done = never }
 
-    size_some : 120 ≤ keys.profile.page_size
-    size_some = search (rules, listed)
+    module _ (field : Field) (value : ℕ) (salt : keys.salt ≡ salt_of file) (listed : IsListed keys.profile)
+        (touched : ℕ → Bool) (pages : ℕ → List ℕ) (tells : Bool) (after : List ℕ)
+        (is_page : pages 1 ≡ stamped_page field value n (opened keys 1 (page_stored keys file 1))) (one : (m : ℕ) → is_number n m ≡ true → touched m ≡ (m == 1)) where
+      abbrev pub IsNew : List ℕ → Type 0
+      IsNew main = IsStamped keys field value file main × (salt_of main ≡ keys.salt)
 
-    salt_long : length keys.salt ≡ 16
-    salt_long = ap length salt ∙ Rattle.std.proofs.lemmas.List.length-take-le 16 file (omega (arith, parts.long, size_some))
+      abbrev pub HasNew : List ℕ → Type 0
+      HasNew main = HasNewPages start keys touched pages tells after main
 
-    pub is_new : (main : List ℕ) → HasNew main → IsNew main
-    is_new main has = (
-      is_stamped keys field value n file header parts some salt_long room c tells drawn after main is_page numbers has,
-      same_salt keys field value n file header parts some salt_long room c tells drawn after main is_page numbers has,
-    )
+      room : 120 ≤ usable keys.profile
+      room = search (rules, listed)
 
-    holds : (main : List ℕ) → HasNew main → (image : Files) → Rattle.transaction.specs.Database.HoldsOnly (base_of keys file n) (stored_pages keys.profile.page_size n main) image → New main image
-    holds main has image is =
-        holds_new keys file main n image some (new_count keys field value n file header parts some salt_long room c tells drawn after main is_page numbers has)
-        (new_long keys field value n file header parts some salt_long room c tells drawn after main is_page numbers has) is
+      size_some : 120 ≤ keys.profile.page_size
+      size_some = search (rules, listed)
 
-    either : (main : List ℕ) → HasNew main → (image : Files) → HoldsEither (base_of keys file n) (stored_pages keys.profile.page_size n main) image → Old image ⊎ New main image
-    either main has image is = ⊎_elim (λ was. inl (holds_old keys file n image some counts was)) (λ now. inr (holds main has image now)) is
+      salt_long : length keys.salt ≡ 16
+      salt_long = ap length salt ∙ Rattle.std.proofs.lemmas.List.length-take-le 16 file (omega (arith, parts.long, size_some))
 
-    joined : (main : List ℕ) → HasNew main → LeavesOnly moment since mid new (HoldsEither (base_of keys file n) (stored_pages keys.profile.page_size n main))
-        → LeavesOnly moment since old new (λ c. Old c ⊎ New main c)
-    joined main has run = and_then (weaker (λ c was. inl was) before) (weaker (either main has) run)
+      as_file : (main : List ℕ) → HasNew main → HasNewPages (start_of keys file n start.drawn) keys touched pages tells after main
+      as_file main has = subst (λ (b : Base). HasNewPages (record { base = b; drawn = start.drawn }) keys touched pages tells after main) is_start has
 
-    -- the commit was done
-    pub done : HasNew (read_main (reads new)) → Each (images new) (IsCommitted (base_of keys file n) (read_main (reads new)))
-        → LeavesOnly moment since mid new (HoldsEither (base_of keys file n) (stored_pages keys.profile.page_size n (read_main (reads new))))
-        → Commits reads images moment since Done IsNew Old New old new
-    done has now one =
-        let main = read_main (reads new) in
-        let long : 1 ≤ length main = omega (
-          arith,
-          size_some,
-          one_at n keys.profile.page_size (length main) some
-              (new_long keys field value n file header parts some salt_long room c tells drawn after main is_page numbers has),
-        ) in
-        commits_done reads images moment since counts_now only_now main (is_new main has) (joined main has one)
-        (λ c here. (holds main has c (now c here).0, (now c here).1)) (some_file (reads new).main long)
-      where
-        one_at : (n size len : ℕ) → 1 ≤ n → n * size ≤ len → size ≤ len
-        one_at n size len some le =
-            let each : size ≤ size * n = Rattle.std.proofs.Math.Nat.le-mul_of_pos_right {m = n} size (omega (arith, some)) in
-            omega (arith, each, le, Rattle.std.proofs.Math.Nat.mul_comm size n)
+      is_new : (main : List ℕ) → HasNew main → IsNew main
+      is_new main has = (
+        is_stamped keys field value n file header parts some salt_long room touched pages tells start.drawn after main is_page one (as_file main has),
+        same_salt keys field value n file header parts some salt_long room touched pages tells start.drawn after main is_page one (as_file main has),
+      )
 
-    -- the disk failed in it
-    pub failed : LeavesChanged moment since (base_of keys file n) HasNew mid new → KeepsOrCommits reads images moment since DiskFault IsNew Old New old new
-    failed run = ⊎_elim
-        (λ was. inl (not_done DiskFault failed_not_done (base_of keys file n) refl was))
-        (λ now. inr (commits_failed reads images moment since counts_now only_now now.0 (is_new now.0 now.1) (joined now.0 now.1 now.2))) run
-      where
-        failed_not_done : DiskFault ≡ Done → ⊥
-        failed_not_done is = cc
+      is_long : (main : List ℕ) → HasNew main → n * keys.profile.page_size ≤ length main
+      is_long main has = new_long keys field value n file header parts some salt_long room touched pages tells start.drawn after main is_page one (as_file main has)
 
-    pub draws : IsTrue tells → HasNew (read_main (reads new)) → OwnDraws keys (main_of (reads new)) (1 ∷ []) 0 (drop (length drawn) after)
-    draws told has = subst (λ (l : List ℕ). OwnDraws keys l (1 ∷ []) 0 (drop (length drawn) after)) (sym (main_same (reads new)))
-        (own_draws keys field value n file header parts some salt_long room c tells drawn after (read_main (reads new)) is_page numbers has told)
+      holds : (main : List ℕ) → HasNew main → (image : Files) → HoldsPages start.base (stored_pages start.base.size start.base.pages main) image → New main image
+      holds main has image is =
+          holds_new keys file main n image some (new_count keys field value n file header parts some salt_long room touched pages tells start.drawn after main is_page one (as_file main has)) (is_long main has)
+          (subst (λ (b : Base). HoldsPages b (stored_pages b.size b.pages main) image) is_start is)
+
+      -- the commit was done
+      pub done : HasNew (read_main (reads new)) → Each (images new) (IsCommitted start.base (read_main (reads new)))
+          → LeavesOnly moment since mid new (HoldsEither start.base (stored_pages start.base.size start.base.pages (read_main (reads new))))
+          → Commits reads images moment since Done IsNew Old New old new
+      done has now either =
+          let main = read_main (reads new) in
+          committed reads images moment since counts_now only_now start.base HasNew was_old is_new holds before main has now either
+          (some_file (reads new).main (omega (arith, size_some, one_at n keys.profile.page_size (length main) some (is_long main has))))
+        where
+          one_at : (n size len : ℕ) → 1 ≤ n → n * size ≤ len → size ≤ len
+          one_at n size len some le =
+              let each : size ≤ size * n = Rattle.std.proofs.Math.Nat.le-mul_of_pos_right {m = n} size (omega (arith, some)) in
+              omega (arith, each, le, Rattle.std.proofs.Math.Nat.mul_comm size n)
+
+      -- the disk failed in it
+      pub failed : LeavesChanged moment since start.base HasNew mid new → KeepsOrCommits reads images moment since DiskFault IsNew Old New old new
+      failed run = broken reads images moment since counts_now only_now start.base HasNew was_old is_new holds before run
+
+      pub draws : IsTrue tells → HasNew (read_main (reads new)) → FileDraws keys (main_of (reads new)) (λ m. m == 1) 0 (drop (length start.drawn) after)
+      draws told has = subst (λ (l : List ℕ). FileDraws keys l (λ m. m == 1) 0 (drop (length start.drawn) after)) (sym (main_same (reads new)))
+          (own_draws keys field value n file header parts some salt_long room touched pages tells start.drawn after (read_main (reads new)) is_page one (as_file (read_main (reads new)) has) told)

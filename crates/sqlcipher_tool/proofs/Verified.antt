@@ -86,7 +86,7 @@ contains_first (y ∷ ys) x h = (0, omega arith, some_is y x h)
 
 -- ---- which answers are due
 
-else_left : (xs ys : List Answer) (answer : Answer) → Contains xs answer → Contains (else_answers xs ys) answer
+pub else_left : (xs ys : List Answer) (answer : Answer) → Contains xs answer → Contains (else_answers xs ys) answer
 else_left [] ys answer h = absurd (omega (arith, h.1))
 else_left (x ∷ xs) ys answer h = h
 
@@ -144,7 +144,7 @@ first_or : {X : Type 0} (sound all : Bool) (rest found : List X) → (all ≡ tr
 first_or true all rest found later h = later h
 first_or false all rest found later h = cc
 
-no_first_fault : (parts : List (List Finding)) → list_all is_sound parts ≡ true → first_faults parts ≡ []
+pub no_first_fault : (parts : List (List Finding)) → list_all is_sound parts ≡ true → first_faults parts ≡ []
 no_first_fault [] h = refl
 no_first_fault (part ∷ rest) h = first_or (is_sound part) (list_all is_sound rest) (first_faults rest) (faults part) (no_first_fault rest) h
 
@@ -356,7 +356,7 @@ none_counted test from (suc n) none i within =
     by_first test from n (λ k lower rest. none_counted test (from + 1) n rest k lower) (test from) refl
     (sym (sum_by-cons (λ m. if test m then 1 else 0) from (range_with_len (from + 1) n)) ∙ none) i within
 
-none_where : (test : Test) (n : ℕ) → ((i : ℕ) → i < n → test (1 + i) ≡ false) → numbers_where test n ≡ []
+pub none_where : (test : Test) (n : ℕ) → ((i : ℕ) → i < n → test (1 + i) ≡ false) → numbers_where test n ≡ []
 none_where test zero none = refl
 none_where test (suc n) none =
     filter-append test (page_numbers n) (suc n ∷ [])
@@ -367,7 +367,7 @@ not_not : (a : Bool) → not a ≡ false → a ≡ true
 not_not true h = refl
 not_not false h = cc
 
-left_by : (a leaf accepted : Bool) → (leaf ≡ false → accepted ≡ true) → (not leaf && not accepted) ≡ false
+pub left_by : (a leaf accepted : Bool) → (leaf ≡ false → accepted ≡ true) → (not leaf && not accepted) ≡ false
 left_by a true accepted there = refl
 left_by a false accepted there = ap not (there refl)
 

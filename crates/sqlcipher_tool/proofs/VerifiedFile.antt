@@ -1,5 +1,5 @@
 -- What `verify` answers of a file, from what it answers of its pages.
-use Rattle.std.proofs.Common.{◌≡◌, ◌⊎◌, ⊎_elim, ℕ, zero, suc, ◌≤◌, ◌<◌, Bool, true, false, List, [], ◌∷◌, length, Option, Some, None, Result, Ok, Err, if◌then◌else◌, sym, ap, ◌∙◌, subst, arith}
+use Rattle.std.proofs.Common.{◌≡◌, ◌⊎◌, ⊎_elim, ℕ, zero, suc, ◌≤◌, ◌<◌, Bool, true, false, is_some, List, [], ◌∷◌, length, Option, Some, None, Result, Ok, Err, if◌then◌else◌, sym, ap, ◌∙◌, subst, arith}
 use Rattle.std.specs.Prelude.{slice_index_or}
 use Rattle.std.specs.List.{Contains}
 use Rattle.std.proofs.lemmas.Bool.{le-leb}
@@ -14,7 +14,7 @@ use Rattle.db_format.specs.declared.header.HeaderRefusal.{HeaderRefusal}
 use Rattle.btree_model.specs.Finding.{faults, refusals}
 use Rattle.btree_model.specs.Freelist.{freelist_walk}
 use Rattle.btree_model.specs.Parts.{counts, first_faults, first_refusals, parts}
-use Rattle.page_codec.specs.Page.{FileKeys, opened}
+use Rattle.page_codec.specs.Page.{FileKeys, keys_of, opened}
 use Rattle.pager.specs.File.{first_page}
 use Rattle.pager.specs.Opening.{Opened, file_header, file_opened, first_broken, key_rules, length_rules, unless, with_count, with_header}
 use Rattle.pager.specs.Pages.{opened_pages}
@@ -22,7 +22,10 @@ use Rattle.pager.specs.declared.opening.OpenError.{OpenError}
 use Rattle.pager.specs.declared.opening.OpenError.TheVariants.{Empty, Short, KeyRefused as NoKey, HeaderFault, WalMode, AutoVacuum, Ragged, TooLarge, DiskFault as DiskFails, OutOfMemory as MemoryEnds}
 use Rattle.rollback_journal.specs.declared.recovery.Recovery.{Recovery}
 use Rattle.rollback_journal.specs.declared.recovery.RecoverError.{RecoverError}
-use Rattle.sqlcipher_tool.specs.Answer.{Answer, IsFault, done}
+use Rattle.edge_model.specs.Files.{Files}
+use Rattle.sqlcipher_tool.specs.Answer.{Answer, IsFault, done, refused}
+use Rattle.sqlcipher_tool.specs.Make.{made_answers, make_answers}
+use Rattle.sqlcipher_tool.specs.declared.status.Refusal.TheVariants.{FileThere, JournalThere}
 use Rattle.btree_model.specs.Content.{content}
 use Rattle.btree_model.specs.Plain.{with_zeros}
 use Rattle.export_rows.specs.Report.{export_report}
@@ -34,8 +37,16 @@ use Rattle.sqlcipher_tool.specs.Opening.{open_answer, unopened_answer}
 use Rattle.sqlcipher_tool.specs.Plain.{refused_in_use}
 use Rattle.sqlcipher_tool.specs.Promises.{AnswersOne, IsUnrecovered}
 use Rattle.sqlcipher_tool.specs.Recovered.{answers_after, recovery_answer, refused_answer}
+use Rattle.sqlcipher_tool.specs.Change.{change_answers}
+use Rattle.sqlcipher_tool.specs.Rekey.{rekey_due}
+use Rattle.sqlcipher_tool.specs.Stamp.{stamped_answer}
+use Rattle.sqlcipher_tool.specs.Opening.{opened_with}
+use Rattle.sqlcipher_tool.specs.declared.change.Change.{Change}
+use Rattle.sqlcipher_tool.specs.declared.change.Change.TheVariants.{Stamp as StampOf, Rekey as RekeyOf}
+use Rattle.cipher_profile.specs.declared.keys.Secret.{Secret}
+use Rattle.cipher_profile.specs.declared.profile.Profile.{Profile}
 use Rattle.sqlcipher_tool.specs.Stop.{IsOutside, stop_answer}
-use Rattle.sqlcipher_tool.specs.Text.{verify_report}
+use Rattle.sqlcipher_tool.specs.Text.{rekeyed_report, verify_report}
 use Rattle.sqlcipher_tool.specs.Verify.{else_answers, opened_answers, pages_answers, rest_answers, stop_answers, tags_or}
 use Rattle.sqlcipher_tool.specs.declared.opening.Stop.{Stop}
 use Rattle.sqlcipher_tool.specs.declared.opening.Stop.TheVariants.{DiskFault as StopDisk, OutOfMemory as StopMemory}
@@ -100,6 +111,15 @@ pub unopened_due : (opened : Result Opened OpenError) (job : ℕ → List Answer
     → (answer : Answer) → stop_answer stop ≡ Some answer → Contains (opened_answers opened job) answer
 unopened_due opened job stop is answer same =
     ⊎_elim (λ outside. absurd (outside_none stop answer outside same)) (λ unopened. unopened_by opened job answer (sym same ∙ unopened)) is
+
+-- the one answer to a stamp of it
+pub unopened_stamp : (stop : Stop) (opened : Result Opened OpenError) (answer : Answer) → IsOutside stop ⊎ (stop_answer stop ≡ unopened_answer opened) → stop_answer stop ≡ Some answer
+    → answer ≡ stamped_answer opened
+unopened_stamp stop opened answer is same = ⊎_elim (λ outside. absurd (outside_none stop answer outside same)) (λ unopened. by_opened opened (sym unopened ∙ same)) is
+  where
+    by_opened : (opened : Result Opened OpenError) → unopened_answer opened ≡ Some answer → answer ≡ stamped_answer opened
+    by_opened (Ok opened) is = cc
+    by_opened (Err error) is = sym (some_is (open_answer error) answer is)
 
 -- a recovery that is refused
 refused_by : (r : Result Recovery RecoverError) (answers : List Answer) (answer : Answer) → Some answer ≡ refused_answer r → Contains (answers_after r answers) answer
@@ -172,10 +192,37 @@ opened_of_file : (job : Job) (opened : Result Opened OpenError) (pages : ℕ →
 opened_of_file job (Ok opened) pages = job_of_file job (pages opened.count)
 opened_of_file job (Err error) pages = (open_of_file error, tt)
 
+rekey_of_file : (pages : Pages) → AreOfFile (rekey_due pages)
+rekey_of_file pages =
+    else_of_file (stop_answers (first_faults (parts pages)) (first_refusals (parts pages))) _ (defects_of_file (first_faults (parts pages)) (first_refusals (parts pages)))
+    (else_of_file (stop_answers [] (refused_in_use pages)) (done (rekeyed_report pages.count) ∷ []) (defects_of_file [] (refused_in_use pages)) ((λ is. is), tt))
+
+rekeyed_of_file : (opened : Result Opened OpenError) (pages : ℕ → Pages) → AreOfFile (opened_answers opened (λ n. rekey_due (pages n)))
+rekeyed_of_file (Ok opened) pages = rekey_of_file (pages opened.count)
+rekeyed_of_file (Err error) pages = (open_of_file error, tt)
+
+stamped_of_file : (opened : Result Opened OpenError) → IsOfFile (stamped_answer opened)
+stamped_of_file (Ok opened) is = is
+stamped_of_file (Err error) is = open_of_file error is
+
+pub change_of_file : (change : Change) (profile : Profile) (secret : Secret) (file : List ℕ) → AreOfFile (change_answers change profile secret file)
+change_of_file (StampOf field value) profile secret file = (stamped_of_file (opened_with profile secret file), tt)
+change_of_file RekeyOf profile secret file = rekeyed_of_file (opened_with profile secret file) (λ n. opened_pages (keys_of profile secret file) file n)
+
+pub make_of_file : (profile : Profile) (rows : ℕ) (files : Files) → AreOfFile (make_answers profile rows files)
+make_of_file profile rows files = by_files (is_some files.main) (is_some files.journal)
+  where
+    by_files : (m j : Bool) → AreOfFile (if m then refused FileThere ∷ [] else (if j then refused JournalThere ∷ [] else made_answers profile rows))
+    by_files true j = ((λ is. is), tt)
+    by_files false true = ((λ is. is), tt)
+    by_files false false = ((λ is. is), ((λ is. is), tt))
+
 -- so no status that is answered to a file is
+pub answers_recovered : (answers : List Answer) → AreOfFile answers → (status : Status) (tells : Bool) (before after : List ℕ) → AnswersOne answers status tells before after → IsUnrecovered status → ⊥
+answers_recovered answers all status tells before after one is =
+    ⊎_elim (λ (same : status ≡ one.answer.status). of_file_at answers one.answer all one.is_due.0 one.is_due.1 one.is_due.2 (subst IsUnrecovered same is))
+    (λ (fault : IsFault status). fault_of_file status fault is) one.answered
+
 pub job_recovered : (job : Job) (opened : Result Opened OpenError) (pages : ℕ → Pages) (status : Status) (tells : Bool) (before after : List ℕ)
     → AnswersOne (opened_answers opened (λ n. job_due job (pages n))) status tells before after → IsUnrecovered status → ⊥
-job_recovered job opened pages status tells before after one is =
-    ⊎_elim (λ (same : status ≡ one.answer.status).
-    of_file_at (opened_answers opened (λ n. job_due job (pages n))) one.answer (opened_of_file job opened pages) one.is_due.0 one.is_due.1 one.is_due.2 (subst IsUnrecovered same is))
-    (λ (fault : IsFault status). fault_of_file status fault is) one.answered
+job_recovered job opened pages = answers_recovered (opened_answers opened (λ n. job_due job (pages n))) (opened_of_file job opened pages)

@@ -2,7 +2,7 @@
 use Rattle.std.specs.Prelude.{◌≡◌, ◌⊎◌, ◌≤◌, ℕ, Bool, true, false, IsTrue, List, [], ◌∷◌, ◌++◌, Option, Some, None, if◌then◌else◌}
 use Rattle.edge_model.specs.Causes.{Rose}
 use Rattle.sqlcipher_tool.specs.declared.status.Refusal.{Refusal}
-use Rattle.sqlcipher_tool.specs.declared.status.Refusal.TheVariants.{NoTags, KeyMissing, KeyEmpty, KeyTooLong, KeyForm, JournalThere, Empty, Short, HeaderFault, WalMode, AutoVacuum, Ragged, TooLarge, PageTag, JournalPageSize, SuperJournal, Defect}
+use Rattle.sqlcipher_tool.specs.declared.status.Refusal.TheVariants.{NoTags, LayoutDiffers, KeyMissing, KeyEmpty, KeyTooLong, KeyForm, FileThere, JournalThere, Empty, Short, HeaderFault, WalMode, AutoVacuum, Ragged, TooLarge, PageTag, JournalPageSize, SuperJournal, Defect, TooManyPages}
 use Rattle.sqlcipher_tool.specs.declared.status.Status.{Status}
 use Rattle.sqlcipher_tool.specs.declared.status.Status.TheVariants.{Done, Usage, Refused, KeyRefused, DiskFault, OutputFault, InputFault, EntropyFault, OutOfMemory}
 use Rattle.sqlcipher_tool.specs.Text.{refusal_line, usage_line, key_refused_line}
@@ -93,10 +93,12 @@ code_of OutOfMemory = 8
 -- the words or the key line alone decide it
 abbrev pub is_early : Refusal → Bool
 is_early NoTags = true
+is_early LayoutDiffers = true
 is_early KeyMissing = true
 is_early KeyEmpty = true
 is_early KeyTooLong = true
 is_early KeyForm = true
+is_early FileThere = false
 is_early JournalThere = false
 is_early Empty = false
 is_early (Short len) = false
@@ -109,14 +111,17 @@ is_early (PageTag page) = false
 is_early (JournalPageSize found) = false
 is_early SuperJournal = false
 is_early (Defect defect) = false
+is_early (TooManyPages limit) = false
 
 -- it is a page whose tag does not hold
 abbrev pub is_page : Refusal → Bool
 is_page NoTags = false
+is_page LayoutDiffers = false
 is_page KeyMissing = false
 is_page KeyEmpty = false
 is_page KeyTooLong = false
 is_page KeyForm = false
+is_page FileThere = false
 is_page JournalThere = false
 is_page Empty = false
 is_page (Short len) = false
@@ -129,6 +134,7 @@ is_page (PageTag page) = true
 is_page (JournalPageSize found) = false
 is_page SuperJournal = false
 is_page (Defect defect) = false
+is_page (TooManyPages limit) = false
 
 -- the one line of an answer that has one; pages whose tags do not hold have a line each
 abbrev pub line_of : Status → Option (List ℕ)
@@ -196,3 +202,15 @@ IsStopStatus OutputFault = Unit {0}
 IsStopStatus InputFault = ⊥
 IsStopStatus EntropyFault = ⊥
 IsStopStatus OutOfMemory = Unit {0}
+
+-- how a command ends whose key lines gave no secret
+abbrev pub IsKeyStatus : Status → Type 0
+IsKeyStatus Done = ⊥
+IsKeyStatus Usage = ⊥
+IsKeyStatus (Refused refusal) = Unit {0}
+IsKeyStatus KeyRefused = ⊥
+IsKeyStatus DiskFault = ⊥
+IsKeyStatus OutputFault = Unit {0}
+IsKeyStatus InputFault = Unit {0}
+IsKeyStatus EntropyFault = ⊥
+IsKeyStatus OutOfMemory = ⊥

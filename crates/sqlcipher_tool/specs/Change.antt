@@ -1,17 +1,28 @@
 -- How a command that changes the file ends, before its last line is printed.
-use Rattle.std.specs.Prelude.{◌≡◌, ◌⊎◌, List, ℕ, Option, Some, None, Result, Ok, Err}
+use Rattle.std.specs.Prelude.{◌≡◌, ◌⊎◌, List, [], ◌∷◌, ℕ, Option, Some, None, Result, Ok, Err}
 use Rattle.edge_model.specs.Files.{Files, bytes_of}
 use Rattle.edge_model.specs.Images.{Each, LeavesOnly}
+use Rattle.cipher_profile.specs.declared.keys.Secret.{Secret}
+use Rattle.cipher_profile.specs.declared.profile.Profile.{Profile}
 use Rattle.pager.specs.declared.fill.PageError.{PageError}
 use Rattle.pager.specs.declared.fill.PageError.TheVariants.{OutOfRange, TagRefused, DiskFault as PageFault, EntropyFault as DrawFault, AllPinned}
+use Rattle.rekey_job.specs.declared.error.RekeyError.{RekeyError}
+use Rattle.rekey_job.specs.declared.error.RekeyError.TheVariants.{LayoutDiffers, PageTag as RekeyTag, Defect as RekeyDefect, DiskFault as RekeyDisk, EntropyFault as RekeyEntropy, OutOfMemory as RekeyMemory}
 use Rattle.sqlcipher_tool.specs.Answer.{Answer, done}
 use Rattle.sqlcipher_tool.specs.Crash.{AtExit}
+use Rattle.sqlcipher_tool.specs.Rekey.{rekey_answers}
+use Rattle.sqlcipher_tool.specs.Renewal.{Renewal}
+use Rattle.sqlcipher_tool.specs.Stamp.{stamp_answer}
 use Rattle.sqlcipher_tool.specs.Stop.{IsLate, stop_answer}
+use Rattle.sqlcipher_tool.specs.declared.change.Change.{Change}
+use Rattle.sqlcipher_tool.specs.declared.change.Change.TheVariants.{Stamp as StampOf, Rekey as RekeyOf}
+use Rattle.sqlcipher_tool.specs.declared.command.Command.{Command}
+use Rattle.sqlcipher_tool.specs.declared.command.Command.TheVariants.{Stamp, Rekey}
 use Rattle.sqlcipher_tool.specs.declared.opening.ChangeError.{ChangeError}
 use Rattle.sqlcipher_tool.specs.declared.opening.ChangeError.TheVariants.{Stopped, EntropyFault as EntropyFails}
 use Rattle.sqlcipher_tool.specs.declared.opening.Stop.{Stop}
 use Rattle.sqlcipher_tool.specs.declared.opening.Stop.TheVariants.{Refused as StopRefused, KeyRefused as StopKey, DiskFault as StopDisk, OutOfMemory as StopMemory}
-use Rattle.sqlcipher_tool.specs.declared.status.Refusal.TheVariants.{PageTag}
+use Rattle.sqlcipher_tool.specs.declared.status.Refusal.TheVariants.{PageTag, Defect as RefusedDefect}
 use Rattle.sqlcipher_tool.specs.declared.status.Status.{Status}
 use Rattle.sqlcipher_tool.specs.declared.status.Status.TheVariants.{Done, Refused, KeyRefused, DiskFault, EntropyFault, OutOfMemory}
 
@@ -22,24 +33,49 @@ stop_status StopKey = KeyRefused
 stop_status StopDisk = DiskFault
 stop_status StopMemory = OutOfMemory
 
-abbrev pub change_status : Result (Unit {0}) ChangeError → Status
-change_status (Ok done) = Done
+abbrev pub change_status : Result (List ℕ) ChangeError → Status
+change_status (Ok report) = Done
 change_status (Err (Stopped stop)) = stop_status stop
 change_status (Err EntropyFails) = EntropyFault
 
--- the answer of a change with this report, or of the stop in its place
-abbrev pub change_answer : List ℕ → Result (Unit {0}) ChangeError → Option Answer
-change_answer report (Ok unit) = Some (done report)
-change_answer report (Err (Stopped stop)) = stop_answer stop
-change_answer report (Err EntropyFails) = None
+-- the answer of a change with this report, or of the stop in its place; none where something outside failed
+abbrev pub change_answer : Result (List ℕ) ChangeError → Option Answer
+change_answer (Ok report) = Some (done report)
+change_answer (Err (Stopped stop)) = stop_answer stop
+change_answer (Err EntropyFails) = None
 
 -- how a page that is refused stops the command
-abbrev pub page_stop : PageError → Stop
-page_stop OutOfRange = StopMemory
-page_stop (TagRefused page) = StopRefused (PageTag page)
-page_stop PageFault = StopDisk
-page_stop DrawFault = StopMemory
-page_stop AllPinned = StopMemory
+abbrev pub page_error : PageError → ChangeError
+page_error OutOfRange = Stopped StopMemory
+page_error (TagRefused page) = Stopped (StopRefused (PageTag page))
+page_error PageFault = Stopped StopDisk
+page_error DrawFault = EntropyFails
+page_error AllPinned = Stopped StopMemory
+
+-- how a rekey that does not come to its end stops the command; that the layouts differ is known before
+abbrev pub rekey_error : RekeyError → ChangeError
+rekey_error LayoutDiffers = Stopped StopMemory
+rekey_error (RekeyTag page) = Stopped (StopRefused (PageTag page))
+rekey_error (RekeyDefect defect) = Stopped (StopRefused (RefusedDefect defect))
+rekey_error RekeyDisk = Stopped StopDisk
+rekey_error RekeyEntropy = EntropyFails
+rekey_error RekeyMemory = Stopped StopMemory
+
+-- the command that makes such a change of a file of the one profile to one of the other
+abbrev pub command_of : Change → Profile → Profile → Command
+command_of (StampOf field value) old new = Stamp old field value
+command_of RekeyOf old new = Rekey old new
+
+-- `stamp` keeps the key, and `rekey` the layout
+abbrev pub IsChangeBetween : Change → Renewal → Type 0
+IsChangeBetween (StampOf field value) renewal = (renewal.new_profile ≡ renewal.old_profile) × (renewal.new_secret ≡ renewal.old_secret)
+IsChangeBetween RekeyOf renewal =
+    (renewal.new_profile.page_size ≡ renewal.old_profile.page_size) × (renewal.new_profile.reserve ≡ renewal.old_profile.reserve)
+
+-- what may be answered of the file, once it is recovered
+abbrev pub change_answers : Change → Profile → Secret → List ℕ → List Answer
+change_answers (StampOf field value) profile secret file = stamp_answer profile secret file ∷ []
+change_answers RekeyOf profile secret file = rekey_answers profile secret file
 
 -- it is none that the words or the key line alone decide
 abbrev pub IsLateChange : ChangeError → Type 0

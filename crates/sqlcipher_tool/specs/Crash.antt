@@ -1,16 +1,20 @@
 -- What a crash at any moment of a run leaves, and what the run leaves at its end.
-use Rattle.std.specs.Prelude.{◌≡◌, ◌⊎◌, ◌<◌, ℕ, Bool, IsTrue, List, length, Option, Some, None, Result, Ok}
+use Rattle.std.specs.Prelude.{◌≡◌, ◌⊎◌, ◌<◌, ℕ, Bool, true, IsTrue, List, [], ◌∷◌, length, Option, Some, None, Result, Ok}
 use Rattle.edge_model.specs.Files.{Files, bytes_of}
 use Rattle.edge_model.specs.Images.{Each, From}
+use Rattle.disk_side.specs.Published.{IsNew as IsAlone}
+use Rattle.make_job.specs.Free.{IsFree}
+use Rattle.make_job.specs.Made.{IsMade}
 use Rattle.cipher_profile.specs.declared.key_line.KeyError.{KeyError}
 use Rattle.cipher_profile.specs.declared.keys.Secret.{Secret}
 use Rattle.cipher_profile.specs.declared.profile.Profile.{Profile}
 use Rattle.rollback_journal.specs.Recovery.{IsDone, Keeps as KeepsRecovered}
 use Rattle.sqlcipher_tool.specs.declared.command.Command.{Command}
-use Rattle.sqlcipher_tool.specs.declared.command.Command.TheVariants.{Tags, Header, Verify, Export, Probe, Recover, Stamp}
+use Rattle.sqlcipher_tool.specs.declared.command.Command.TheVariants.{Tags, Header, Verify, Export, Probe, Recover, Stamp, Rekey, Make}
 use Rattle.sqlcipher_tool.specs.declared.status.Status.{Status}
 use Rattle.sqlcipher_tool.specs.declared.status.Status.TheVariants.{Done, Usage, Refused, KeyRefused, DiskFault, OutputFault, InputFault, EntropyFault, OutOfMemory}
 use Rattle.sqlcipher_tool.specs.Holding.{Held, HoldsOnly, HoldsOneOf, AreOfSize, DiskRun, held_by}
+use Rattle.sqlcipher_tool.specs.Make.{has_main_or_journal}
 use Rattle.sqlcipher_tool.specs.Recovered.{recovered_main}
 use Rattle.sqlcipher_tool.specs.Renewal.{Renewal, renewal, old_keys, new_keys, IsNew, AreDrawn}
 use Rattle.pager.specs.File.{main_of}
@@ -86,6 +90,21 @@ IsSafely status command run (Some renewal) =
     → StaysOrRenews status (IsNew command renewal (recovered_main renewal.old_profile run.before)) (HoldsOnly (old_held renewal run.before))
     (λ file. HoldsOnly (new_held renewal file)) run
 
+-- ---- a new file where none was
+
+abbrev pub HasNoMain : Files → Type 0
+HasNoMain image = image.main ≡ None
+
+-- After Done Main is a made file. Where no image at the start has a Main or a Journal, there is never a Main, or there is one made file.
+pub record Makes (status : Status) (profile : Profile) (secret : Secret) (rows : ℕ) (run : DiskRun) : Type 0 where
+  pub made : status ≡ Done → IsMade profile secret rows (main_of run.after)
+  pub safely : Each run.at_start IsFree → StaysOrRenews status (IsMade profile secret rows) HasNoMain IsAlone run
+
+-- the same with the secret that was given
+abbrev pub MakesWith : Status → Profile → ℕ → DiskRun → List Secret → Type 0
+MakesWith status profile rows run [] = Unit {0}
+MakesWith status profile rows run (secret ∷ rest) = Makes status profile secret rows run
+
 -- ---- by command
 
 -- the input told these secrets
@@ -101,6 +120,8 @@ Keeps (Export profile) run = KeepsHeld profile.page_size run
 Keeps Probe run = Stays run
 Keeps (Recover profile) run = KeepsHeld profile.page_size run
 Keeps (Stamp profile field value) run = KeepsFresh run
+Keeps (Rekey old new) run = KeepsFresh run
+Keeps (Make profile rows) run = has_main_or_journal run.before ≡ true → Stays run
 
 -- after Done, where Main had a byte, every image has the recovered file as Main and no journal
 abbrev pub IsRecovered : Profile → Status → DiskRun → Type 0
@@ -119,6 +140,9 @@ Changes status (Recover profile) gave run = IsRecovered profile status run
 Changes status (Stamp profile field value) gave run =
     (secrets : List Secret) → gave secrets
     → IsSafely status (Stamp profile field value) run (renewal (Stamp profile field value) secrets)
+Changes status (Rekey old new) gave run =
+    (secrets : List Secret) → gave secrets → IsSafely status (Rekey old new) run (renewal (Rekey old new) secrets)
+Changes status (Make profile rows) gave run = (secrets : List Secret) → gave secrets → MakesWith status profile rows run secrets
 
 -- what was drawn for the new file
 abbrev pub IsDrawnFor : Command → Option Renewal → List ℕ → List ℕ → Type 0

@@ -1,19 +1,11 @@
--- Each sealed page has drawn bytes of its own.
-use Rattle.std.specs.Prelude.{◌≡◌, ◌≢◌, ◌⊎◌, ℕ, ◌+◌, ◌≤◌, List, take, drop, length}
-use Rattle.std.specs.List.{Contains}
+-- The bytes that the pages of a file were sealed with.
+use Rattle.std.specs.Prelude.{◌≡◌, ℕ, List}
+use Rattle.db_format.specs.Pages.{Test}
 use Rattle.page_codec.specs.Page.{FileKeys, opened, sealed}
 use Rattle.pager.specs.File.{page_stored}
+use Rattle.transaction.specs.Draws.{OwnDraws}
 
--- the R bytes that were drawn from this place on
-abbrev pub draw_at : FileKeys → List ℕ → ℕ → List ℕ
-draw_at keys drawn at = take keys.profile.reserve (drop at drawn)
-
--- Each of these pages of the file was sealed with R bytes that stand together in what was drawn, from `first` on, and no
--- byte serves two pages.
-pub record OwnDraws (keys : FileKeys) (file : List ℕ) (numbers : List ℕ) (first : ℕ) (drawn : List ℕ) : Type 0 where
-  pub places : ℕ → ℕ
-  pub within : (n : ℕ) → Contains numbers n → (first ≤ places n) × (places n + keys.profile.reserve ≤ length drawn)
-  pub sealed_so : (n : ℕ) → Contains numbers n
-      → page_stored keys file n ≡ sealed keys n (opened keys n (page_stored keys file n)) (draw_at keys drawn (places n))
-  pub apart : (n m : ℕ) → Contains numbers n → Contains numbers m → n ≢ m
-      → (places n + keys.profile.reserve ≤ places m) ⊎ (places m + keys.profile.reserve ≤ places n)
+-- Each page of a test is stored as what it opens to, sealed with bytes of its own of those that were drawn, from an offset on.
+abbrev pub FileDraws : FileKeys → List ℕ → Test → ℕ → List ℕ → Type 0
+FileDraws keys file pages from drawn =
+    OwnDraws keys.profile.reserve from drawn pages (λ n draw. page_stored keys file n ≡ sealed keys n (opened keys n (page_stored keys file n)) draw)

@@ -7,22 +7,24 @@ use Rattle.cipher_profile.specs.declared.keys.Secret.{Secret}
 use Rattle.cipher_profile.specs.KeyLine.{after_line, key_line}
 use Rattle.sqlcipher_tool.specs.Answer.{Answer, refused, usage}
 use Rattle.sqlcipher_tool.specs.declared.command.Command.{Command}
-use Rattle.sqlcipher_tool.specs.declared.command.Command.TheVariants.{Tags, Header, Verify, Export, Probe, Recover, Stamp}
+use Rattle.sqlcipher_tool.specs.declared.command.Command.TheVariants.{Tags, Header, Verify, Export, Probe, Recover, Stamp, Rekey, Make}
 use Rattle.sqlcipher_tool.specs.declared.status.Refusal.{Refusal}
-use Rattle.sqlcipher_tool.specs.declared.status.Refusal.TheVariants.{NoTags, KeyMissing as RefusedMissing, KeyEmpty as RefusedEmpty, KeyTooLong as RefusedLong, KeyForm as RefusedForm}
+use Rattle.sqlcipher_tool.specs.declared.status.Refusal.TheVariants.{NoTags, LayoutDiffers, KeyMissing as RefusedMissing, KeyEmpty as RefusedEmpty, KeyTooLong as RefusedLong, KeyForm as RefusedForm}
 use Rattle.sqlcipher_tool.specs.declared.status.Status.TheVariants.{InputFault}
 use Rattle.sqlcipher_tool.specs.Header.{header_answer}
 use Rattle.sqlcipher_tool.specs.Job.{job_answers}
 use Rattle.sqlcipher_tool.specs.declared.job.Job.TheVariants.{Verify as VerifyPages, Export as ExportPages}
+use Rattle.sqlcipher_tool.specs.Make.{make_answers}
 use Rattle.sqlcipher_tool.specs.Probe.{probe_answer}
 use Rattle.sqlcipher_tool.specs.Recovered.{recovered_answer, recovered_answers, recovery_answer, recovery_of}
+use Rattle.sqlcipher_tool.specs.Rekey.{rekey_answers}
 use Rattle.sqlcipher_tool.specs.Stamp.{stamp_answer}
 use Rattle.sqlcipher_tool.specs.Tags.{tags_answer}
-use Rattle.sqlcipher_tool.specs.Words.{form, keys_taken, lacks_tags}
+use Rattle.sqlcipher_tool.specs.Words.{form, keys_taken, lacks_tags, layouts_differ}
 
 -- the refusal that the words alone decide
 abbrev pub word_refusal : Command → Option Refusal
-word_refusal command = if lacks_tags command then Some NoTags else None
+word_refusal command = if lacks_tags command then Some NoTags else (if layouts_differ command then Some LayoutDiffers else None)
 
 -- so many key lines give these secrets, or the first line that gives none has this error
 abbrev pub and_secrets : Result Secret KeyError → Result (List Secret) KeyError → Result (List Secret) KeyError
@@ -47,6 +49,12 @@ abbrev pub with_one : List Secret → (Secret → List Answer) → List Answer
 with_one [] answers = []
 with_one (secret ∷ rest) answers = answers secret
 
+-- a command with two
+abbrev pub with_two : List Secret → (Secret → Secret → List Answer) → List Answer
+with_two [] answers = []
+with_two (first ∷ []) answers = []
+with_two (first ∷ second ∷ rest) answers = answers first second
+
 -- the answers to a command with its secrets
 abbrev pub secret_answers : Command → List Secret → Files → List Answer
 secret_answers (Tags profile) secrets files =
@@ -60,7 +68,9 @@ secret_answers (Export profile) secrets files =
 secret_answers Probe secrets files = with_one secrets (λ secret. probe_answer secret files ∷ [])
 secret_answers (Recover profile) secrets files = recovery_answer (recovery_of profile files) ∷ []
 secret_answers (Stamp profile field value) secrets files =
-    with_one secrets (λ secret. recovered_answer profile files (stamp_answer profile secret) ∷ [])
+    with_one secrets (λ secret. recovered_answers profile files (λ file. stamp_answer profile secret file ∷ []))
+secret_answers (Rekey old new) secrets files = with_two secrets (λ first second. recovered_answers old files (rekey_answers old first))
+secret_answers (Make profile rows) secrets files = with_one secrets (λ secret. make_answers profile rows files)
 
 -- the answers to a command with what its key lines give
 abbrev pub keyed_answers : Command → Result (List Secret) KeyError → Files → List Answer

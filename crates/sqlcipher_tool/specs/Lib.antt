@@ -8,10 +8,12 @@ pub mod Export
 pub mod Header
 pub mod Holding
 pub mod Job
+pub mod Make
 pub mod Opening
 pub mod Probe
 pub mod Promises
 pub mod Recovered
+pub mod Rekey
 pub mod Renewal
 pub mod Stamp
 pub mod Stop

@@ -1,5 +1,5 @@
 -- The words of the top call's clauses.
-use Rattle.std.specs.Prelude.{◌≡◌, ◌⊎◌, ◌≤◌, ◌*◌, ◌==◌, ℕ, zero, suc, not, Bool, true, IsTrue, List, ◌++◌, drop, Some, None, Result, Ok, Err}
+use Rattle.std.specs.Prelude.{◌≡◌, ◌⊎◌, ◌≤◌, ◌*◌, ◌==◌, ℕ, zero, suc, not, Bool, true, IsTrue, List, [], ◌∷◌, ◌++◌, drop, Some, None, Result, Ok, Err}
 use Rattle.std.specs.List.{Contains}
 use Rattle.cipher_profile.specs.declared.keys.Secret.{Secret}
 use Rattle.cipher_profile.specs.declared.key_line.KeyError.{KeyError}
@@ -10,7 +10,7 @@ use Rattle.sqlcipher_tool.specs.declared.status.Refusal.TheVariants.{JournalPage
 use Rattle.sqlcipher_tool.specs.declared.status.Status.{Status}
 use Rattle.sqlcipher_tool.specs.declared.status.Status.TheVariants.{Done, Usage, Refused, KeyRefused, DiskFault, OutputFault, InputFault, EntropyFault, OutOfMemory}
 use Rattle.sqlcipher_tool.specs.Due.{key_lines, word_refusal}
-use Rattle.sqlcipher_tool.specs.Words.{form, keys_taken, recovers}
+use Rattle.sqlcipher_tool.specs.Words.{form, keys_taken, takes_memory}
 
 -- ---- what was asked
 
@@ -33,6 +33,11 @@ left_after (Err error) rest left = left
 abbrev pub after_lines : ℕ → List ℕ → List ℕ
 after_lines zero left = left
 after_lines (suc more) left = left_after (key_line left) (after_lines more (after_line left)) (after_line left)
+
+-- what two key lines gave, as a list
+abbrev pub two_secrets : Result (Secret × Secret) KeyError → Result (List Secret) KeyError
+two_secrets (Ok both) = Ok (both.0 ∷ both.1 ∷ [])
+two_secrets (Err error) = Err error
 
 -- of the input at most so many bytes were taken
 pub record TakesAtMost (most : ℕ) (before after : List ℕ) : Type 0 where
@@ -92,10 +97,10 @@ IsUnrecovered InputFault = ⊥
 IsUnrecovered EntropyFault = ⊥
 IsUnrecovered OutOfMemory = ⊥
 
--- memory runs out only in a command that recovers, then or while the file is opened, which comes after the words and the key lines
+-- memory runs out only in a command that takes some, which comes after the words and the key lines
 pub record ComesLate (words : List (List ℕ)) (tells : Bool) (left : List ℕ) : Type 0 where
   pub command : Command
   pub is_form : form words ≡ Some command
-  pub recovers_first : recovers command ≡ true
+  pub takes_some : takes_memory command ≡ true
   pub no_refusal : word_refusal command ≡ None
   pub has_keys : IsTrue tells → (secrets : List Secret) × (key_lines (keys_taken command) left ≡ Ok secrets)

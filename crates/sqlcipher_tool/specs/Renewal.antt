@@ -1,14 +1,19 @@
 -- What the new file of a command is to the old one.
-use Rattle.std.specs.Prelude.{ℕ, List, [], ◌∷◌, Option, Some, None}
+use Rattle.std.specs.Prelude.{ℕ, ◌==◌, List, [], ◌∷◌, Option, Some, None, unwrap_or}
 use Rattle.cipher_profile.specs.declared.keys.Secret.{Secret}
 use Rattle.cipher_profile.specs.declared.profile.Profile.{Profile}
 use Rattle.page_codec.specs.Page.{FileKeys, keys_of}
 use Rattle.sqlcipher_tool.specs.declared.command.Command.{Command}
-use Rattle.sqlcipher_tool.specs.declared.command.Command.TheVariants.{Tags, Header, Verify, Export, Probe, Recover, Stamp}
-use Rattle.sqlcipher_tool.specs.Draws.{OwnDraws}
+use Rattle.sqlcipher_tool.specs.declared.command.Command.TheVariants.{Tags, Header, Verify, Export, Probe, Recover, Stamp, Rekey, Make}
+use Rattle.make_job.specs.Made.{HasOwnDraws, IsMade}
+use Rattle.pager.specs.Database.{count_of}
+use Rattle.pager.specs.Pages.{is_number}
+use Rattle.rekey_job.specs.Rekeyed.{IsRekeyed}
+use Rattle.sqlcipher_tool.specs.Draws.{FileDraws}
 use Rattle.sqlcipher_tool.specs.Stamp.{IsStamped}
 
--- A command that renews a file: its profiles and its secrets, the old ones and the new ones.
+-- A command that leaves a new file: the profile and the secret of the old one, and those of the new one. Before `make` there is no
+-- old one, and both are those of the new one.
 pub record Renewal : Type 0 where
   pub old_profile : Profile
   pub old_secret : Secret
@@ -21,7 +26,14 @@ same_key profile [] = None
 same_key profile (secret ∷ rest) =
     Some (record { old_profile = profile; old_secret = secret; new_profile = profile; new_secret = secret })
 
--- none for a command that renews no file
+-- one from one key to another
+abbrev pub two_keys : Profile → Profile → List Secret → Option Renewal
+two_keys old new [] = None
+two_keys old new (first ∷ []) = None
+two_keys old new (first ∷ second ∷ rest) =
+    Some (record { old_profile = old; old_secret = first; new_profile = new; new_secret = second })
+
+-- none for a command that leaves no new file
 abbrev pub renewal : Command → List Secret → Option Renewal
 renewal (Tags profile) secrets = None
 renewal (Header profile) secrets = None
@@ -30,12 +42,22 @@ renewal (Export profile) secrets = None
 renewal Probe secrets = None
 renewal (Recover profile) secrets = None
 renewal (Stamp profile field value) secrets = same_key profile secrets
+renewal (Rekey old new) secrets = two_keys old new secrets
+renewal (Make profile rows) secrets = same_key profile secrets
 
 abbrev pub old_keys : Renewal → List ℕ → FileKeys
 old_keys renewal file = keys_of renewal.old_profile renewal.old_secret file
 
 abbrev pub new_keys : Renewal → List ℕ → FileKeys
 new_keys renewal file = keys_of renewal.new_profile renewal.new_secret file
+
+-- the file `after` under the new keys is the file `before`, of some pages, under the old ones
+abbrev pub IsRekeyedSo : FileKeys → FileKeys → List ℕ → List ℕ → Type 0
+IsRekeyedSo old new before after = (count : ℕ) × IsRekeyed old new count before after
+
+-- how many pages the file has, 0 where it has no count
+abbrev pub pages_of : FileKeys → List ℕ → ℕ
+pages_of keys file = unwrap_or (count_of keys file) 0
 
 -- the file `after` is a new file of the command for the file `before`
 abbrev pub IsNew : Command → Renewal → List ℕ → List ℕ → Type 0
@@ -46,6 +68,8 @@ IsNew (Export profile) renewal before after = ⊥
 IsNew Probe renewal before after = ⊥
 IsNew (Recover profile) renewal before after = ⊥
 IsNew (Stamp profile field value) renewal before after = IsStamped (old_keys renewal before) field value before after
+IsNew (Rekey old new) renewal before after = IsRekeyedSo (old_keys renewal before) (new_keys renewal after) before after
+IsNew (Make profile rows) renewal before after = IsMade renewal.new_profile renewal.new_secret rows after
 
 -- each page of the new file that the command sealed has drawn bytes of its own
 abbrev pub AreDrawn : Command → Renewal → List ℕ → List ℕ → Type 0
@@ -55,4 +79,6 @@ AreDrawn (Verify profile) renewal file drawn = ⊥
 AreDrawn (Export profile) renewal file drawn = ⊥
 AreDrawn Probe renewal file drawn = ⊥
 AreDrawn (Recover profile) renewal file drawn = ⊥
-AreDrawn (Stamp profile field value) renewal file drawn = OwnDraws (new_keys renewal file) file (1 ∷ []) 0 drawn
+AreDrawn (Stamp profile field value) renewal file drawn = FileDraws (new_keys renewal file) file (λ n. n == 1) 0 drawn
+AreDrawn (Rekey old new) renewal file drawn = FileDraws (new_keys renewal file) file (is_number (pages_of (new_keys renewal file) file)) 0 drawn
+AreDrawn (Make profile rows) renewal file drawn = HasOwnDraws (new_keys renewal file) file drawn

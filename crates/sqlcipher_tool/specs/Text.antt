@@ -9,7 +9,7 @@ use Rattle.db_format.specs.declared.header.Header.{Header}
 use Rattle.rollback_journal.specs.declared.recovery.Recovery.{Recovery}
 use Rattle.rollback_journal.specs.declared.recovery.Recovery.TheVariants.{Nothing, Cold, Played}
 use Rattle.sqlcipher_tool.specs.declared.status.Refusal.{Refusal}
-use Rattle.sqlcipher_tool.specs.declared.status.Refusal.TheVariants.{NoTags, KeyMissing, KeyEmpty, KeyTooLong, KeyForm, JournalThere, Empty, Short, HeaderFault, WalMode, AutoVacuum, Ragged, TooLarge, PageTag, JournalPageSize, SuperJournal, Defect as RefusedDefect}
+use Rattle.sqlcipher_tool.specs.declared.status.Refusal.TheVariants.{NoTags, LayoutDiffers, KeyMissing, KeyEmpty, KeyTooLong, KeyForm, FileThere, JournalThere, Empty, Short, HeaderFault, WalMode, AutoVacuum, Ragged, TooLarge, PageTag, JournalPageSize, SuperJournal, Defect as RefusedDefect, TooManyPages}
 
 -- what is said of a page
 abbrev pub of_page : ℕ → List ℕ → List ℕ
@@ -34,10 +34,12 @@ defect_text (RootFault rowid) = codes "root fault in row " ++ signed_decimal row
 -- the text of a refusal, without its line feed
 abbrev pub refusal_text : Refusal → List ℕ
 refusal_text NoTags = codes "profile has no tags"
+refusal_text LayoutDiffers = codes "layout differs"
 refusal_text KeyMissing = codes "key missing"
 refusal_text KeyEmpty = codes "key empty"
 refusal_text KeyTooLong = codes "key too long"
 refusal_text KeyForm = codes "key with salt"
+refusal_text FileThere = codes "file is there"
 refusal_text JournalThere = codes "journal is there"
 refusal_text Empty = codes "file is empty"
 refusal_text (Short len) = codes "file is short: " ++ decimal len ++ codes " bytes"
@@ -50,6 +52,7 @@ refusal_text (PageTag page) = codes "page " ++ decimal page ++ codes ": tag refu
 refusal_text (JournalPageSize found) = codes "journal page size " ++ decimal found
 refusal_text SuperJournal = codes "journal names a super-journal"
 refusal_text (RefusedDefect defect) = defect_text defect
+refusal_text (TooManyPages limit) = codes "too many pages: limit " ++ decimal limit
 
 abbrev pub line : List ℕ → List ℕ
 line text = text ++ 10 ∷ []
@@ -114,3 +117,11 @@ recovery_line (Played records) = line (codes "played: " ++ decimal records)
 -- what `stamp` prints
 abbrev pub stamped_report : List ℕ
 stamped_report = line (codes "stamped")
+
+-- what `rekey` prints
+abbrev pub rekeyed_report : ℕ → List ℕ
+rekeyed_report pages = line (codes "rekeyed: " ++ decimal pages ++ codes " pages")
+
+-- what `make` prints: so many rows, and how many bytes their data have
+abbrev pub made_report : ℕ → ℕ → List ℕ
+made_report rows bytes = line (codes "made: " ++ (decimal rows ++ (codes " rows, " ++ (decimal bytes ++ codes " data bytes"))))

@@ -1,4 +1,4 @@
--- The words of the command line. P names a profile, and N is one to ten digits, at most 4,294,967,295.
+-- The words of the command line. P and P2 name profiles, and N is one to ten digits, at most 4,294,967,295.
 --
 -- | words                      | command                         | key lines | draws |
 -- | `tags P`                   | Tags profile P                  | 1         | no    |
@@ -9,7 +9,9 @@
 -- | `recover P`                | Recover profile P               | 0         | no    |
 -- | `stamp P user-version N`   | Stamp profile P UserVersion N   | 1         | yes   |
 -- | `stamp P application-id N` | Stamp profile P ApplicationId N | 1         | yes   |
-use Rattle.std.specs.Prelude.{ℕ, ◌==◌, ◌&&◌, nat_le, nat_lt, Bool, true, false, List, [], ◌∷◌, length, map, Option, Some, None, codes, if◌then◌else◌}
+-- | `rekey P P2`               | Rekey profile P, profile P2     | 2         | yes   |
+-- | `make P N`                 | Make profile P N                | 1         | yes   |
+use Rattle.std.specs.Prelude.{ℕ, ◌==◌, ◌&&◌, not, nat_le, nat_lt, Bool, true, false, List, [], ◌∷◌, length, map, Option, Some, None, codes, if◌then◌else◌}
 use Rattle.std.specs.Borrow.{Bor}
 use Rattle.std.specs.Char.{digit_value}
 use Rattle.std.specs.List.{list_all}
@@ -18,7 +20,7 @@ use Rattle.std.specs.Str.{bytes_eq}
 use Rattle.std.specs.Str.Parse.{digits_value}
 use Rattle.cipher_profile.specs.Profile.{IsListed, profile_named}
 use Rattle.sqlcipher_tool.specs.declared.command.Command.{Command}
-use Rattle.sqlcipher_tool.specs.declared.command.Command.TheVariants.{Tags, Header, Verify, Export, Probe, Recover, Stamp}
+use Rattle.sqlcipher_tool.specs.declared.command.Command.TheVariants.{Tags, Header, Verify, Export, Probe, Recover, Stamp, Rekey, Make}
 use Rattle.sqlcipher_tool.specs.declared.command.Field.{Field}
 use Rattle.sqlcipher_tool.specs.declared.command.Field.TheVariants.{UserVersion, ApplicationId}
 
@@ -41,6 +43,14 @@ abbrev pub stamp_form : List ℕ → List ℕ → List ℕ → Option Command
 stamp_form first second third =
     option_and_then (λ profile. option_and_then (λ field. option_map (λ value. Stamp profile field value) (number_named third)) (field_named second)) (profile_named first)
 
+-- `rekey` with its two words
+abbrev pub rekey_form : List ℕ → List ℕ → Option Command
+rekey_form first second = option_and_then (λ old. option_map (λ new. Rekey old new) (profile_named second)) (profile_named first)
+
+-- `make` with its two words
+abbrev pub make_form : List ℕ → List ℕ → Option Command
+make_form first second = option_and_then (λ profile. option_map (λ rows. Make profile rows) (number_named second)) (profile_named first)
+
 -- the command that the words make, or none
 abbrev pub form : List (List ℕ) → Option Command
 form [] = None
@@ -51,7 +61,9 @@ form (name ∷ word ∷ []) =
     else (if bytes_eq name (codes "verify") then option_map Verify (profile_named word)
     else (if bytes_eq name (codes "export") then option_map Export (profile_named word)
     else (if bytes_eq name (codes "recover") then option_map Recover (profile_named word) else None))))
-form (name ∷ first ∷ second ∷ []) = None
+form (name ∷ first ∷ second ∷ []) =
+    if bytes_eq name (codes "rekey") then rekey_form first second
+    else (if bytes_eq name (codes "make") then make_form first second else None)
 form (name ∷ first ∷ second ∷ third ∷ []) = if bytes_eq name (codes "stamp") then stamp_form first second third else None
 form (name ∷ first ∷ second ∷ third ∷ fourth ∷ rest) = None
 
@@ -64,6 +76,8 @@ IsServed (Export profile) = IsListed profile
 IsServed Probe = Unit {0}
 IsServed (Recover profile) = IsListed profile
 IsServed (Stamp profile field value) = IsListed profile
+IsServed (Rekey old new) = IsListed old × IsListed new
+IsServed (Make profile rows) = IsListed profile
 
 -- it asks for tags that the profile has not
 abbrev pub lacks_tags : Command → Bool
@@ -74,6 +88,20 @@ lacks_tags (Export profile) = false
 lacks_tags Probe = false
 lacks_tags (Recover profile) = false
 lacks_tags (Stamp profile field value) = false
+lacks_tags (Rekey old new) = false
+lacks_tags (Make profile rows) = false
+
+-- it asks for new keys in place, of a profile whose pages have another size or reserve
+abbrev pub layouts_differ : Command → Bool
+layouts_differ (Tags profile) = false
+layouts_differ (Header profile) = false
+layouts_differ (Verify profile) = false
+layouts_differ (Export profile) = false
+layouts_differ Probe = false
+layouts_differ (Recover profile) = false
+layouts_differ (Stamp profile field value) = false
+layouts_differ (Rekey old new) = not (old.page_size == new.page_size && old.reserve == new.reserve)
+layouts_differ (Make profile rows) = false
 
 -- how many key lines it takes
 abbrev pub keys_taken : Command → ℕ
@@ -84,16 +112,20 @@ keys_taken (Export profile) = 1
 keys_taken Probe = 1
 keys_taken (Recover profile) = 0
 keys_taken (Stamp profile field value) = 1
+keys_taken (Rekey old new) = 2
+keys_taken (Make profile rows) = 1
 
--- it recovers the file first, for which it takes memory
-abbrev pub recovers : Command → Bool
-recovers (Tags profile) = true
-recovers (Header profile) = true
-recovers (Verify profile) = true
-recovers (Export profile) = true
-recovers Probe = false
-recovers (Recover profile) = true
-recovers (Stamp profile field value) = true
+-- it takes memory
+abbrev pub takes_memory : Command → Bool
+takes_memory (Tags profile) = true
+takes_memory (Header profile) = true
+takes_memory (Verify profile) = true
+takes_memory (Export profile) = true
+takes_memory Probe = false
+takes_memory (Recover profile) = true
+takes_memory (Stamp profile field value) = true
+takes_memory (Rekey old new) = true
+takes_memory (Make profile rows) = true
 
 -- it draws from the entropy
 abbrev pub draws : Command → Bool
@@ -104,6 +136,8 @@ draws (Export profile) = false
 draws Probe = false
 draws (Recover profile) = false
 draws (Stamp profile field value) = true
+draws (Rekey old new) = true
+draws (Make profile rows) = true
 
 -- the words' bytes
 abbrev pub texts : List (Bor (List ℕ)) → List (List ℕ)

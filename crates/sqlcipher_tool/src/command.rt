@@ -1,7 +1,9 @@
 // The words of the command line.
 ghost use Rattle.std.specs.Prelude.{◌≡◌, ◌∷◌, [], IfSome};
-ghost use Rattle.sqlcipher_tool.specs.Words.{form, stamp_form, field_named, number_named, texts, lacks_tags, IsServed};
+ghost use Rattle.sqlcipher_tool.specs.Due.{word_refusal};
+ghost use Rattle.sqlcipher_tool.specs.Words.{form, stamp_form, rekey_form, make_form, field_named, number_named, texts, lacks_tags, layouts_differ, IsServed};
 
+use crate::status::Refusal;
 use cipher_profile::{Profile, profile_of};
 
 /// A field of the database header that can be stamped.
@@ -37,11 +39,38 @@ pub enum Command {
         /// Its new number.
         value: u32,
     },
+    /// Seal every page under another key.
+    Rekey {
+        /// The file's profile.
+        old: Profile,
+        /// The profile of the new key.
+        new: Profile,
+    },
+    /// Make a database where no file is.
+    Make {
+        /// Its profile.
+        profile: Profile,
+        /// How many rows it has.
+        rows: u32,
+    },
 }
 
 impl Command {
-    /// Whether it asks for tags that the profile has not.
-    pub fn lacks_tags(&self) -> bool
+    /// Why it is refused by its words alone, if it is.
+    pub fn refusal(&self) -> Option<Refusal>
+        ensures { result ≡ word_refusal self.now }
+    {
+        if self.lacks_tags() {
+            return Some(Refusal::NoTags);
+        }
+        if self.layouts_differ() {
+            return Some(Refusal::LayoutDiffers);
+        }
+        None
+    }
+
+    // Whether it asks for tags that the profile has not.
+    fn lacks_tags(&self) -> bool
         ensures { result ≡ lacks_tags self.now }
     {
         match self {
@@ -51,7 +80,28 @@ impl Command {
             | Command::Export(_)
             | Command::Probe
             | Command::Recover(_)
-            | Command::Stamp { .. } => false,
+            | Command::Stamp { .. }
+            | Command::Rekey { .. }
+            | Command::Make { .. } => false,
+        }
+    }
+
+    // Whether it asks for new keys in place, of a profile whose pages have another size or reserve.
+    fn layouts_differ(&self) -> bool
+        ensures { result ≡ layouts_differ self.now }
+    {
+        match self {
+            Command::Rekey { old, new } => {
+                !(old.page_size == new.page_size && old.reserve == new.reserve)
+            }
+            Command::Tags(_)
+            | Command::Header(_)
+            | Command::Verify(_)
+            | Command::Export(_)
+            | Command::Probe
+            | Command::Recover(_)
+            | Command::Stamp { .. }
+            | Command::Make { .. } => false,
         }
     }
 }
@@ -64,6 +114,7 @@ pub fn parse_words(words: &[&str]) -> Option<Command>
     match words {
         [name] if *name == "probe" => Some(Command::Probe),
         [name, word] => command_on(name, word),
+        [name, first, second] => command_with(name, first, second),
         [name, first, second, third] if *name == "stamp" => stamp_with(first, second, third),
         _ => None,
     }
@@ -93,6 +144,20 @@ fn command_on(name: &str, word: &str) -> Option<Command>
     None
 }
 
+// The command of this name with two words.
+fn command_with(name: &str, first: &str, second: &str) -> Option<Command>
+    ensures form { result ≡ form (name.now ∷ first.now ∷ second.now ∷ []) }
+    ensures served { IfSome result IsServed }
+{
+    if name == "rekey" {
+        return rekey_with(first, second);
+    }
+    if name == "make" {
+        return make_with(first, second);
+    }
+    None
+}
+
 // `stamp` with its three words.
 fn stamp_with(first: &str, second: &str, third: &str) -> Option<Command>
     ensures form { result ≡ stamp_form first.now second.now third.now }
@@ -106,6 +171,26 @@ fn stamp_with(first: &str, second: &str, third: &str) -> Option<Command>
         field,
         value,
     })
+}
+
+// `rekey` with its two words.
+fn rekey_with(first: &str, second: &str) -> Option<Command>
+    ensures form { result ≡ rekey_form first.now second.now }
+    ensures served { IfSome result IsServed }
+{
+    let old = profile_of(first)?;
+    let new = profile_of(second)?;
+    Some(Command::Rekey { old, new })
+}
+
+// `make` with its two words.
+fn make_with(first: &str, second: &str) -> Option<Command>
+    ensures form { result ≡ make_form first.now second.now }
+    ensures served { IfSome result IsServed }
+{
+    let profile = profile_of(first)?;
+    let rows = number_of(second)?;
+    Some(Command::Make { profile, rows })
 }
 
 // The field that a word names.

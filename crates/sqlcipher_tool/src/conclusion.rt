@@ -1,13 +1,15 @@
 // How an answer ends: its last lines, and its status.
-ghost use Rattle.std.specs.Prelude.{◌≡◌, ◌⊎◌, ◌≤◌, IsTrue, Some, Err, IfErr};
+ghost use Rattle.std.specs.Prelude.{◌≡◌, ◌≢◌, ◌⊎◌, ◌≤◌, IsTrue, Some, Err, IfErr};
 ghost use Rattle.edge_model.specs.Causes.{Rose};
-ghost use Rattle.sqlcipher_tool.specs.Answer.{Answer, IsAnswer, IsEarly, IsStopStatus, Puts, PutsLine};
+ghost use Rattle.sqlcipher_tool.specs.Answer.{Answer, IsAnswer, IsEarly, IsKeyStatus, IsStopStatus, Puts, PutsLine};
+ghost use Rattle.sqlcipher_tool.specs.Due.{key_answer};
 ghost use Rattle.sqlcipher_tool.specs.Text.{refusal_line};
 ghost use Rattle.sqlcipher_tool.specs.Stop.{stop_answer, outcome_answer, IsLate};
 
 use crate::opening::Stop;
 use crate::status::{Refusal, Status};
 use crate::text::{Text, key_refused_line, refusal_line};
+use cipher_profile::KeyError;
 use edge_model::Sink;
 
 /// Prints the last lines of an answer.
@@ -33,6 +35,26 @@ pub fn conclude_refusal<S: Sink>(out: &mut S, refusal: Refusal) -> Status
     ensures later { S.faults out.old ≤ S.faults out.new }
 {
     conclude(out, &refusal_line(&refusal), Status::Refused(refusal))
+}
+
+/// Prints why a key line gave no secret; nothing where the input failed.
+pub fn conclude_key<S: Sink>(out: &mut S, error: KeyError) -> Status
+    ensures refused { error ≢ KeyError.SourceFault → (result ≡ (key_answer error).status) ⊎ (result ≡ Status.OutputFault) }
+    ensures text { error ≢ KeyError.SourceFault → IsTrue S.tells → Puts result (key_answer error).text (S.taken out.old) (S.taken out.new) }
+    ensures failed { error ≡ KeyError.SourceFault → (result ≡ Status.InputFault) × (out.new ≡ out.old) }
+    ensures input { result ≡ Status.InputFault → error ≡ KeyError.SourceFault }
+    ensures line { IsTrue S.tells → PutsLine result (S.taken out.old) (S.taken out.new) }
+    ensures fault { result ≡ Status.OutputFault → Rose (S.faults out.old) (S.faults out.new) }
+    ensures later { S.faults out.old ≤ S.faults out.new }
+    ensures others { IsKeyStatus result }
+{
+    match error {
+        KeyError::KeyMissing => conclude_refusal(out, Refusal::KeyMissing),
+        KeyError::KeyEmpty => conclude_refusal(out, Refusal::KeyEmpty),
+        KeyError::KeyTooLong => conclude_refusal(out, Refusal::KeyTooLong),
+        KeyError::KeyForm => conclude_refusal(out, Refusal::KeyForm),
+        KeyError::SourceFault => Status::InputFault,
+    }
 }
 
 /// Prints why a command has no report.

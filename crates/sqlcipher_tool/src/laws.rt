@@ -6,17 +6,21 @@ ghost use Rattle.btree_model.specs.Freelist.{freelist_walk};
 ghost use Rattle.btree_model.specs.Parts.{counts, parts};
 ghost use Rattle.cipher_profile.specs.declared.keys.Secret.{Secret};
 ghost use Rattle.cipher_profile.specs.declared.profile.Profile.{Profile};
+ghost use Rattle.cipher_profile.specs.Profile.{IsListed};
 ghost use Rattle.export_rows.specs.Report.{export_report};
 ghost use Rattle.db_format.specs.Pages.{Pages, nothing};
+ghost use Rattle.make_job.specs.Made.{IsMade, made_content};
 ghost use Rattle.page_codec.specs.Page.{FileKeys, fits, keys_of};
 ghost use Rattle.pager.specs.File.{page_stored};
 ghost use Rattle.pager.specs.Opening.{Opened};
 ghost use Rattle.pager.specs.Pages.{opened_pages};
+ghost use Rattle.rekey_job.specs.Rekeyed.{IsRekeyed};
 ghost use Rattle.sqlcipher_tool.specs.Answer.{done};
 ghost use Rattle.sqlcipher_tool.specs.Job.{job_answers};
 ghost use Rattle.sqlcipher_tool.specs.Opening.{opened_with};
 ghost use Rattle.sqlcipher_tool.specs.Plain.{HaveSamePages, IsClean, IsSameInUse, Opens};
-ghost use Rattle.sqlcipher_tool.specs.Text.{verify_report};
+ghost use Rattle.sqlcipher_tool.specs.Rekey.{rekey_answers};
+ghost use Rattle.sqlcipher_tool.specs.Text.{rekeyed_report, verify_report};
 ghost use Rattle.sqlcipher_tool.specs.declared.job.Job.TheVariants.{Export, Verify};
 
 /// A walk over a whole database reads no leaf of its freelist, whatever defects it meets behind the freelist.
@@ -42,4 +46,23 @@ pub fn verify_done_law()
 pub fn export_done_law()
     ensures { (profile : Profile) (secret : Secret) (file : List ℕ) (opened : Opened) (held : Content) → opened_with profile secret file ≡ Ok opened
         → Opens (keys_of profile secret file) file held → job_answers Export profile secret file ≡ done (export_report held) ∷ [] }
+{}
+
+/// A rekeyed file opens under the new keys to the content that it had under the old ones.
+pub fn rekey_opens_law()
+    ensures { (old_keys new_keys : FileKeys) (count : ℕ) (old new : List ℕ) → IsListed old_keys.profile → IsListed new_keys.profile
+        → new_keys.profile.page_size ≡ old_keys.profile.page_size → new_keys.profile.reserve ≡ old_keys.profile.reserve
+        → IsRekeyed old_keys new_keys count old new → (clean : IsClean old_keys old) → Opens new_keys new clean.held }
+{}
+
+/// Of a file that opens and is clean nothing but the count of its pages is due to `rekey`.
+pub fn rekey_done_law()
+    ensures { (profile : Profile) (secret : Secret) (file : List ℕ) (opened : Opened) → opened_with profile secret file ≡ Ok opened
+        → IsClean (keys_of profile secret file) file → rekey_answers profile secret file ≡ done (rekeyed_report opened.count) ∷ [] }
+{}
+
+/// A made file is clean under its keys, and holds its rows: so nothing but the counts is due to `verify`, and nothing but its text to `export`.
+pub fn made_clean_law()
+    ensures { (profile : Profile) (secret : Secret) (rows : ℕ) (file : List ℕ) → IsMade profile secret rows file
+        → (clean : IsClean (keys_of profile secret file) file) × (clean.held ≡ made_content rows) }
 {}

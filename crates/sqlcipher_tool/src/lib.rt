@@ -1,6 +1,7 @@
 //! The top call: what the program does with its words, its input and the files.
 #![tactic(auto)]
 
+mod change;
 mod command;
 mod conclusion;
 mod export;
@@ -10,9 +11,15 @@ mod header;
 mod in_use;
 mod job;
 mod laws;
+mod make;
+#[cfg(test)]
+mod make_tests;
 mod opening;
 mod probe;
 mod recovery;
+mod rekey;
+#[cfg(test)]
+mod rekey_tests;
 mod stamp;
 #[cfg(test)]
 mod stamp_tests;
@@ -28,6 +35,9 @@ mod top;
 mod verify_tests;
 mod walk;
 
-pub use laws::{export_done_law, opens_law, unread_leaves_law, verify_done_law};
+pub use laws::{
+    export_done_law, made_clean_law, opens_law, rekey_done_law, rekey_opens_law, unread_leaves_law,
+    verify_done_law,
+};
 pub use status::{Refusal, Status};
 pub use top::run;

@@ -65,7 +65,7 @@ impl From<OpenError> for Stop {
     }
 }
 
-/// Why a file was not changed.
+/// Why a file was not changed, or not made.
 #[derive(Clone, Copy, Debug, PartialEq, Eq)]
 pub enum ChangeError {
     /// The command stopped, as one that only reads may.
@@ -94,6 +94,7 @@ pub fn open_main<D: Disk>(
     ensures opens { IfOk result (λ file. IsTrue D.tells
         → opened_with profile secret.now (main_of (D.reads disk.old)) ≡ Ok (record { header = file.header; count = file.count })) }
     ensures codec { IfOk result (λ file. IsTrue D.tells → file.codec ≡ keys_of profile secret.now (main_of (D.reads disk.old))) }
+    ensures profile { IfOk result (λ file. file.codec.profile ≡ profile) }
     ensures stop { IfErr result (λ stop. IsTrue D.tells
         → IsOutside stop ⊎ (stop_answer stop ≡ unopened_answer (opened_with profile secret.now (main_of (D.reads disk.old))))) }
     ensures late { IfErr result IsLate }

@@ -1,36 +1,31 @@
 // `stamp`: a field of the database header is set, in one transaction that changes page 1 alone.
-ghost use Rattle.std.specs.Prelude.{◌≡◌, ◌⊎◌, ◌≤◌, ◌∷◌, [], ℕ, List, drop, length, unwrap_or, true, Some, Ok, Err, IfErr, OnOk, IsTrue};
+ghost use Rattle.std.specs.Prelude.{◌≡◌, ◌⊎◌, ◌≤◌, ◌==◌, ◌∷◌, [], ℕ, List, drop, length, true, Some, Ok, Err, IfErr, OnOk, IsTrue, if◌then◌else◌};
 ghost use Rattle.edge_model.specs.Causes.{Rose};
 ghost use Rattle.edge_model.specs.Images.{Each, From, LeavesOnly};
 ghost use Rattle.cipher_profile.specs.Profile.{IsListed, usable};
-ghost use Rattle.page_cache.specs.Pages.{bytes_at, is_held};
-ghost use Rattle.page_codec.specs.Page.{keys_of, opened, salt_of};
-ghost use Rattle.pager.specs.Changed.{seen_pages};
-ghost use Rattle.pager.specs.File.{main_of, page_stored};
+ghost use Rattle.page_codec.specs.Page.{keys_of, salt_of};
+ghost use Rattle.pager.specs.Base.{base_of};
+ghost use Rattle.pager.specs.File.{main_of};
 ghost use Rattle.pager.specs.Opening.{file_opened};
-ghost use Rattle.pager.specs.Pages.{opened_pages};
-ghost use Rattle.pager.specs.Reads.{DiskRead, Untouched};
-ghost use Rattle.transaction.specs.Facts.{SameFresh};
-ghost use Rattle.sqlcipher_tool.specs.Answer.{HasDrawnCauses, IsFault, PutsLine};
-ghost use Rattle.sqlcipher_tool.specs.Change.{IsAlone, IsLateChange, KeepsOrCommits, change_answer, change_status, page_stop};
-ghost use Rattle.sqlcipher_tool.specs.Crash.{IsSafely};
-ghost use Rattle.sqlcipher_tool.specs.declared.command.Command.TheVariants.{Stamp as StampOf};
-ghost use Rattle.sqlcipher_tool.specs.Draws.{OwnDraws};
-ghost use Rattle.sqlcipher_tool.specs.Holding.{HoldsOnly, disk_run, held_by};
+ghost use Rattle.pager.specs.Pages.{is_number};
+ghost use Rattle.pager.specs.UnderWay.{IsReadyFor, IsRefusedAs, IsUnderWay, Start, is_touched, seen_pages};
+ghost use Rattle.rollback_journal.specs.Playing.{main_of as read_main};
+ghost use Rattle.transaction.specs.Database.{HoldsOld};
+ghost use Rattle.transaction.specs.Facts.{IsBase, SameFresh};
+ghost use Rattle.sqlcipher_tool.specs.Answer.{Answer, IsFault};
+ghost use Rattle.sqlcipher_tool.specs.Change.{IsAlone, IsLateChange, KeepsOrCommits, change_answer, change_status, page_error};
+ghost use Rattle.sqlcipher_tool.specs.Draws.{FileDraws};
+ghost use Rattle.sqlcipher_tool.specs.Holding.{HoldsOnly, held_by};
 ghost use Rattle.sqlcipher_tool.specs.Opening.{AreRecovered};
-ghost use Rattle.sqlcipher_tool.specs.Promises.{AnswersOne, IsUnrecovered};
-ghost use Rattle.sqlcipher_tool.specs.Recovered.{recovered_answer};
-ghost use Rattle.sqlcipher_tool.specs.Stamp.{IsStamped, field_at, next_change, stamp_answer, with_field};
 ghost use Rattle.sqlcipher_tool.specs.Text.{stamped_report};
+ghost use Rattle.sqlcipher_tool.specs.Stamp.{IsStamped, field_at, next_change, stamp_answer, with_field};
 
 use crate::command::Field;
-use crate::conclusion::{conclude, conclude_stop};
 use crate::opening::{ChangeError, Stop, open_to_change};
-use crate::recovery::recover_main;
-use crate::status::{Refusal, Status};
-use crate::text::stamped_report;
+use crate::status::Refusal;
+use crate::text::{Text, stamped_report};
 use cipher_profile::{Profile, Secret};
-use edge_model::{Disk, Entropy, Sink};
+use edge_model::{Disk, Entropy};
 use page_codec::Codec;
 use pager::{CommitFault, OpenedFile, PageError, PageSource, Pager, Txn};
 use std::alloc::Global;
@@ -44,84 +39,20 @@ const SIZE_AT: usize = 28;
 /// Where the change counter stands for which the size is valid.
 const VALID_AT: usize = 92;
 
-/// `stamp` with this secret, after a recovery: the field gets this number.
-pub fn stamp<S: Sink, E: Entropy, D: Disk>(
+/// Opens Main with this secret, and stamps it: the field gets this number. Answers what is printed.
+pub fn stamp_file<E: Entropy, D: Disk>(
     alloc: Global,
     profile: Profile,
     field: Field,
     value: u32,
     secret: &Secret,
-    out: &mut S,
     entropy: &mut E,
     disk: &mut D,
-) -> Status
-    requires { IsListed profile }
-    ensures answer { IsTrue D.tells
-        → AnswersOne (recovered_answer profile (D.reads disk.old) (stamp_answer profile secret.now) ∷ []) result S.tells (S.taken out.old) (S.taken out.new) }
-    ensures line { IsTrue S.tells → PutsLine result (S.taken out.old) (S.taken out.new) }
-    ensures causes { HasDrawnCauses result true (D.faults disk.old) (D.faults disk.new) (S.faults out.old) (S.faults out.new) (E.faults entropy.old) (E.faults entropy.new) }
-    // old or new
-    ensures changes { IsTrue D.tells → IsSafely result (StampOf profile field value) (disk_run D.reads D.images D.moment D.since disk.old disk.new)
-        (Some (record { old_profile = profile; old_secret = secret.now; new_profile = profile; new_secret = secret.now })) }
-    ensures fresh { IsTrue D.tells → LeavesOnly D.moment D.since disk.old disk.new (From SameFresh (D.images disk.old)) }
-    ensures own_draws { IsTrue D.tells → IsTrue E.tells → result ≡ Status.Done
-        → OwnDraws (keys_of profile secret.now (main_of (D.reads disk.new))) (main_of (D.reads disk.new)) (1 ∷ []) 0 (drop (length (E.drawn entropy.old)) (E.drawn entropy.new)) }
-    ensures unrecovered { IsTrue D.tells → IsUnrecovered result → D.reads disk.new ≡ D.reads disk.old }
-{
-    match recover_main(alloc, disk, profile) {
-        Ok(_) => stamp_main(alloc, profile, field, value, secret, out, entropy, disk),
-        Err(stop) => conclude_stop(out, stop),
-    }
-}
-
-// `stamp` of Main as it reads. The last line is made before the commit, and takes no memory.
-fn stamp_main<S: Sink, E: Entropy, D: Disk>(
-    alloc: Global,
-    profile: Profile,
-    field: Field,
-    value: u32,
-    secret: &Secret,
-    out: &mut S,
-    entropy: &mut E,
-    disk: &mut D,
-) -> Status
+) -> Result<Text, ChangeError>
     requires listed { IsListed profile }
     requires recovered { IsTrue D.tells → AreRecovered (D.reads disk.old) (D.images disk.old) }
     requires alone { IsTrue D.tells → profile.page_size ≤ length (main_of (D.reads disk.old)) → Each (D.images disk.old) (IsAlone (main_of (D.reads disk.old))) }
-    ensures answer { IsTrue D.tells → AnswersOne (stamp_answer profile secret.now (main_of (D.reads disk.old)) ∷ []) result S.tells (S.taken out.old) (S.taken out.new) }
-    ensures line { IsTrue S.tells → PutsLine result (S.taken out.old) (S.taken out.new) }
-    ensures causes { HasDrawnCauses result true (D.faults disk.old) (D.faults disk.new) (S.faults out.old) (S.faults out.new) (E.faults entropy.old) (E.faults entropy.new) }
-    ensures safely { IsTrue D.tells → Each (D.images disk.old) (HoldsOnly (held_by (keys_of profile secret.now (main_of (D.reads disk.old))) (main_of (D.reads disk.old))))
-        → KeepsOrCommits D.reads D.images D.moment D.since result
-        (IsStamped (keys_of profile secret.now (main_of (D.reads disk.old))) field value (main_of (D.reads disk.old)))
-        (HoldsOnly (held_by (keys_of profile secret.now (main_of (D.reads disk.old))) (main_of (D.reads disk.old))))
-        (λ file. HoldsOnly (held_by (keys_of profile secret.now file) file)) disk.old disk.new }
-    ensures fresh { IsTrue D.tells → LeavesOnly D.moment D.since disk.old disk.new (From SameFresh (D.images disk.old)) }
-    ensures own_draws { IsTrue D.tells → IsTrue E.tells → result ≡ Status.Done
-        → OwnDraws (keys_of profile secret.now (main_of (D.reads disk.new))) (main_of (D.reads disk.new)) (1 ∷ []) 0 (drop (length (E.drawn entropy.old)) (E.drawn entropy.new)) }
-{
-    let report = stamped_report();
-    match stamp_file(alloc, profile, field, value, secret, entropy, disk) {
-        Ok(()) => conclude(out, &report, Status::Done),
-        Err(ChangeError::Stopped(stop)) => conclude_stop(out, stop),
-        Err(ChangeError::EntropyFault) => Status::EntropyFault,
-    }
-}
-
-// Main is opened, and stamped.
-fn stamp_file<E: Entropy, D: Disk>(
-    alloc: Global,
-    profile: Profile,
-    field: Field,
-    value: u32,
-    secret: &Secret,
-    entropy: &mut E,
-    disk: &mut D,
-) -> Result<(), ChangeError>
-    requires listed { IsListed profile }
-    requires recovered { IsTrue D.tells → AreRecovered (D.reads disk.old) (D.images disk.old) }
-    requires alone { IsTrue D.tells → profile.page_size ≤ length (main_of (D.reads disk.old)) → Each (D.images disk.old) (IsAlone (main_of (D.reads disk.old))) }
-    ensures told { IsTrue D.tells → IsFault (change_status result) ⊎ (change_answer stamped_report result ≡ Some (stamp_answer profile secret.now (main_of (D.reads disk.old)))) }
+    ensures told { IsTrue D.tells → (answer : Answer) → change_answer result ≡ Some answer → answer ≡ stamp_answer profile secret.now (main_of (D.reads disk.old)) }
     ensures safely { IsTrue D.tells → Each (D.images disk.old) (HoldsOnly (held_by (keys_of profile secret.now (main_of (D.reads disk.old))) (main_of (D.reads disk.old))))
         → KeepsOrCommits D.reads D.images D.moment D.since (change_status result)
         (IsStamped (keys_of profile secret.now (main_of (D.reads disk.old))) field value (main_of (D.reads disk.old)))
@@ -129,7 +60,7 @@ fn stamp_file<E: Entropy, D: Disk>(
         (λ file. HoldsOnly (held_by (keys_of profile secret.now file) file)) disk.old disk.new }
     ensures fresh { IsTrue D.tells → LeavesOnly D.moment D.since disk.old disk.new (From SameFresh (D.images disk.old)) }
     ensures own_draws { OnOk result (IsTrue D.tells → IsTrue E.tells
-        → OwnDraws (keys_of profile secret.now (main_of (D.reads disk.new))) (main_of (D.reads disk.new)) (1 ∷ []) 0 (drop (length (E.drawn entropy.old)) (E.drawn entropy.new))) }
+        → FileDraws (keys_of profile secret.now (main_of (D.reads disk.new))) (main_of (D.reads disk.new)) (λ n. n == 1) 0 (drop (length (E.drawn entropy.old)) (E.drawn entropy.new))) }
     ensures late { IfErr result IsLateChange }
     ensures disk_fault { result ≡ Err (ChangeError.Stopped Stop.DiskFault) → Rose (D.faults disk.old) (D.faults disk.new) }
     ensures entropy_fault { result ≡ Err ChangeError.EntropyFault → Rose (E.faults entropy.old) (E.faults entropy.new) }
@@ -155,7 +86,12 @@ fn stamp_pages<'d, D: Disk, E: Entropy>(
     write: Codec,
     field: Field,
     value: u32,
-) -> (&'d mut D, &'d mut E, Result<(), ChangeError>)
+) -> (&'d mut D, &'d mut E, Result<Text, ChangeError>)
+    ghost start: { Start }
+    requires base { IsTrue D.tells → start.base ≡ base_of pager.codec (main_of (D.reads pager.disk.now)) pager.count }
+    requires base_is { IsBase start.base }
+    requires sizes { (pager.codec.profile.page_size ≡ start.base.size) × (pager.count ≡ start.base.pages) }
+    requires drawn { start.drawn ≡ E.drawn pager.entropy.now }
     requires write { write ≡ pager.codec }
     requires listed { IsListed pager.codec.profile }
     requires salt { IsTrue D.tells → pager.codec.salt ≡ salt_of (main_of (D.reads pager.disk.now)) }
@@ -163,14 +99,14 @@ fn stamp_pages<'d, D: Disk, E: Entropy>(
     requires alone { IsTrue D.tells → Each (D.images pager.disk.now) (IsAlone (main_of (D.reads pager.disk.now))) }
     ensures disk { result.0.ghost_name ≡ pager.entry.disk.ghost_name }
     ensures entropy { result.1.ghost_name ≡ pager.entry.entropy.ghost_name }
-    ensures told { IsTrue D.tells → IsFault (change_status result.2) ⊎ (result.2 ≡ Ok tt) }
+    ensures told { IsTrue D.tells → IsFault (change_status result.2) ⊎ (result.2 ≡ Ok stamped_report) }
     ensures safely { IsTrue D.tells → KeepsOrCommits D.reads D.images D.moment D.since (change_status result.2)
         (λ file. IsStamped pager.entry.codec field value (main_of (D.reads pager.entry.disk.now)) file × (salt_of file ≡ pager.entry.codec.salt))
         (HoldsOnly (held_by pager.entry.codec (main_of (D.reads pager.entry.disk.now))))
         (λ file. HoldsOnly (held_by pager.entry.codec file)) pager.entry.disk.now result.0.now }
     ensures fresh { IsTrue D.tells → LeavesOnly D.moment D.since pager.entry.disk.now result.0.now (From SameFresh (D.images pager.entry.disk.now)) }
     ensures own_draws { OnOk result.2 (IsTrue D.tells → IsTrue E.tells
-        → OwnDraws pager.entry.codec (main_of (D.reads result.0.now)) (1 ∷ []) 0 (drop (length (E.drawn pager.entry.entropy.now)) (E.drawn result.1.now))) }
+        → FileDraws pager.entry.codec (main_of (D.reads result.0.now)) (λ n. n == 1) 0 (drop (length (E.drawn pager.entry.entropy.now)) (E.drawn result.1.now))) }
     ensures late { IfErr result.2 IsLateChange }
     ensures disk_fault { result.2 ≡ Err (ChangeError.Stopped Stop.DiskFault) → Rose (D.faults pager.entry.disk.now) (D.faults result.0.now) }
     ensures entropy_fault { result.2 ≡ Err ChangeError.EntropyFault → Rose (E.faults pager.entry.entropy.now) (E.faults result.1.now) }
@@ -179,6 +115,8 @@ fn stamp_pages<'d, D: Disk, E: Entropy>(
 {
     let change = pager.header().change.wrapping_add(1);
     let pages = pager.pages();
+    // Behind the commit nothing takes memory.
+    let report = stamped_report();
     let mut txn = match pager.begin(alloc, write, 1) {
         Ok(txn) => txn,
         // The layout is that of the file, so memory ran out.
@@ -188,26 +126,29 @@ fn stamp_pages<'d, D: Disk, E: Entropy>(
         }
     };
     if let Err(error) = write_fields(&mut txn, field, value, change, pages) {
-        let (disk, entropy) = txn.abandon().into_parts();
-        return (disk, entropy, Err(ChangeError::Stopped(page_stop(error))));
+        let (disk, entropy) = txn.into_parts();
+        return (disk, entropy, Err(page_error(error)));
     }
     let (disk, entropy, done) = txn.end();
     match done {
-        Ok(()) => (disk, entropy, Ok(())),
+        Ok(()) => (disk, entropy, Ok(report)),
         Err(CommitFault::DiskFault) => (disk, entropy, Err(ChangeError::Stopped(Stop::DiskFault))),
         Err(CommitFault::EntropyFault) => (disk, entropy, Err(ChangeError::EntropyFault)),
     }
 }
 
 // How a page that is refused stops the command.
-fn page_stop(error: PageError) -> Stop
-    ensures { result ≡ page_stop error }
+fn page_error(error: PageError) -> ChangeError
+    ensures { result ≡ page_error error }
 {
     match error {
-        PageError::TagRefused { page } => Stop::Refused(Refusal::PageTag { page }),
-        PageError::DiskFault => Stop::DiskFault,
+        PageError::TagRefused { page } => {
+            ChangeError::Stopped(Stop::Refused(Refusal::PageTag { page }))
+        }
+        PageError::DiskFault => ChangeError::Stopped(Stop::DiskFault),
+        PageError::EntropyFault => ChangeError::EntropyFault,
         // Page 1 is there, and a frame is free for it.
-        PageError::OutOfRange | PageError::EntropyFault | PageError::AllPinned => Stop::OutOfMemory,
+        PageError::OutOfRange | PageError::AllPinned => ChangeError::Stopped(Stop::OutOfMemory),
     }
 }
 
@@ -229,18 +170,29 @@ fn write_fields<D: Disk, E: Entropy>(
     change: u32,
     pages: u32,
 ) -> Result<(), PageError>
+    ghost start: { Start }
     requires room { 100 ≤ usable txn.old.write.profile }
-    requires none { (txn.old.changed.numbers ≡ []) × (txn.old.changed.held ≡ []) }
-    ensures stamped { OnOk result (IsTrue D.tells → bytes_at 1 txn.new.changed.held
-        ≡ Some (with_field 92 change (with_field 28 pages (with_field 24 change (with_field (field_at field) value
-        ((opened_pages txn.old.pager.codec (main_of (D.reads txn.old.pager.disk.now)) txn.old.pager.count).page 1)))))) }
-    ensures numbers { OnOk result (txn.new.changed.numbers ≡ 1 ∷ []) }
+    requires sizes { (txn.old.write.profile.page_size ≡ start.base.size) × (txn.old.count ≡ start.base.pages) }
+    requires ready { IsReadyFor txn.old.recorded txn.old.writer }
+    requires under_way { IsTrue D.tells → IsUnderWay start txn.old.write txn.old.recorded txn.old.writer (D.reads txn.old.disk.now)
+        (D.images txn.old.disk.now) E.tells (E.drawn txn.old.entropy.now) }
+    ensures stamped { OnOk result (IsTrue D.tells → (seen_pages txn.new.read txn.new.write (read_main (D.reads txn.new.disk.now)) txn.new.count txn.new.recorded txn.new.changed.held).page 1
+        ≡ with_field 92 change (with_field 28 pages (with_field 24 change (with_field (field_at field) value
+        ((seen_pages txn.old.read txn.old.write (read_main (D.reads txn.old.disk.now)) txn.old.count txn.old.recorded txn.old.changed.held).page 1))))) }
+    ensures touched { OnOk result ((m : ℕ) → is_number txn.old.count m ≡ true → is_touched txn.new.recorded txn.new.changed.held m
+        ≡ (if m == 1 then true else is_touched txn.old.recorded txn.old.changed.held m)) }
     ensures refused { IfErr result (λ e. (page : ℕ) → e ≡ PageError.TagRefused page → IsTrue D.tells
-        → (opened_pages txn.old.pager.codec (main_of (D.reads txn.old.pager.disk.now)) txn.old.pager.count).accepts 1 ≡ true → ⊥) }
-    ensures fault { IfErr result (λ e. e ≡ PageError.DiskFault → Rose (D.faults txn.old.pager.disk.now) (D.faults txn.new.pager.disk.now)) }
-    ensures disk { DiskRead D.tells D.reads D.images D.moment D.since D.faults txn.old.pager.disk txn.new.pager.disk }
-    ensures entropy { Untouched txn.old.pager.entropy txn.new.pager.entropy }
-    ensures file { (txn.new.pager.codec ≡ txn.old.pager.codec) × (txn.new.pager.count ≡ txn.old.pager.count) × (txn.new.write ≡ txn.old.write) }
+        → (seen_pages txn.old.read txn.old.write (read_main (D.reads txn.old.disk.now)) txn.old.count txn.old.recorded txn.old.changed.held).accepts 1 ≡ true → ⊥) }
+    ensures disk_fault { result ≡ Err PageError.DiskFault → Rose (D.faults txn.old.disk.now) (D.faults txn.new.disk.now) }
+    ensures entropy_fault { result ≡ Err PageError.EntropyFault → Rose (E.faults txn.old.entropy.now) (E.faults txn.new.entropy.now) }
+    ensures ready { OnOk result (IsReadyFor txn.new.recorded txn.new.writer) }
+    ensures under_way { OnOk result (IsTrue D.tells → IsUnderWay start txn.new.write txn.new.recorded txn.new.writer (D.reads txn.new.disk.now)
+        (D.images txn.new.disk.now) E.tells (E.drawn txn.new.entropy.now)) }
+    ensures any_moment { IsTrue D.tells → LeavesOnly D.moment D.since txn.old.disk.now txn.new.disk.now (HoldsOld start.base) }
+    ensures fresh { IsTrue D.tells → LeavesOnly D.moment D.since txn.old.disk.now txn.new.disk.now (From SameFresh (D.images txn.old.disk.now)) }
+    ensures names { (txn.new.disk.ghost_name ≡ txn.old.disk.ghost_name) × (txn.new.entropy.ghost_name ≡ txn.old.entropy.ghost_name) }
+    ensures later { (D.faults txn.old.disk.now ≤ D.faults txn.new.disk.now) × (E.faults txn.old.entropy.now ≤ E.faults txn.new.entropy.now) }
+    ensures file { (txn.new.read ≡ txn.old.read) × (txn.new.write ≡ txn.old.write) × (txn.new.count ≡ txn.old.count) }
 {
     write_number(txn, field_at(field), value)?;
     write_number(txn, CHANGE_AT, change)?;
@@ -255,20 +207,31 @@ fn write_number<D: Disk, E: Entropy>(
     at: usize,
     number: u32,
 ) -> Result<(), PageError>
+    ghost start: { Start }
     requires place { (16 ≤ at) × (at ≤ 96) }
     requires room { 100 ≤ usable txn.old.write.profile }
-    ensures written { OnOk result (IsTrue D.tells → bytes_at 1 txn.new.changed.held
-        ≡ Some (with_field at number (unwrap_or (bytes_at 1 txn.old.changed.held)
-        ((opened_pages txn.old.pager.codec (main_of (D.reads txn.old.pager.disk.now)) txn.old.pager.count).page 1)))) }
-    ensures held { OnOk result (is_held 1 txn.new.changed.held ≡ true) }
-    ensures first { txn.old.changed.numbers ≡ [] → txn.old.changed.held ≡ [] → OnOk result (txn.new.changed.numbers ≡ 1 ∷ []) }
-    ensures numbers { is_held 1 txn.old.changed.held ≡ true → OnOk result (txn.new.changed.numbers ≡ txn.old.changed.numbers) }
+    requires sizes { (txn.old.write.profile.page_size ≡ start.base.size) × (txn.old.count ≡ start.base.pages) }
+    requires ready { IsReadyFor txn.old.recorded txn.old.writer }
+    requires under_way { IsTrue D.tells → IsUnderWay start txn.old.write txn.old.recorded txn.old.writer (D.reads txn.old.disk.now)
+        (D.images txn.old.disk.now) E.tells (E.drawn txn.old.entropy.now) }
+    ensures written { OnOk result (IsTrue D.tells → (seen_pages txn.new.read txn.new.write (read_main (D.reads txn.new.disk.now)) txn.new.count txn.new.recorded txn.new.changed.held).page 1
+        ≡ with_field at number ((seen_pages txn.old.read txn.old.write (read_main (D.reads txn.old.disk.now)) txn.old.count txn.old.recorded txn.old.changed.held).page 1)) }
+    ensures touched { OnOk result ((m : ℕ) → is_number txn.old.count m ≡ true → is_touched txn.new.recorded txn.new.changed.held m
+        ≡ (if m == 1 then true else is_touched txn.old.recorded txn.old.changed.held m)) }
+    ensures accepted { OnOk result (IsTrue D.tells → (seen_pages txn.new.read txn.new.write (read_main (D.reads txn.new.disk.now)) txn.new.count txn.new.recorded txn.new.changed.held).accepts 1 ≡ true) }
     ensures refused { IfErr result (λ e. (page : ℕ) → e ≡ PageError.TagRefused page → IsTrue D.tells
-        → (opened_pages txn.old.pager.codec (main_of (D.reads txn.old.pager.disk.now)) txn.old.pager.count).accepts 1 ≡ true → ⊥) }
-    ensures fault { IfErr result (λ e. e ≡ PageError.DiskFault → Rose (D.faults txn.old.pager.disk.now) (D.faults txn.new.pager.disk.now)) }
-    ensures disk { DiskRead D.tells D.reads D.images D.moment D.since D.faults txn.old.pager.disk txn.new.pager.disk }
-    ensures entropy { Untouched txn.old.pager.entropy txn.new.pager.entropy }
-    ensures file { (txn.new.pager.codec ≡ txn.old.pager.codec) × (txn.new.pager.count ≡ txn.old.pager.count) × (txn.new.write ≡ txn.old.write) }
+        → (seen_pages txn.old.read txn.old.write (read_main (D.reads txn.old.disk.now)) txn.old.count txn.old.recorded txn.old.changed.held).accepts 1 ≡ true → ⊥) }
+    ensures disk_fault { result ≡ Err PageError.DiskFault → Rose (D.faults txn.old.disk.now) (D.faults txn.new.disk.now) }
+    ensures entropy_fault { result ≡ Err PageError.EntropyFault → Rose (E.faults txn.old.entropy.now) (E.faults txn.new.entropy.now) }
+    ensures ready { OnOk result (IsReadyFor txn.new.recorded txn.new.writer) }
+    ensures under_way { OnOk result (IsTrue D.tells → IsUnderWay start txn.new.write txn.new.recorded txn.new.writer (D.reads txn.new.disk.now)
+        (D.images txn.new.disk.now) E.tells (E.drawn txn.new.entropy.now)) }
+    ensures any_moment { IsTrue D.tells → LeavesOnly D.moment D.since txn.old.disk.now txn.new.disk.now (HoldsOld start.base) }
+    ensures fresh { IsTrue D.tells → LeavesOnly D.moment D.since txn.old.disk.now txn.new.disk.now (From SameFresh (D.images txn.old.disk.now)) }
+    ensures names { (txn.new.disk.ghost_name ≡ txn.old.disk.ghost_name) × (txn.new.entropy.ghost_name ≡ txn.old.entropy.ghost_name) }
+    ensures later { (D.faults txn.old.disk.now ≤ D.faults txn.new.disk.now) × (E.faults txn.old.entropy.now ≤ E.faults txn.new.entropy.now) }
+    ensures file { (txn.new.read ≡ txn.old.read) × (txn.new.write ≡ txn.old.write) × (txn.new.count ≡ txn.old.count) }
 {
-    txn.write(1, at, &number.to_be_bytes())
+    txn.write(1, at, &number.to_be_bytes())?;
+    Ok(())
 }

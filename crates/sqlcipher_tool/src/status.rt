@@ -9,6 +9,8 @@ use db_format::Defect;
 pub enum Refusal {
     /// The profile's pages have no tags.
     NoTags,
+    /// The pages of the two profiles have another size or reserve.
+    LayoutDiffers,
     /// No byte of a key line was left.
     KeyMissing,
     /// The key line is empty.
@@ -17,7 +19,9 @@ pub enum Refusal {
     KeyTooLong,
     /// The key line holds a raw key and a salt.
     KeyForm,
-    /// A journal stands beside the file.
+    /// There is a file already.
+    FileThere,
+    /// A journal stands beside the file, or where the file would be.
     JournalThere,
     /// The file is absent or has no byte.
     Empty,
@@ -61,6 +65,11 @@ pub enum Refusal {
     SuperJournal,
     /// The structure of the database has this defect.
     Defect(Defect),
+    /// The new database has more pages than are served.
+    TooManyPages {
+        /// How many are served.
+        limit: u32,
+    },
 }
 
 /// How a run ended.

@@ -27,7 +27,8 @@ const TAGS: [&str; 4] = [
 
 pub const KEY: &[u8] = b"x'000102030405060708090a0b0c0d0e0f101112131415161718191a1b1c1d1e1f'\n";
 
-const OTHER_KEY: &[u8] = b"x'ffffffffffffffffffffffffffffffffffffffffffffffffffffffffffffffff'\n";
+pub const OTHER_KEY: &[u8] =
+    b"x'ffffffffffffffffffffffffffffffffffffffffffffffffffffffffffffffff'\n";
 
 const MAGIC: &[u8; 16] = b"SQLite format 3\0";
 

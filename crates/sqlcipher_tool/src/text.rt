@@ -3,7 +3,7 @@ ghost use Rattle.std.specs.Prelude.{◌≡◌, ◌+◌, ◌≤◌, ◌++◌, ◌
 ghost use Rattle.std.specs.Fmt.{signed_decimal};
 ghost use Rattle.edge_model.specs.Causes.{HasCause};
 ghost use Rattle.sqlcipher_tool.specs.Answer.{PutsPart};
-ghost use Rattle.sqlcipher_tool.specs.Text.{defect_text, of_page, verify_report, refusal_text, refusal_line, tags_report, probe_report, recovery_line, stamped_report, field_line, header_report, usage_line, key_refused_line};
+ghost use Rattle.sqlcipher_tool.specs.Text.{defect_text, of_page, verify_report, refusal_text, refusal_line, tags_report, probe_report, recovery_line, stamped_report, rekeyed_report, made_report, field_line, header_report, usage_line, key_refused_line};
 
 use crate::status::Refusal;
 use db_format::{Defect, Header};
@@ -155,10 +155,12 @@ fn refusal_text(refusal: &Refusal) -> Text
     match refusal {
         Refusal::Defect(defect) => return defect_text(defect),
         Refusal::NoTags => text.push(b"profile has no tags"),
+        Refusal::LayoutDiffers => text.push(b"layout differs"),
         Refusal::KeyMissing => text.push(b"key missing"),
         Refusal::KeyEmpty => text.push(b"key empty"),
         Refusal::KeyTooLong => text.push(b"key too long"),
         Refusal::KeyForm => text.push(b"key with salt"),
+        Refusal::FileThere => text.push(b"file is there"),
         Refusal::JournalThere => text.push(b"journal is there"),
         Refusal::Empty => text.push(b"file is empty"),
         Refusal::Short { length } => text.push_around(b"file is short: ", *length, b" bytes"),
@@ -176,6 +178,10 @@ fn refusal_text(refusal: &Refusal) -> Text
             text.push_number(u64::from(*found));
         }
         Refusal::SuperJournal => text.push(b"journal names a super-journal"),
+        Refusal::TooManyPages { limit } => {
+            text.push(b"too many pages: limit ");
+            text.push_number(u64::from(*limit));
+        }
     }
     text
 }
@@ -239,6 +245,26 @@ pub fn stamped_report() -> Text
 {
     let mut text = Text::new();
     text.push(b"stamped\n");
+    text
+}
+
+/// The line of a file whose pages were sealed under another key.
+pub fn rekeyed_report(pages: u32) -> Text
+    ensures { result ≡ rekeyed_report pages }
+{
+    let mut text = Text::new();
+    text.push_around(b"rekeyed: ", u64::from(pages), b" pages\n");
+    text
+}
+
+/// The line of a database that was made.
+pub fn made_report(rows: u32, bytes: u64) -> Text
+    ensures { result ≡ made_report rows bytes }
+{
+    let mut text = Text::new();
+    text.push_around(b"made: ", u64::from(rows), b" rows, ");
+    text.push_number(bytes);
+    text.push(b" data bytes\n");
     text
 }
 

@@ -1,6 +1,7 @@
 // The top call.
 ghost use Rattle.pager.specs.File.{main_of};
-ghost use Rattle.std.specs.Prelude.{◌≡◌, ◌⊎◌, ◌≤◌, ◌∷◌, ℕ, List, [], drop, length, true, false, None, Some, Ok, Err, IsTrue, IsErr};
+ghost use Rattle.std.specs.Prelude.{◌≡◌, ◌⊎◌, ◌≤◌, ◌∷◌, ℕ, List, [], drop, length, true, false, None, Some, Ok, Err, IsTrue, IsErr, IsErrOf};
+ghost use Rattle.cipher_profile.specs.KeyCauses.{UnlessFault};
 ghost use Rattle.edge_model.specs.Causes.{Rose};
 ghost use Rattle.cipher_profile.specs.declared.key_line.KeyError.{KeyError as KeyRefusal};
 ghost use Rattle.cipher_profile.specs.declared.keys.Secret.{Secret as Key};
@@ -8,23 +9,25 @@ ghost use Rattle.sqlcipher_tool.specs.Answer.{IsEarly, Puts, PutsLine, HasDrawnC
 ghost use Rattle.sqlcipher_tool.specs.Crash.{Keeps, Changes, GaveKeys, HasOwnDraws};
 ghost use Rattle.sqlcipher_tool.specs.Due.{due, key_answer, key_lines, word_refusal, asked_answers, keyed_answers, secret_answers};
 ghost use Rattle.sqlcipher_tool.specs.Holding.{disk_run};
-ghost use Rattle.sqlcipher_tool.specs.Promises.{AnswersOne, AreWordsThat, ComesLate, IsAnsweredEarly, IsUnrecovered, TakesLines, WhereTaken, takes_keys};
+ghost use Rattle.sqlcipher_tool.specs.Promises.{AnswersOne, AreWordsThat, ComesLate, IsAnsweredEarly, IsUnrecovered, TakesAtMost, TakesLines, WhereTaken, after_lines, takes_keys, two_secrets};
 ghost use Rattle.sqlcipher_tool.specs.Text.{usage_line};
 ghost use Rattle.sqlcipher_tool.specs.declared.command.Command.{Command as Asked};
+ghost use Rattle.sqlcipher_tool.specs.declared.command.Command.TheVariants.{Rekey as RekeyOf};
 ghost use Rattle.sqlcipher_tool.specs.declared.status.Refusal.{Refusal as Refused};
-ghost use Rattle.sqlcipher_tool.specs.Words.{draws, form, texts, keys_taken, lacks_tags, recovers, IsServed};
+ghost use Rattle.sqlcipher_tool.specs.Words.{draws, form, texts, keys_taken, lacks_tags, layouts_differ, takes_memory, IsServed};
 
+use crate::change::{Change, change_file};
 use crate::command::{Command, parse_words};
-use crate::conclusion::{conclude, conclude_refusal};
+use crate::conclusion::{conclude, conclude_key, conclude_refusal};
 use crate::header::header;
 use crate::job::{Job, answer_job};
+use crate::make::make_file;
 use crate::probe::probe;
 use crate::recovery::report_recovery;
-use crate::stamp::stamp;
-use crate::status::{Refusal, Status};
+use crate::status::Status;
 use crate::tags::tags;
 use crate::text::usage_line;
-use cipher_profile::{KeyError, Secret, read_key};
+use cipher_profile::{KeyError, Profile, Secret, read_key};
 use edge_model::{Disk, Entropy, Sink, Source};
 use std::alloc::Global;
 
@@ -110,7 +113,7 @@ fn serve<K: Source, S: Sink, E: Entropy, D: Disk>(
     ensures output_fault { result ≡ Status.OutputFault → Rose (S.faults out.old) (S.faults out.new) }
     ensures disk_fault { result ≡ Status.DiskFault → Rose (D.faults disk.old) (D.faults disk.new) }
     ensures entropy_fault { result ≡ Status.EntropyFault → Rose (E.faults entropy.old) (E.faults entropy.new) × (draws command ≡ true) }
-    ensures memory { result ≡ Status.OutOfMemory → (recovers command ≡ true) × (word_refusal command ≡ None)
+    ensures memory { result ≡ Status.OutOfMemory → (takes_memory command ≡ true) × (word_refusal command ≡ None)
         × (IsTrue K.tells → (secrets : List Key) × (key_lines (keys_taken command) (K.left input.old) ≡ Ok secrets)) }
     ensures line { IsTrue S.tells → PutsLine result (S.taken out.old) (S.taken out.new) }
     ensures input_text { result ≡ Status.InputFault → out.new ≡ out.old }
@@ -131,17 +134,19 @@ fn serve<K: Source, S: Sink, E: Entropy, D: Disk>(
     ensures disk_later { D.faults disk.old ≤ D.faults disk.new }
     ensures entropy_later { E.faults entropy.old ≤ E.faults entropy.new }
 {
-    if command.lacks_tags() {
-        return conclude_refusal(out, Refusal::NoTags);
+    if let Some(refusal) = command.refusal() {
+        return conclude_refusal(out, refusal);
     }
     match command {
         Command::Recover(profile) => report_recovery(alloc, profile, out, disk),
+        Command::Rekey { old, new } => serve_rekey(alloc, old, new, input, out, entropy, disk),
         Command::Tags(_)
         | Command::Header(_)
         | Command::Verify(_)
         | Command::Export(_)
         | Command::Probe
-        | Command::Stamp { .. } => serve_keyed(alloc, command, input, out, entropy, disk),
+        | Command::Stamp { .. }
+        | Command::Make { .. } => serve_keyed(alloc, command, input, out, entropy, disk),
     }
 }
 
@@ -165,7 +170,7 @@ fn serve_keyed<K: Source, S: Sink, E: Entropy, D: Disk>(
     ensures output_fault { result ≡ Status.OutputFault → Rose (S.faults out.old) (S.faults out.new) }
     ensures disk_fault { result ≡ Status.DiskFault → Rose (D.faults disk.old) (D.faults disk.new) }
     ensures entropy_fault { result ≡ Status.EntropyFault → Rose (E.faults entropy.old) (E.faults entropy.new) × (draws command ≡ true) }
-    ensures memory { result ≡ Status.OutOfMemory → recovers command ≡ true }
+    ensures memory { result ≡ Status.OutOfMemory → takes_memory command ≡ true }
     ensures memory_keys { result ≡ Status.OutOfMemory → IsTrue K.tells → (secrets : List Key) × (key_lines 1 (K.left input.old) ≡ Ok secrets) }
     ensures line { IsTrue S.tells → PutsLine result (S.taken out.old) (S.taken out.new) }
     ensures input_text { result ≡ Status.InputFault → out.new ≡ out.old }
@@ -187,11 +192,7 @@ fn serve_keyed<K: Source, S: Sink, E: Entropy, D: Disk>(
 {
     match read_key(input) {
         Ok(secret) => carry_out(alloc, command, &secret, out, entropy, disk),
-        Err(KeyError::KeyMissing) => conclude_refusal(out, Refusal::KeyMissing),
-        Err(KeyError::KeyEmpty) => conclude_refusal(out, Refusal::KeyEmpty),
-        Err(KeyError::KeyTooLong) => conclude_refusal(out, Refusal::KeyTooLong),
-        Err(KeyError::KeyForm) => conclude_refusal(out, Refusal::KeyForm),
-        Err(KeyError::SourceFault) => Status::InputFault,
+        Err(error) => conclude_key(out, error),
     }
 }
 
@@ -206,10 +207,11 @@ fn carry_out<S: Sink, E: Entropy, D: Disk>(
 ) -> Status
     requires served { IsServed command }
     requires tagged { lacks_tags command ≡ false }
+    requires keyed { keys_taken command ≡ 1 }
     ensures answer { IsTrue D.tells
         → AnswersOne (secret_answers command (secret.now ∷ []) (D.reads disk.old)) result S.tells (S.taken out.old) (S.taken out.new) }
     ensures line { IsTrue S.tells → PutsLine result (S.taken out.old) (S.taken out.new) }
-    ensures memory { result ≡ Status.OutOfMemory → recovers command ≡ true }
+    ensures memory { result ≡ Status.OutOfMemory → takes_memory command ≡ true }
     ensures causes { HasDrawnCauses result (draws command) (D.faults disk.old) (D.faults disk.new) (S.faults out.old) (S.faults out.new) (E.faults entropy.old) (E.faults entropy.new) }
     ensures draws { draws command ≡ false → entropy.new ≡ entropy.old }
     ensures own_draws { IsTrue D.tells → IsTrue E.tells → result ≡ Status.Done
@@ -229,11 +231,86 @@ fn carry_out<S: Sink, E: Entropy, D: Disk>(
             answer_job(alloc, Job::Export, profile, secret, out, entropy, disk)
         }
         Command::Probe => probe(secret, out, disk),
-        Command::Recover(profile) => report_recovery(alloc, profile, out, disk),
         Command::Stamp {
             profile,
             field,
             value,
-        } => stamp(alloc, profile, field, value, secret, out, entropy, disk),
+        } => {
+            let change = Change::Stamp { field, value };
+            change_file(
+                alloc, change, profile, profile, secret, secret, out, entropy, disk,
+            )
+        }
+        Command::Make { profile, rows } => {
+            make_file(alloc, profile, rows, secret, out, entropy, disk)
+        }
+        Command::Recover(_) | Command::Rekey { .. } => unreachable!(),
     }
+}
+
+// `rekey`: the first key line has the old key, and the second the new one.
+fn serve_rekey<K: Source, S: Sink, E: Entropy, D: Disk>(
+    alloc: Global,
+    old: Profile,
+    new: Profile,
+    input: &mut K,
+    out: &mut S,
+    entropy: &mut E,
+    disk: &mut D,
+) -> Status
+    requires served { IsServed (RekeyOf old new) }
+    requires layout { layouts_differ (RekeyOf old new) ≡ false }
+    ensures key_refusals { IsTrue K.tells → (error : KeyRefusal) → key_lines 2 (K.left input.old) ≡ Err error → IsAnsweredEarly result (key_answer error) }
+    ensures answer { IsTrue K.tells → IsTrue D.tells
+        → AnswersOne (keyed_answers (RekeyOf old new) (key_lines 2 (K.left input.old)) (D.reads disk.old)) result S.tells (S.taken out.old) (S.taken out.new) }
+    ensures no_usage { result ≡ Status.Usage → ⊥ }
+    ensures input_fault { result ≡ Status.InputFault → Rose (K.faults input.old) (K.faults input.new) }
+    ensures output_fault { result ≡ Status.OutputFault → Rose (S.faults out.old) (S.faults out.new) }
+    ensures disk_fault { result ≡ Status.DiskFault → Rose (D.faults disk.old) (D.faults disk.new) }
+    ensures entropy_fault { result ≡ Status.EntropyFault → Rose (E.faults entropy.old) (E.faults entropy.new) }
+    ensures memory_keys { result ≡ Status.OutOfMemory → IsTrue K.tells → (secrets : List Key) × (key_lines 2 (K.left input.old) ≡ Ok secrets) }
+    ensures line { IsTrue S.tells → PutsLine result (S.taken out.old) (S.taken out.new) }
+    ensures input_text { result ≡ Status.InputFault → out.new ≡ out.old }
+    ensures key_first { IsTrue K.tells → IsErr (key_lines 2 (K.left input.old)) → disk.new ≡ disk.old }
+    ensures early_first { IsEarly result → disk.new ≡ disk.old }
+    ensures fault_first { result ≡ Status.InputFault → disk.new ≡ disk.old }
+    ensures takes { IsTrue K.tells → TakesLines result 2 (K.left input.old) (K.left input.new) }
+    ensures own_draws { IsTrue D.tells → IsTrue E.tells → result ≡ Status.Done
+        → HasOwnDraws (RekeyOf old new) (GaveKeys K.tells (key_lines 2 (K.left input.old))) (main_of (D.reads disk.new)) (drop (length (E.drawn entropy.old)) (E.drawn entropy.new)) }
+    ensures unrecovered { IsTrue D.tells → IsUnrecovered result → D.reads disk.new ≡ D.reads disk.old }
+    ensures keeps { IsTrue D.tells → Keeps (RekeyOf old new) (disk_run D.reads D.images D.moment D.since disk.old disk.new) }
+    ensures changes { IsTrue D.tells
+        → Changes result (RekeyOf old new) (GaveKeys K.tells (key_lines 2 (K.left input.old))) (disk_run D.reads D.images D.moment D.since disk.old disk.new) }
+    ensures entropy_later { E.faults entropy.old ≤ E.faults entropy.new }
+    ensures input_later { K.faults input.old ≤ K.faults input.new }
+    ensures output_later { S.faults out.old ≤ S.faults out.new }
+    ensures disk_later { D.faults disk.old ≤ D.faults disk.new }
+{
+    match read_keys(input) {
+        Ok((first, second)) => change_file(
+            alloc,
+            Change::Rekey,
+            old,
+            new,
+            &first,
+            &second,
+            out,
+            entropy,
+            disk,
+        ),
+        Err(error) => conclude_key(out, error),
+    }
+}
+
+// The secrets of two key lines.
+fn read_keys<K: Source>(input: &mut K) -> Result<(Secret, Secret), KeyError>
+    ensures told { UnlessFault result (IsTrue K.tells → two_secrets result ≡ key_lines 2 (K.left input.old)) }
+    ensures rest { UnlessFault result (IsTrue K.tells → K.left input.new ≡ after_lines 2 (K.left input.old)) }
+    ensures at_most { IsTrue K.tells → TakesAtMost 2050 (K.left input.old) (K.left input.new) }
+    ensures later { K.faults input.old ≤ K.faults input.new }
+    ensures fault { IsErrOf result KeyError.SourceFault → Rose (K.faults input.old) (K.faults input.new) }
+{
+    let first = read_key(input)?;
+    let second = read_key(input)?;
+    Ok((first, second))
 }

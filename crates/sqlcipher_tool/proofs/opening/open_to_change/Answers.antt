@@ -1,4 +1,4 @@
-use Rattle.std.proofs.Common.{◌≡◌, ◌⊎◌, ◌∙◌, ◌<◌, length, Option, Result, sym, ap, subst}
+use Rattle.std.proofs.Common.{◌≡◌, ◌⊎◌, ◌∙◌, ◌<◌, length, Result, sym, ap, subst}
 use Rattle.edge_model.specs.Files.{Files}
 use Rattle.pager.specs.File.{main_of}
 use Rattle.pager.specs.Opening.{Opened, IsRefusedBy}

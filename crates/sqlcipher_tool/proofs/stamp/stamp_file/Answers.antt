@@ -1,25 +1,31 @@
-use Rattle.std.proofs.Common.{◌≡◌, ◌⊎◌, ⊎_elim, inl, inr, ◌≤◌, ℕ, List, length, Some, Ok, Result, IsTrue, refl, sym, ap, subst, ◌∙◌, rules}
+use Rattle.std.proofs.Common.{◌≡◌, ⊎_elim, inl, ◌≤◌, ℕ, List, Ok, IsTrue, refl, sym, ap, subst, ◌∙◌, arith, rules}
 use Rattle.edge_model.specs.Files.{Files}
-use Rattle.edge_model.specs.Images.{Each, From, LeavesOnly}
+use Rattle.edge_model.specs.Images.{From, LeavesOnly}
 use Rattle.edge_model.specs.Moments.{then_from}
+use Rattle.cipher_profile.specs.Profile.{IsListed}
+use Rattle.cipher_profile.specs.declared.profile.Profile.{Profile}
 use Rattle.page_codec.specs.Page.{FileKeys, keys_of, salt_of}
 use Rattle.pager.specs.File.{main_of}
-use Rattle.pager.specs.Opening.{Opened}
-use Rattle.pager.specs.declared.opening.OpenError.{OpenError}
+use Rattle.pager.specs.Opening.{file_opened}
 use Rattle.transaction.specs.Facts.{SameFresh}
-use Rattle.sqlcipher_tool.specs.Change.{IsAlone, KeepsOrCommits, change_answer, change_status, stop_status}
+use Rattle.sqlcipher_tool.specs.Answer.{done}
+use Rattle.sqlcipher_tool.specs.Change.{IsAlone, KeepsOrCommits, change_answer, change_status}
 use Rattle.sqlcipher_tool.specs.Holding.{HoldsOnly, held_by}
 use Rattle.sqlcipher_tool.specs.Opening.{opened_with}
 use Rattle.sqlcipher_tool.specs.Stamp.{IsStamped, stamped_answer}
 use Rattle.sqlcipher_tool.specs.Text.{stamped_report}
 use Rattle.sqlcipher_tool.proofs.Changing.{after_old, read_fresh, read_only, said_so}
-use Rattle.sqlcipher_tool.proofs.OpenedParts.{open_parts}
-use Rattle.sqlcipher_tool.proofs.Stamping.{same_keys, stop_not_done, unopened_stamp}
+use Rattle.sqlcipher_tool.proofs.OpenedParts.{open_parts, opened_same}
+use Rattle.sqlcipher_tool.proofs.Databases.{told_base}
+use Rattle.sqlcipher_tool.proofs.Stamping.{same_keys, starts, stop_not_done}
+use Rattle.sqlcipher_tool.proofs.Changed.{fault_none}
+use Rattle.sqlcipher_tool.proofs.Verified.{some_is}
+use Rattle.sqlcipher_tool.proofs.VerifiedFile.{unopened_stamp}
 use Rattle.sqlcipher_tool.proofs.stamp.stamp_file.Goals as goal
 
 pub returns-in-Err-clause-told : goal.returns-in-Err-clause-told
-returns-in-Err-clause-told g c = λ told.
-    unopened_stamp c.in-Err.stop (opened_with c.args.profile c.args.secret.now (main_of (g.D.Disk.reads c.args.disk.now))) (c.in-Err.ensures.stop told)
+returns-in-Err-clause-told g c = λ told answer same.
+    unopened_stamp c.in-Err.stop (opened_with c.args.profile c.args.secret.now (main_of (g.D.Disk.reads c.args.disk.now))) answer (c.in-Err.ensures.stop told) same
 
 pub returns-in-Err-clause-safely : goal.returns-in-Err-clause-safely
 returns-in-Err-clause-safely g c = λ told start.
@@ -34,21 +40,59 @@ returns-in-Err-clause-fresh g c = λ told.
     let d = g.D.Disk in
     read_fresh d.reads d.images d.moment d.since g.met.D.Disk.counts_now g.met.D.Disk.only_now (c.open_to_change.ensures.only_read told)
 
-pub stamp_pages-disk-requires-clause-alone : goal.stamp_pages-disk-requires-clause-alone
-stamp_pages-disk-requires-clause-alone g c = λ told image now.
+-- the conditions, by their places: base, base_is, sizes, drawn, write, listed, salt, opened, alone
+pub stamp_pages-disk-requires : goal.stamp_pages-disk-requires
+stamp_pages-disk-requires g c κs within =
     let d = g.D.Disk in
-    let read = c.open_to_change.ensures.only_read told in
+    let p = c.into_pager-pager.result in
+    let made = c.into_pager-pager.ensures in
+    let main = main_of (d.reads p.disk.now) in
     let file = main_of (d.reads c.args.disk.now) in
     let keys = keys_of c.args.profile c.args.secret.now file in
-    let made = c.into_pager-pager.ensures.disk.1 in
-    let opened = open_parts keys file _ _ (c.in-Ok.ensures.opens told) in
-    let at_first = read.same_images.no_more image (subst (λ (x : _). d.images x image) made now) in
-    subst (λ (x : _). IsAlone (main_of (d.reads x)) image) (sym made)
-    (subst (λ (files : Files). IsAlone (main_of files) image) (sym read.stays) (c.requires.alone told opened.long image at_first))
+    let codec : IsTrue d.tells → p.codec ≡ keys = λ told. made.file.0 ∙ c.in-Ok.ensures.codec told in
+    let same : IsTrue d.tells → main ≡ file = λ told. ap (λ (x : _). main_of (d.reads x)) made.disk.1 ∙ ap (λ (files : Files). main_of files) (c.open_to_change.ensures.only_read told).stays in
+    let opened : IsTrue d.tells → file_opened p.codec main ≡ Ok (record { header = p.header; count = p.count }) = λ told.
+    opened_same keys p.codec file main _ p.header _ p.count (codec told) (same told) made.file.1 made.file.2 (c.in-Ok.ensures.opens told) in
+    let sized : 1 ≤ p.codec.profile.page_size = omega (arith, p.lendable.least) in (
+      within.0,
+      (
+        within.1,
+        (
+          λ told. told_base d.tells p.codec main p.count told,
+          (
+            starts d.tells p.codec main p.header p.count sized made.some opened,
+            (
+              (refl, refl),
+              (
+                refl,
+                (
+                  search rules,
+                  (
+                    subst (λ (profile : Profile). IsListed profile) (sym (ap (λ (k : FileKeys). k.profile) made.file.0 ∙ c.in-Ok.ensures.profile)) c.requires.listed,
+                    (
+                      λ told. ap (λ (k : FileKeys). k.salt) (codec told) ∙ ap (λ (l : List ℕ). salt_of l) (sym (same told)),
+                      (
+                        opened,
+                        λ told image now.
+                            let read = c.open_to_change.ensures.only_read told in
+                            let is_open = open_parts keys file _ _ (c.in-Ok.ensures.opens told) in
+                            let at_first = read.same_images.no_more image (subst (λ (x : _). d.images x image) made.disk.1 now) in
+                            subst (λ (l : List ℕ). IsAlone l image) (sym (same told)) (c.requires.alone told is_open.long image at_first),
+                      ),
+                    ),
+                  ),
+                ),
+              ),
+            ),
+          ),
+        ),
+      ),
+    )
 
 pub returns-clause-told : goal.returns-clause-told
-returns-clause-told g c = λ told. ⊎_elim (λ fault. inl fault)
-    (λ is. inr (ap (λ (r : _). change_answer stamped_report r) is ∙ sym (ap (λ (r : Result Opened OpenError). Some (stamped_answer r)) (c.in-Ok.ensures.opens told))))
+returns-clause-told g c = λ told answer same. ⊎_elim
+    (λ fault. absurd (fault_none c.stamp_pages-disk.result.2 answer fault same))
+    (λ is. some_is answer (done stamped_report) (sym same ∙ ap change_answer is) ∙ sym (ap stamped_answer (c.in-Ok.ensures.opens told)))
     (c.stamp_pages-disk.ensures.told told)
 
 pub returns-clause-safely : goal.returns-clause-safely

@@ -1,20 +1,21 @@
 use Rattle.std.proofs.Common.{◌≡◌, List, drop, length, refl, ◌∷◌, [], sym, ap, subst}
 use Rattle.cipher_profile.specs.declared.keys.Secret.{Secret}
 use Rattle.pager.specs.File.{main_of}
-use Rattle.sqlcipher_tool.specs.Crash.{IsDrawnFor, IsSafely, Keeps}
+use Rattle.sqlcipher_tool.specs.Crash.{IsDrawnFor, IsSafely, Keeps, MakesWith}
 use Rattle.sqlcipher_tool.specs.Renewal.{same_key}
 use Rattle.sqlcipher_tool.specs.Words.{draws}
-use Rattle.sqlcipher_tool.specs.declared.command.Command.TheVariants.{Tags, Header, Verify, Export, Probe, Recover, Stamp}
+use Rattle.sqlcipher_tool.specs.declared.command.Command.TheVariants.{Tags, Header, Verify, Export, Probe, Stamp, Make}
 use Rattle.sqlcipher_tool.proofs.Asked.{causes_as, changes_as, draws_as, no_draws, undrawn}
 use Rattle.sqlcipher_tool.specs.Due.{secret_answers}
 use Rattle.sqlcipher_tool.specs.Header.{header_answer}
 use Rattle.sqlcipher_tool.specs.Holding.{disk_run}
 use Rattle.sqlcipher_tool.specs.Probe.{probe_answer}
 use Rattle.sqlcipher_tool.specs.Promises.{AnswersOne}
-use Rattle.sqlcipher_tool.specs.Recovered.{recovered_answer, recovery_answer, recovery_of}
+use Rattle.sqlcipher_tool.specs.Recovered.{recovered_answer}
 use Rattle.sqlcipher_tool.specs.Tags.{tags_answer}
 use Rattle.sqlcipher_tool.specs.declared.command.Command.{Command as Asked}
 use Rattle.sqlcipher_tool.proofs.Answered.{answers_one, keeps_held}
+use Rattle.sqlcipher_tool.proofs.Making.{read_stays}
 use Rattle.sqlcipher_tool.proofs.Conclusions.{no_part}
 use Rattle.sqlcipher_tool.proofs.top.carry_out.Goals as goal
 
@@ -78,24 +79,6 @@ returns-in-Probe-clause-answer g c = λ told.
     subst (λ (command : Asked). AnswersOne (secret_answers command (secret ∷ []) files) c.probe.result g.S.Sink.tells before after)
     (sym c.in-Probe.is) one
 
-pub returns-in-Recover-clause-answer : goal.returns-in-Recover-clause-answer
-returns-in-Recover-clause-answer g c = λ told.
-    let files = g.D.Disk.reads c.args.disk.now in
-    let secret = c.args.secret.now in
-    let before = g.S.Sink.taken c.args.out.now in
-    let after = g.S.Sink.taken c.report_recovery.new.out in
-    let one = answers_one (recovery_answer (recovery_of c.in-Recover.profile files)) c.report_recovery.result g.S.Sink.tells before after
-    (c.report_recovery.ensures.status told) (λ printed. c.report_recovery.ensures.text printed told) (λ printed is. no_part _ _ _ (ap g.S.Sink.taken (c.report_recovery.ensures.disk_text is)))
-    (λ is. ap g.S.Sink.taken (c.report_recovery.ensures.memory_text is)) c.report_recovery.ensures.causes.input c.report_recovery.ensures.causes.entropy in
-    subst (λ (command : Asked). AnswersOne (secret_answers command (secret ∷ []) files) c.report_recovery.result g.S.Sink.tells before after)
-    (sym c.in-Recover.is) one
-
-pub returns-in-Recover-clause-keeps : goal.returns-in-Recover-clause-keeps
-returns-in-Recover-clause-keeps g c = λ told.
-    let run = disk_run g.D.Disk.reads g.D.Disk.images g.D.Disk.moment g.D.Disk.since c.args.disk.now c.report_recovery.new.disk in
-    subst (λ (command : Asked). Keeps command run) (sym c.in-Recover.is)
-    (keeps_held c.in-Recover.profile.page_size run (λ image ever. (c.report_recovery.ensures.keeps told).each image ever))
-
 pub returns-in-Tags-clause-causes : goal.returns-in-Tags-clause-causes
 returns-in-Tags-clause-causes g c = undrawn c.tags.result (draws c.args.command) _ _ _ _ (g.E.Entropy.faults c.args.entropy.now) (g.E.Entropy.faults c.args.entropy.now) c.tags.ensures.causes refl
 
@@ -156,41 +139,58 @@ returns-in-Probe-clause-changes g c = λ told.
     let run = disk_run g.D.Disk.reads g.D.Disk.images g.D.Disk.moment g.D.Disk.since c.args.disk.now c.probe.new.disk in
     changes_as c.probe.result c.args.command (Probe) (λ secrets. secrets ≡ c.args.secret.now ∷ []) run c.in-Probe.is tt
 
-pub returns-in-Recover-clause-causes : goal.returns-in-Recover-clause-causes
-returns-in-Recover-clause-causes g c = undrawn c.report_recovery.result (draws c.args.command) _ _ _ _ (g.E.Entropy.faults c.args.entropy.now) (g.E.Entropy.faults c.args.entropy.now) c.report_recovery.ensures.causes refl
-
-pub returns-in-Recover-clause-own_draws : goal.returns-in-Recover-clause-own_draws
-returns-in-Recover-clause-own_draws g c = λ told drawing done. no_draws c.args.command (Recover c.in-Recover.profile) c.in-Recover.is (λ secrets. refl) (λ secrets. secrets ≡ c.args.secret.now ∷ [])
-    (main_of (g.D.Disk.reads c.report_recovery.new.disk)) (drop (length (g.E.Entropy.drawn c.args.entropy.now)) (g.E.Entropy.drawn c.args.entropy.now))
-
-pub returns-in-Recover-clause-changes : goal.returns-in-Recover-clause-changes
-returns-in-Recover-clause-changes g c = λ told.
-    let run = disk_run g.D.Disk.reads g.D.Disk.images g.D.Disk.moment g.D.Disk.since c.args.disk.now c.report_recovery.new.disk in
-    changes_as c.report_recovery.result c.args.command (Recover c.in-Recover.profile) (λ secrets. secrets ≡ c.args.secret.now ∷ []) run c.in-Recover.is (c.report_recovery.ensures.done told)
-
 pub returns-in-Stamp-clause-answer : goal.returns-in-Stamp-clause-answer
 returns-in-Stamp-clause-answer g c = λ told.
-    subst (λ (command : Asked). AnswersOne (secret_answers command (c.args.secret.now ∷ []) (g.D.Disk.reads c.args.disk.now)) c.stamp.result g.S.Sink.tells (g.S.Sink.taken c.args.out.now) (g.S.Sink.taken c.stamp.new.out))
-    (sym c.in-Stamp.is) (c.stamp.ensures.answer told)
+    subst (λ (command : Asked). AnswersOne (secret_answers command (c.args.secret.now ∷ []) (g.D.Disk.reads c.args.disk.now)) c.change_file.result g.S.Sink.tells (g.S.Sink.taken c.args.out.now) (g.S.Sink.taken c.change_file.new.out))
+    (sym c.in-Stamp.is) (c.change_file.ensures.answer told)
 
 pub returns-in-Stamp-clause-causes : goal.returns-in-Stamp-clause-causes
-returns-in-Stamp-clause-causes g c = causes_as c.stamp.result c.args.command (Stamp c.in-Stamp.profile c.in-Stamp.field c.in-Stamp.value) _ _ _ _ _ _ c.in-Stamp.is c.stamp.ensures.causes
+returns-in-Stamp-clause-causes g c = causes_as c.change_file.result c.args.command (Stamp c.in-Stamp.profile c.in-Stamp.field c.in-Stamp.value) _ _ _ _ _ _ c.in-Stamp.is c.change_file.ensures.causes
 
 pub returns-in-Stamp-clause-own_draws : goal.returns-in-Stamp-clause-own_draws
 returns-in-Stamp-clause-own_draws g c = λ told drawing done.
-    let file = main_of (g.D.Disk.reads c.stamp.new.disk) in
-    let drawn = drop (length (g.E.Entropy.drawn c.args.entropy.now)) (g.E.Entropy.drawn c.stamp.new.entropy) in
+    let file = main_of (g.D.Disk.reads c.change_file.new.disk) in
+    let drawn = drop (length (g.E.Entropy.drawn c.args.entropy.now)) (g.E.Entropy.drawn c.change_file.new.entropy) in
     let command = Stamp c.in-Stamp.profile c.in-Stamp.field c.in-Stamp.value in
     draws_as c.args.command command (λ secrets. secrets ≡ c.args.secret.now ∷ []) file drawn c.in-Stamp.is
-    (λ secrets gave. subst (λ (l : List Secret). IsDrawnFor command (same_key c.in-Stamp.profile l) file drawn) (sym gave) (c.stamp.ensures.own_draws told drawing done))
+    (λ secrets gave. subst (λ (l : List Secret). IsDrawnFor command (same_key c.in-Stamp.profile l) file drawn) (sym gave) (c.change_file.ensures.own_draws told drawing done))
 
 pub returns-in-Stamp-clause-keeps : goal.returns-in-Stamp-clause-keeps
-returns-in-Stamp-clause-keeps g c = λ told. subst (λ (command : Asked). Keeps command (disk_run g.D.Disk.reads g.D.Disk.images g.D.Disk.moment g.D.Disk.since c.args.disk.now c.stamp.new.disk)) (sym c.in-Stamp.is)
-    (λ image ever. (c.stamp.ensures.fresh told).each image ever)
+returns-in-Stamp-clause-keeps g c = λ told. subst (λ (command : Asked). Keeps command (disk_run g.D.Disk.reads g.D.Disk.images g.D.Disk.moment g.D.Disk.since c.args.disk.now c.change_file.new.disk)) (sym c.in-Stamp.is)
+    (λ image ever. (c.change_file.ensures.fresh told).each image ever)
 
 pub returns-in-Stamp-clause-changes : goal.returns-in-Stamp-clause-changes
 returns-in-Stamp-clause-changes g c = λ told.
-    let run = disk_run g.D.Disk.reads g.D.Disk.images g.D.Disk.moment g.D.Disk.since c.args.disk.now c.stamp.new.disk in
+    let run = disk_run g.D.Disk.reads g.D.Disk.images g.D.Disk.moment g.D.Disk.since c.args.disk.now c.change_file.new.disk in
     let command = Stamp c.in-Stamp.profile c.in-Stamp.field c.in-Stamp.value in
-    changes_as c.stamp.result c.args.command command (λ secrets. secrets ≡ c.args.secret.now ∷ []) run c.in-Stamp.is
-    (λ secrets gave. subst (λ (l : List Secret). IsSafely c.stamp.result command run (same_key c.in-Stamp.profile l)) (sym gave) (c.stamp.ensures.changes told))
+    changes_as c.change_file.result c.args.command command (λ secrets. secrets ≡ c.args.secret.now ∷ []) run c.in-Stamp.is
+    (λ secrets gave. subst (λ (l : List Secret). IsSafely c.change_file.result command run (same_key c.in-Stamp.profile l)) (sym gave) (c.change_file.ensures.changes told))
+
+pub returns-in-Make-clause-answer : goal.returns-in-Make-clause-answer
+returns-in-Make-clause-answer g c = λ told.
+    subst (λ (command : Asked). AnswersOne (secret_answers command (c.args.secret.now ∷ []) (g.D.Disk.reads c.args.disk.now)) c.make_file.result g.S.Sink.tells (g.S.Sink.taken c.args.out.now) (g.S.Sink.taken c.make_file.new.out))
+    (sym c.in-Make.is) (c.make_file.ensures.answer told)
+
+pub returns-in-Make-clause-causes : goal.returns-in-Make-clause-causes
+returns-in-Make-clause-causes g c = causes_as c.make_file.result c.args.command (Make c.in-Make.profile c.in-Make.rows) _ _ _ _ _ _ c.in-Make.is c.make_file.ensures.causes
+
+pub returns-in-Make-clause-own_draws : goal.returns-in-Make-clause-own_draws
+returns-in-Make-clause-own_draws g c = λ told drawing done.
+    let file = main_of (g.D.Disk.reads c.make_file.new.disk) in
+    let drawn = drop (length (g.E.Entropy.drawn c.args.entropy.now)) (g.E.Entropy.drawn c.make_file.new.entropy) in
+    let command = Make c.in-Make.profile c.in-Make.rows in
+    draws_as c.args.command command (λ secrets. secrets ≡ c.args.secret.now ∷ []) file drawn c.in-Make.is
+    (λ secrets gave. subst (λ (l : List Secret). IsDrawnFor command (same_key c.in-Make.profile l) file drawn) (sym gave) (c.make_file.ensures.own_draws told drawing done))
+
+pub returns-in-Make-clause-keeps : goal.returns-in-Make-clause-keeps
+returns-in-Make-clause-keeps g c = λ told.
+    let run = disk_run g.D.Disk.reads g.D.Disk.images g.D.Disk.moment g.D.Disk.since c.args.disk.now c.make_file.new.disk in
+    subst (λ (command : Asked). Keeps command run) (sym c.in-Make.is)
+    (λ there. read_stays g.D.Disk.reads g.D.Disk.images g.D.Disk.moment g.D.Disk.since g.met.D.Disk.counts_now g.met.D.Disk.only_now (c.make_file.ensures.only_read told there))
+
+pub returns-in-Make-clause-changes : goal.returns-in-Make-clause-changes
+returns-in-Make-clause-changes g c = λ told.
+    let run = disk_run g.D.Disk.reads g.D.Disk.images g.D.Disk.moment g.D.Disk.since c.args.disk.now c.make_file.new.disk in
+    let command = Make c.in-Make.profile c.in-Make.rows in
+    changes_as c.make_file.result c.args.command command (λ secrets. secrets ≡ c.args.secret.now ∷ []) run c.in-Make.is
+    (λ secrets gave. subst (λ (l : List Secret). MakesWith c.make_file.result c.in-Make.profile c.in-Make.rows run l) (sym gave) (c.make_file.ensures.changes told))

@@ -1,4 +1,4 @@
-use Rattle.std.proofs.Common.{◌≡◌, drop, length, refl, true, Some, sym, ap, subst, rules, if◌then◌else◌, Bool, None}
+use Rattle.std.proofs.Common.{◌≡◌, drop, length, refl, Some, sym, ap, subst, rules, false, Option, None}
 use Rattle.pager.specs.File.{main_of}
 use Rattle.sqlcipher_tool.specs.Crash.{GaveKeys, Keeps}
 use Rattle.sqlcipher_tool.specs.Due.{asked_answers, key_lines, word_refusal}
@@ -6,26 +6,25 @@ use Rattle.sqlcipher_tool.specs.Holding.{disk_run}
 use Rattle.sqlcipher_tool.specs.Answer.{refused}
 use Rattle.sqlcipher_tool.specs.Promises.{AnswersOne}
 use Rattle.sqlcipher_tool.specs.Recovered.{recovery_answer, recovery_of}
-use Rattle.sqlcipher_tool.specs.Words.{keys_taken, lacks_tags}
+use Rattle.sqlcipher_tool.specs.Words.{keys_taken, layouts_differ}
 use Rattle.sqlcipher_tool.specs.declared.command.Command.TheVariants.{Recover}
-use Rattle.sqlcipher_tool.proofs.Asked.{changes_as, no_draws, refusal_not_done, unchanged_changes, unchanged_keeps}
+use Rattle.sqlcipher_tool.proofs.Asked.{changes_as, no_draws, none_refused, refusal_not_done, unchanged_changes, unchanged_keeps}
 use Rattle.sqlcipher_tool.specs.declared.command.Command.{Command as Asked}
-use Rattle.sqlcipher_tool.specs.declared.status.Refusal.TheVariants.{NoTags}
+use Rattle.sqlcipher_tool.specs.declared.status.Refusal.{Refusal as Refused}
 use Rattle.sqlcipher_tool.proofs.Answered.{answers_one, keeps_held, printed_one}
 use Rattle.sqlcipher_tool.proofs.Conclusions.{no_part}
 use Rattle.sqlcipher_tool.proofs.top.serve.Goals as goal
 
-pub returns-then-lacks_tags-clause-answer : goal.returns-then-lacks_tags-clause-answer
-returns-then-lacks_tags-clause-answer g c = λ keyed told.
+pub returns-in-Some-clause-answer : goal.returns-in-Some-clause-answer
+returns-in-Some-clause-answer g c = λ keyed told.
     let files = g.D.Disk.reads c.args.disk.now in
     let left = g.K.Source.left c.args.input.now in
     let before = g.S.Sink.taken c.args.out.now in
     let after = g.S.Sink.taken c.conclude_refusal.new.out in
     let status = c.conclude_refusal.result in
-    let one = printed_one (refused NoTags) status g.S.Sink.tells before after tt c.conclude_refusal.ensures.status c.conclude_refusal.ensures.text in
-    let lacks : lacks_tags c.args.command ≡ true = search rules in
-    subst (λ (b : Bool). AnswersOne (asked_answers (if b then Some NoTags else None) c.args.command left files) status g.S.Sink.tells before after)
-    (sym lacks) one
+    let one = printed_one (refused c.in-Some.refusal) status g.S.Sink.tells before after tt c.conclude_refusal.ensures.status c.conclude_refusal.ensures.text in
+    let is : word_refusal c.args.command ≡ Some c.in-Some.refusal = search rules in
+    subst (λ (o : Option Refused). AnswersOne (asked_answers o c.args.command left files) status g.S.Sink.tells before after) (sym is) one
 
 pub returns-in-Recover-clause-answer : goal.returns-in-Recover-clause-answer
 returns-in-Recover-clause-answer g c = λ keyed told.
@@ -58,12 +57,22 @@ returns-in-Recover-clause-own_draws g c = λ told drawing done. no_draws c.args.
     (λ secrets. GaveKeys g.K.Source.tells (key_lines (keys_taken c.args.command) (g.K.Source.left c.args.input.now)) secrets)
     (main_of (g.D.Disk.reads c.report_recovery.new.disk)) (drop (length (g.E.Entropy.drawn c.args.entropy.now)) (g.E.Entropy.drawn c.args.entropy.now))
 
-pub returns-then-lacks_tags-clause-keeps : goal.returns-then-lacks_tags-clause-keeps
-returns-then-lacks_tags-clause-keeps g c = λ told. unchanged_keeps g.D.Disk.reads g.D.Disk.images g.D.Disk.moment g.D.Disk.since g.met.D.Disk.only_now c.args.command c.args.disk.now
+pub returns-in-Some-clause-keeps : goal.returns-in-Some-clause-keeps
+returns-in-Some-clause-keeps g c = λ told. unchanged_keeps g.D.Disk.reads g.D.Disk.images g.D.Disk.moment g.D.Disk.since g.met.D.Disk.only_now c.args.command c.args.disk.now
 
-pub returns-then-lacks_tags-clause-changes : goal.returns-then-lacks_tags-clause-changes
-returns-then-lacks_tags-clause-changes g c = λ told. unchanged_changes g.D.Disk.reads g.D.Disk.images g.D.Disk.moment g.D.Disk.since g.met.D.Disk.only_now c.conclude_refusal.result c.args.command
-    (λ secrets. GaveKeys g.K.Source.tells (key_lines (keys_taken c.args.command) (g.K.Source.left c.args.input.now)) secrets) c.args.disk.now (refusal_not_done NoTags c.conclude_refusal.result c.conclude_refusal.ensures.status)
+pub returns-in-Some-clause-changes : goal.returns-in-Some-clause-changes
+returns-in-Some-clause-changes g c = λ told. unchanged_changes g.D.Disk.reads g.D.Disk.images g.D.Disk.moment g.D.Disk.since g.met.D.Disk.only_now c.conclude_refusal.result c.args.command
+    (λ secrets. GaveKeys g.K.Source.tells (key_lines (keys_taken c.args.command) (g.K.Source.left c.args.input.now)) secrets) c.args.disk.now (refusal_not_done c.in-Some.refusal c.conclude_refusal.result c.conclude_refusal.ensures.status)
 
-pub returns-then-lacks_tags-clause-own_draws : goal.returns-then-lacks_tags-clause-own_draws
-returns-then-lacks_tags-clause-own_draws g c = λ told drawing done. absurd (refusal_not_done NoTags c.conclude_refusal.result c.conclude_refusal.ensures.status done)
+pub returns-in-Some-clause-own_draws : goal.returns-in-Some-clause-own_draws
+returns-in-Some-clause-own_draws g c = λ told drawing done. absurd (refusal_not_done c.in-Some.refusal c.conclude_refusal.result c.conclude_refusal.ensures.status done)
+
+pub serve_keyed-requires-clause-tagged : goal.serve_keyed-requires-clause-tagged
+serve_keyed-requires-clause-tagged g c =
+    let none : word_refusal c.args.command ≡ None = search rules in
+    (none_refused c.args.command none).0
+
+pub serve_rekey-requires-clause-layout : goal.serve_rekey-requires-clause-layout
+serve_rekey-requires-clause-layout g c =
+    let none : word_refusal c.args.command ≡ None = search rules in
+    subst (λ (command : Asked). layouts_differ command ≡ false) c.in-Rekey.is (none_refused c.args.command none).1

@@ -1,55 +1,35 @@
--- How `stamp` ends: what is answered, which counts rose, and what its last line changes of what the disk shows.
-use Rattle.std.proofs.Common.{◌≡◌, ◌⊎◌, ⊎_elim, inl, inr, ◌≤◌, ◌<◌, ℕ, Bool, true, List, [], ◌∷◌, length, Option, Some, None, Result, Ok, Err, IsTrue, refl, sym, ap, subst, ◌∙◌, arith}
+-- How a change of the file ends: what is answered, which counts rose, and what its last line changes of what the disk shows.
+use Rattle.std.proofs.Common.{◌≡◌, ◌⊎◌, ⊎_elim, inl, inr, ◌≤◌, ◌<◌, ℕ, Bool, true, List, [], ◌∷◌, length, Option, Some, None, Result, Ok, Err, refl, sym, subst, ◌∙◌, arith}
 use Rattle.std.specs.Prelude.{unwrap_or, IfErr}
 use Rattle.std.specs.List.{Contains}
-use Rattle.cipher_profile.specs.declared.keys.Secret.{Secret}
-use Rattle.cipher_profile.specs.declared.profile.Profile.{Profile}
 use Rattle.edge_model.specs.Causes.{Rose}
-use Rattle.edge_model.specs.Files.{Files, bytes_of}
-use Rattle.pager.specs.Opening.{Opened}
-use Rattle.pager.specs.declared.opening.OpenError.{OpenError}
-use Rattle.pager.specs.declared.opening.OpenError.TheVariants.{Empty, Short, KeyRefused as NoKey, HeaderFault, WalMode, AutoVacuum, Ragged, TooLarge, DiskFault as DiskFails, OutOfMemory as MemoryEnds}
+use Rattle.edge_model.specs.Files.{Files}
 use Rattle.rollback_journal.specs.Recovery.{IsDone, recovered}
-use Rattle.rollback_journal.specs.declared.recovery.Recovery.{Recovery}
-use Rattle.rollback_journal.specs.declared.recovery.RecoverError.{RecoverError}
-use Rattle.sqlcipher_tool.specs.Answer.{Answer, HasDrawnCauses, IsAnswered, IsEarly, IsFault, IsStopStatus, Puts, done}
+use Rattle.sqlcipher_tool.specs.Answer.{Answer, HasDrawnCauses, IsEarly, IsFault, IsStopStatus, done}
 use Rattle.sqlcipher_tool.specs.Change.{IsAlone, IsLateChange, change_answer, change_status, stop_status}
-use Rattle.sqlcipher_tool.specs.Opening.{opened_with}
-use Rattle.sqlcipher_tool.specs.Promises.{AnswersOne, IsUnrecovered, PutsSo}
-use Rattle.sqlcipher_tool.specs.Recovered.{after_recovery, refused_answer}
-use Rattle.sqlcipher_tool.specs.Stamp.{stamp_answer, stamped_answer}
-use Rattle.sqlcipher_tool.specs.Stop.{IsLate, IsOutside, stop_answer}
-use Rattle.sqlcipher_tool.specs.Text.{stamped_report}
+use Rattle.sqlcipher_tool.specs.Promises.{AnswersOne, PutsSo}
+use Rattle.sqlcipher_tool.specs.Stop.{IsLate, stop_answer}
 use Rattle.sqlcipher_tool.specs.declared.opening.ChangeError.{ChangeError}
 use Rattle.sqlcipher_tool.specs.declared.opening.ChangeError.TheVariants.{Stopped, EntropyFault as EntropyFails}
 use Rattle.sqlcipher_tool.specs.declared.opening.Stop.{Stop}
 use Rattle.sqlcipher_tool.specs.declared.opening.Stop.TheVariants.{Refused as StopRefused, KeyRefused as StopKey, DiskFault as StopDisk, OutOfMemory as StopMemory}
 use Rattle.sqlcipher_tool.specs.declared.status.Status.{Status}
 use Rattle.sqlcipher_tool.specs.declared.status.Status.TheVariants.{Done, Usage, Refused, KeyRefused, DiskFault, OutputFault, InputFault, EntropyFault, OutOfMemory}
+use Rattle.sqlcipher_tool.proofs.Answered.{first_due}
 use Rattle.sqlcipher_tool.proofs.Changing.{IsPrinted}
-use Rattle.sqlcipher_tool.proofs.Conclusions.{no_part, refused_is}
+use Rattle.sqlcipher_tool.proofs.Conclusions.{no_part}
 use Rattle.sqlcipher_tool.proofs.Stamping.{rose_from, stop_not_done}
 
 -- ---- what is answered
 
-abbrev pub Outcome : Type 0
-Outcome = Result (Unit {0}) ChangeError
-
-some_same : (a b : Answer) → Some a ≡ Some b → a ≡ b
-some_same a b is = cc
-
-pub told_of : (r s : Outcome) (due : Answer) → r ≡ s → IsFault (change_status r) ⊎ (change_answer stamped_report r ≡ Some due)
-    → IsFault (change_status s) ⊎ (change_answer stamped_report s ≡ Some due)
-told_of r s due is told = subst (λ (o : Outcome). IsFault (change_status o) ⊎ (change_answer stamped_report o ≡ Some due)) is told
-
-pub done_due : (r : Outcome) (x : Unit {0}) (due : Answer) → r ≡ Ok x → IsFault (change_status r) ⊎ (change_answer stamped_report r ≡ Some due) → done stamped_report ≡ due
-done_due r x due is told = ⊎_elim (λ (no : ⊥). absurd no) (λ (same : Some (done stamped_report) ≡ Some due). some_same (done stamped_report) due same) (told_of r (Ok x) due is told)
-
-pub stop_due : (stop : Stop) (due answer : Answer) → IsFault (stop_status stop) ⊎ (stop_answer stop ≡ Some due) → stop_answer stop ≡ Some answer → due ≡ answer
-stop_due (StopRefused refusal) due answer told is = ⊎_elim (λ (no : ⊥). absurd no) (λ same. some_same due answer (sym same ∙ is)) told
-stop_due StopKey due answer told is = ⊎_elim (λ (no : ⊥). absurd no) (λ same. some_same due answer (sym same ∙ is)) told
-stop_due StopDisk due answer told is = cc
-stop_due StopMemory due answer told is = cc
+-- a fault has no answer
+pub fault_none : (r : Result (List ℕ) ChangeError) (answer : Answer) → IsFault (change_status r) → change_answer r ≡ Some answer → ⊥
+fault_none (Ok report) answer fault is = fault
+fault_none (Err (Stopped (StopRefused refusal))) answer fault is = fault
+fault_none (Err (Stopped StopKey)) answer fault is = fault
+fault_none (Err (Stopped StopDisk)) answer fault is = cc
+fault_none (Err (Stopped StopMemory)) answer fault is = cc
+fault_none (Err EntropyFails) answer fault is = cc
 
 pub the_only : (due answer : Answer) → due ≡ answer → Contains (due ∷ []) answer
 the_only due answer is = (0, omega arith, is)
@@ -66,24 +46,10 @@ silent_puts EntropyFault due before after fault same = no_part due.begun before 
 silent_puts OutOfMemory due before after fault same = no_part due.begun before after same
 
 -- a fault, and nothing was printed
-pub silent_one : (due : Answer) (status : Status) (tells : Bool) (before after : List ℕ) → IsFault status → after ≡ before → AnswersOne (due ∷ []) status tells before after
-silent_one due status tells before after fault same =
-    record { answer = due; is_due = the_only due due refl; answered = inr fault; puts = λ printed. silent_puts status due before after fault same }
-
--- where the recovery is refused
-pub refused_one : (stop : Stop) (r : Result Recovery RecoverError) (otherwise answer : Answer) → IsOutside stop ⊎ (stop_answer stop ≡ refused_answer r)
-    → stop_answer stop ≡ Some answer → Contains (after_recovery r otherwise ∷ []) answer
-refused_one stop r otherwise answer is same = the_only (after_recovery r otherwise) answer (sym (⊎_elim
-    (λ (outside : IsOutside stop). absurd (no_answer outside))
-    (λ (refused : stop_answer stop ≡ refused_answer r). refused_is r answer otherwise (sym same ∙ refused)) is))
-  where
-    no_answer : IsOutside stop → ⊥
-    no_answer outside = ⊎_elim
-        (λ (disk : stop ≡ StopDisk). absurd (none_some (ap stop_answer (sym disk) ∙ same)))
-        (λ (memory : stop ≡ StopMemory). absurd (none_some (ap stop_answer (sym memory) ∙ same))) outside
-      where
-        none_some : None ≡ Some answer → ⊥
-        none_some is = cc
+pub silent_one : (answers : List Answer) (status : Status) (tells : Bool) (before after : List ℕ) → 0 < length answers → IsFault status → after ≡ before → AnswersOne answers status tells before after
+silent_one answers status tells before after some fault same =
+    let due = first_due answers some in
+    record { answer = due.0; is_due = due.1; answered = inr fault; puts = λ printed. silent_puts status due.0 before after fault same }
 
 -- ---- the last line
 
@@ -210,46 +176,10 @@ causes_after status before a b d e f g le causes = record {
   entropy_later = causes.entropy_later;
 }
 
-pub late_stop : (r : Outcome) (stop : Stop) → r ≡ Err (Stopped stop) → IfErr r IsLateChange → IsLate stop
-late_stop r stop is late = subst (λ (o : Outcome). IfErr o IsLateChange) is late
+pub late_stop : {T : Type 0} (r : Result T ChangeError) (stop : Stop) → r ≡ Err (Stopped stop) → IfErr r IsLateChange → IsLate stop
+late_stop {T} r stop is late = subst (λ (o : Result T ChangeError). IfErr o IsLateChange) is late
 
 -- ---- the recovery before it
-
-abbrev IsOfFile : Answer → Type 0
-IsOfFile answer = IsUnrecovered answer.status → ⊥
-
-stamped_of_file : (opened : Result Opened OpenError) → IsOfFile (stamped_answer opened)
-stamped_of_file (Ok opened) is = is
-stamped_of_file (Err Empty) is = is
-stamped_of_file (Err (Short len)) is = is
-stamped_of_file (Err NoKey) is = is
-stamped_of_file (Err (HeaderFault offset found)) is = is
-stamped_of_file (Err WalMode) is = is
-stamped_of_file (Err AutoVacuum) is = is
-stamped_of_file (Err (Ragged len)) is = is
-stamped_of_file (Err (TooLarge pages)) is = is
-stamped_of_file (Err DiskFails) is = is
-stamped_of_file (Err MemoryEnds) is = is
-
-fault_of_file : (status : Status) → IsFault status → IsUnrecovered status → ⊥
-fault_of_file Done fault is = fault
-fault_of_file Usage fault is = fault
-fault_of_file (Refused refusal) fault is = fault
-fault_of_file KeyRefused fault is = fault
-fault_of_file DiskFault fault is = is
-fault_of_file OutputFault fault is = is
-fault_of_file InputFault fault is = is
-fault_of_file EntropyFault fault is = is
-fault_of_file OutOfMemory fault is = is
-
-pub stamp_recovered : (profile : Profile) (secret : Secret) (file : List ℕ) (status : Status) (tells : Bool) (before after : List ℕ)
-    → AnswersOne (stamp_answer profile secret file ∷ []) status tells before after → IsUnrecovered status → ⊥
-stamp_recovered profile secret file status tells before after one is = ⊎_elim
-    (λ (same : status ≡ one.answer.status). stamped_of_file (opened_with profile secret file) (subst IsUnrecovered (same ∙ ap (λ (a : Answer). a.status) (sym (only (stamp_answer profile secret file) one.answer one.is_due))) is))
-    (λ (fault : IsFault status). fault_of_file status fault is) one.answered
-  where
-    only : (due answer : Answer) → Contains (due ∷ []) answer → due ≡ answer
-    only due answer has = search (Rattle.std.proofs.Common.rules, has)
 
 pub done_alone : (size : ℕ) (main journal : Option (List ℕ)) (image : Files) → IsDone size main journal image → IsAlone (recovered size (unwrap_or main []) journal) image
 done_alone size None journal image done = absurd done

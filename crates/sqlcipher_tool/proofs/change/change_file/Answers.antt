@@ -1,0 +1,106 @@
+use Rattle.std.proofs.Common.{◌≡◌, inl, ◌≤◌, ◌<◌, ℕ, List, length, refl, sym, ap, subst, ◌∙◌, arith, rules}
+use Rattle.edge_model.specs.Files.{bytes_of}
+use Rattle.edge_model.specs.Images.{Each, From, LeavesOnly}
+use Rattle.edge_model.specs.Moments.{at_exit, then_from, weaker}
+use Rattle.page_codec.specs.Page.{keys_of}
+use Rattle.pager.specs.File.{main_of}
+use Rattle.transaction.specs.Facts.{SameFresh}
+use Rattle.sqlcipher_tool.specs.Change.{IsAlone, KeepsOrCommits, change_answers, command_of}
+use Rattle.sqlcipher_tool.specs.Holding.{HoldsOnly, held_by}
+use Rattle.sqlcipher_tool.specs.Recovered.{recovered_main, recovery_of}
+use Rattle.sqlcipher_tool.specs.Renewal.{IsNew, Renewal}
+use Rattle.sqlcipher_tool.proofs.Answered.{holds_on}
+use Rattle.sqlcipher_tool.proofs.Changing.{after_old, as_run}
+use Rattle.sqlcipher_tool.proofs.Recoveries.{had_byte, journal_gone}
+use Rattle.sqlcipher_tool.proofs.SomeDue.{after_some, change_some}
+use Rattle.sqlcipher_tool.proofs.Changed.{causes_after, causes_stopped, done_alone, last_not_done, stop_last}
+use Rattle.sqlcipher_tool.proofs.Verified.{stop_one}
+use Rattle.sqlcipher_tool.proofs.VerifiedFile.{answers_recovered, change_of_file, refused_due}
+use Rattle.sqlcipher_tool.proofs.change.change_file.Goals as goal
+
+pub returns-in-Ok-clause-causes : goal.returns-in-Ok-clause-causes
+returns-in-Ok-clause-causes g c = causes_after c.change_main.result _ _ _ _ _ _ _ c.recover_main.ensures.later c.change_main.ensures.causes
+
+pub returns-in-Ok-clause-changes : goal.returns-in-Ok-clause-changes
+returns-in-Ok-clause-changes g c = λ told start.
+    let d = g.D.Disk in
+    let profile = c.args.old in
+    let secret = c.args.first.now in
+    let file = recovered_main profile (d.reads c.args.disk.now) in
+    let keys = keys_of profile secret file in
+    let first : LeavesOnly d.moment d.since c.args.disk.now c.recover_main.new.disk (HoldsOnly (held_by keys file)) =
+    weaker (λ image from. holds_on profile.page_size (held_by keys file) from.0 image refl from.2 (start from.0 from.1)) (c.recover_main.ensures.keeps told) in
+    let main = main_of (d.reads c.recover_main.new.disk) in
+    let same : file ≡ main = sym (c.in-Ok.ensures.main told) in
+    let begun : Each (d.images c.recover_main.new.disk) (HoldsOnly (held_by (keys_of profile secret main) main)) =
+    subst (λ (l : List ℕ). Each (d.images c.recover_main.new.disk) (HoldsOnly (held_by (keys_of profile secret l) l))) same (at_exit g.met.D.Disk.counts_now first) in
+    let renewal : Renewal = record { old_profile = profile; old_secret = secret; new_profile = c.args.new; new_secret = c.args.second.now } in
+    let next = subst (λ (l : List ℕ). KeepsOrCommits d.reads d.images d.moment d.since c.change_main.result (IsNew (command_of c.args.change profile c.args.new) renewal l)
+    (HoldsOnly (held_by (keys_of profile secret l) l)) (λ n. HoldsOnly (held_by (keys_of c.args.new c.args.second.now n) n)) c.recover_main.new.disk c.change_main.new.disk) (sym same)
+    (c.change_main.ensures.safely told begun) in
+    as_run d.reads d.images d.moment d.since g.met.D.Disk.counts_now g.met.D.Disk.only_now c.change_main.result
+    (after_old d.reads d.images d.moment d.since g.met.D.Disk.counts_now g.met.D.Disk.only_now c.change_main.result first next)
+
+pub returns-in-Ok-clause-fresh : goal.returns-in-Ok-clause-fresh
+returns-in-Ok-clause-fresh g c = λ told.
+    let first : LeavesOnly g.D.Disk.moment g.D.Disk.since c.args.disk.now c.recover_main.new.disk (From SameFresh (g.D.Disk.images c.args.disk.now)) =
+    weaker (λ image from. (from.0, from.1, from.2.fresh)) (c.recover_main.ensures.keeps told) in
+    then_from g.met.D.Disk.counts_now (λ a b e ab be. be ∙ ab) first (c.change_main.ensures.fresh told)
+
+pub returns-in-Ok-clause-unrecovered : goal.returns-in-Ok-clause-unrecovered
+returns-in-Ok-clause-unrecovered g c = λ told is.
+    let answers = change_answers c.args.change c.args.old c.args.first.now (main_of (g.D.Disk.reads c.recover_main.new.disk)) in
+    absurd (answers_recovered answers (change_of_file c.args.change c.args.old c.args.first.now (main_of (g.D.Disk.reads c.recover_main.new.disk))) c.change_main.result g.S.Sink.tells
+    (g.S.Sink.taken c.args.out.now) (g.S.Sink.taken c.change_main.new.out) (c.change_main.ensures.answer told) is)
+
+pub change_main-requires-clause-recovered : goal.change_main-requires-clause-recovered
+change_main-requires-clause-recovered g c = λ told byte image now.
+    let files = g.D.Disk.reads c.args.disk.now in
+    journal_gone c.args.old.page_size (bytes_of files.main) (bytes_of files.journal) image
+    (c.in-Ok.ensures.done told (had_byte c.args.old files (main_of (g.D.Disk.reads c.recover_main.new.disk)) (c.in-Ok.ensures.main told) byte) image now)
+
+pub change_main-requires-clause-alone : goal.change_main-requires-clause-alone
+change_main-requires-clause-alone g c = λ told long image now.
+    let files = g.D.Disk.reads c.args.disk.now in
+    let main = main_of (g.D.Disk.reads c.recover_main.new.disk) in
+    let some : 1 ≤ c.args.old.page_size = search (rules, c.requires.listed.0) in
+    let byte : 0 < length main = omega (arith, some, long) in
+    subst (λ (l : List ℕ). IsAlone l image) (sym (c.in-Ok.ensures.main told)) (done_alone c.args.old.page_size (bytes_of files.main) (bytes_of files.journal) image
+    (c.in-Ok.ensures.done told (had_byte c.args.old files main (c.in-Ok.ensures.main told) byte) image now))
+
+pub returns-in-Err-clause-answer : goal.returns-in-Err-clause-answer
+returns-in-Err-clause-answer g c = λ told.
+    let files = g.D.Disk.reads c.args.disk.now in
+    let main = recovered_main c.args.old files in
+    let answers = change_answers c.args.change c.args.old c.args.first.now main in
+    let recovery = recovery_of c.args.old files in
+    stop_one _ c.in-Err.stop c.conclude_stop.result g.S.Sink.tells (g.S.Sink.taken c.args.out.now) (g.S.Sink.taken c.conclude_stop.new.out)
+    (after_some recovery answers (change_some c.args.change c.args.old c.args.first.now main))
+    (refused_due recovery answers c.in-Err.stop (c.in-Err.ensures.stop told))
+    c.conclude_stop.ensures.status c.conclude_stop.ensures.text
+    (λ is. let failed = c.conclude_stop.ensures.disk is in (failed.0, ap g.S.Sink.taken failed.1))
+    (λ is. let starved = c.conclude_stop.ensures.memory is in (starved.0, ap g.S.Sink.taken starved.1))
+
+pub returns-in-Err-clause-causes : goal.returns-in-Err-clause-causes
+returns-in-Err-clause-causes g c =
+    causes_stopped c.in-Err.stop c.conclude_stop.result _ _ _ _ _ _ c.conclude_stop.ensures.no_disk c.in-Err.ensures.cause c.conclude_stop.ensures.fault c.conclude_stop.ensures.others
+    (c.conclude_stop.ensures.late c.in-Err.ensures.late) c.recover_main.ensures.later c.conclude_stop.ensures.later (omega arith)
+
+pub returns-in-Err-clause-changes : goal.returns-in-Err-clause-changes
+returns-in-Err-clause-changes g c = λ told start.
+    let profile = c.args.old in
+    let file = recovered_main profile (g.D.Disk.reads c.args.disk.now) in
+    let held = held_by (keys_of profile c.args.first.now file) file in
+    inl (record {
+      any_moment = λ image ever. let from = (c.recover_main.ensures.keeps told).each image ever in holds_on profile.page_size held from.0 image refl from.2 (start from.0 from.1);
+      not_done = last_not_done c.in-Err.stop c.conclude_stop.result (stop_last c.in-Err.stop c.conclude_stop.result c.conclude_stop.ensures.status
+          (λ same. (c.conclude_stop.ensures.disk same).0) (λ same. (c.conclude_stop.ensures.memory same).0));
+    })
+
+pub returns-in-Err-clause-fresh : goal.returns-in-Err-clause-fresh
+returns-in-Err-clause-fresh g c = λ told. weaker (λ image from. (from.0, from.1, from.2.fresh)) (c.recover_main.ensures.keeps told)
+
+pub returns-in-Err-clause-own_draws : goal.returns-in-Err-clause-own_draws
+returns-in-Err-clause-own_draws g c = λ told drawing is.
+    absurd (last_not_done c.in-Err.stop c.conclude_stop.result (stop_last c.in-Err.stop c.conclude_stop.result c.conclude_stop.ensures.status
+    (λ same. (c.conclude_stop.ensures.disk same).0) (λ same. (c.conclude_stop.ensures.memory same).0)) is)

@@ -1,0 +1,168 @@
+use Rattle.std.proofs.Common.{◌≡◌, inl, ℕ, List, length, drop, Ok, Err, Result, sym, ap, subst, ◌∙◌, arith, rules}
+use Rattle.std.specs.List.{Contains}
+use Rattle.std.specs.Prelude.{OnOk}
+use Rattle.edge_model.specs.Causes.{Rose}
+use Rattle.edge_model.specs.Files.{Files}
+use Rattle.edge_model.specs.Images.{From, LeavesOnly}
+use Rattle.edge_model.specs.Moments.{then_from}
+use Rattle.cipher_profile.specs.declared.profile.Profile.{Profile}
+use Rattle.page_codec.specs.Page.{FileKeys, keys_of, salt_of}
+use Rattle.pager.specs.File.{main_of}
+use Rattle.pager.specs.Opening.{Opened}
+use Rattle.pager.specs.Pages.{is_number, opened_pages}
+use Rattle.pager.specs.declared.opening.OpenError.{OpenError}
+use Rattle.rekey_job.specs.Rekeyed.{IsRekeyed}
+use Rattle.transaction.specs.Facts.{SameFresh}
+use Rattle.sqlcipher_tool.specs.Change.{IsAlone, KeepsOrCommits, change_status}
+use Rattle.sqlcipher_tool.specs.Draws.{FileDraws}
+use Rattle.sqlcipher_tool.specs.Holding.{HoldsOnly, held_by}
+use Rattle.sqlcipher_tool.specs.Opening.{opened_with}
+use Rattle.sqlcipher_tool.specs.Rekey.{rekey_due}
+use Rattle.sqlcipher_tool.specs.Renewal.{IsRekeyedSo}
+use Rattle.sqlcipher_tool.specs.Verify.{opened_answers}
+use Rattle.sqlcipher_tool.proofs.Changing.{after_old, read_fresh, read_only, said_so}
+use Rattle.sqlcipher_tool.proofs.OpenedParts.{open_parts}
+use Rattle.sqlcipher_tool.proofs.Rekeying.{rekeyed_draws}
+use Rattle.sqlcipher_tool.proofs.Stamping.{stop_not_done}
+use Rattle.sqlcipher_tool.proofs.Verified.{no_held_pins}
+use Rattle.sqlcipher_tool.proofs.VerifiedFile.{unopened_due}
+use Rattle.sqlcipher_tool.proofs.rekey.rekey_file.Goals as goal
+
+pub returns-in-Err-clause-told : goal.returns-in-Err-clause-told
+returns-in-Err-clause-told g c = λ told answer is.
+    let file = main_of (g.D.Disk.reads c.args.disk.now) in
+    unopened_due (opened_with c.args.old c.args.first.now file) (λ n. rekey_due (opened_pages (keys_of c.args.old c.args.first.now file) file n)) c.in-Err.stop (c.in-Err.ensures.stop told) answer is
+
+pub returns-in-Err-clause-safely : goal.returns-in-Err-clause-safely
+returns-in-Err-clause-safely g c = λ told start.
+    let d = g.D.Disk in
+    inl (record {
+      any_moment = read_only d.reads d.images d.moment d.since g.met.D.Disk.counts_now g.met.D.Disk.only_now start (c.open_main.ensures.only_read told);
+      not_done = stop_not_done c.in-Err.stop;
+    })
+
+pub returns-in-Err-clause-fresh : goal.returns-in-Err-clause-fresh
+returns-in-Err-clause-fresh g c = λ told.
+    let d = g.D.Disk in
+    read_fresh d.reads d.images d.moment d.since g.met.D.Disk.counts_now g.met.D.Disk.only_now (c.open_main.ensures.only_read told)
+
+pub rekey_pages-disk-requires-clause-layout : goal.rekey_pages-disk-requires-clause-layout
+rekey_pages-disk-requires-clause-layout g c =
+    let write = c.codec_of_salt-write.ensures in
+    let profile = ap (λ (k : FileKeys). k.profile) c.into_pager-pager.ensures.file.0 ∙ c.in-Ok.ensures.profile in (
+      ap (λ (p : Profile). p.page_size) write.profile ∙ (c.requires.layout.0 ∙ sym (ap (λ (p : Profile). p.page_size) profile)),
+      ap (λ (p : Profile). p.reserve) write.profile ∙ (c.requires.layout.1 ∙ sym (ap (λ (p : Profile). p.reserve) profile)),
+      write.salt ∙ (c.salt.ensures ∙ ap (λ (k : FileKeys). k.salt) c.codec.ensures),
+    )
+
+pub rekey_pages-disk-requires-clause-unpinned : goal.rekey_pages-disk-requires-clause-unpinned
+rekey_pages-disk-requires-clause-unpinned g c = no_held_pins c.into_pager-pager.result.cache.held c.into_pager-pager.ensures.unread.0
+
+pub rekey_pages-disk-requires-clause-alone : goal.rekey_pages-disk-requires-clause-alone
+rekey_pages-disk-requires-clause-alone g c = λ told image now.
+    let d = g.D.Disk in
+    let read = c.open_main.ensures.only_read told in
+    let file = main_of (d.reads c.args.disk.now) in
+    let keys = keys_of c.args.old c.args.first.now file in
+    let made = c.into_pager-pager.ensures.disk.1 in
+    let opened = open_parts keys file _ _ (c.in-Ok.ensures.opens told) in
+    let at_first = read.same_images.no_more image (subst (λ (x : _). d.images x image) made now) in
+    subst (λ (x : _). IsAlone (main_of (d.reads x)) image) (sym made)
+    (subst (λ (files : Files). IsAlone (main_of files) image) (sym read.stays) (c.requires.alone told opened.long image at_first))
+
+pub returns-clause-told : goal.returns-clause-told
+returns-clause-told g c = λ told answer is.
+    let d = g.D.Disk in
+    let p = c.into_pager-pager.result in
+    let file = main_of (d.reads c.args.disk.now) in
+    let keys = keys_of c.args.old c.args.first.now file in
+    let codec : p.codec ≡ keys = c.into_pager-pager.ensures.file.0 ∙ c.in-Ok.ensures.codec told in
+    let same : main_of (d.reads p.disk.now) ≡ file = ap (λ (x : _). main_of (d.reads x)) c.into_pager-pager.ensures.disk.1 ∙ ap (λ (files : Files). main_of files) (c.open_main.ensures.only_read told).stays in
+    let one = subst (λ (k : FileKeys). Contains (rekey_due (opened_pages k (main_of (d.reads p.disk.now)) p.count)) answer) codec (c.rekey_pages-disk.ensures.told told answer is) in
+    let two = subst (λ (l : List ℕ). Contains (rekey_due (opened_pages keys l p.count)) answer) same one in
+    let three = subst (λ (n : ℕ). Contains (rekey_due (opened_pages keys file n)) answer) c.into_pager-pager.ensures.file.2 two in
+    subst (λ (o : Result Opened OpenError). Contains (opened_answers o (λ n. rekey_due (opened_pages keys file n))) answer) (sym (c.in-Ok.ensures.opens told)) three
+
+pub returns-clause-safely : goal.returns-clause-safely
+returns-clause-safely g c = λ told start.
+    let d = g.D.Disk in
+    let p = c.into_pager-pager.result in
+    let read = c.open_main.ensures.only_read told in
+    let made = c.into_pager-pager.ensures.disk.1 in
+    let file = main_of (d.reads c.args.disk.now) in
+    let keys = keys_of c.args.old c.args.first.now file in
+    let write = c.codec_of_salt-write.result in
+    let status = change_status c.rekey_pages-disk.result.2 in
+    let end = c.rekey_pages-disk.result.0.now in
+    let codec : p.codec ≡ keys = c.into_pager-pager.ensures.file.0 ∙ c.in-Ok.ensures.codec told in
+    let same : main_of (d.reads p.disk.now) ≡ file = ap (λ (x : _). main_of (d.reads x)) made ∙ ap (λ (files : Files). main_of files) read.stays in
+    let one = subst (λ (k : FileKeys). KeepsOrCommits d.reads d.images d.moment d.since status (IsRekeyed k write p.count (main_of (d.reads p.disk.now)))
+    (HoldsOnly (held_by k (main_of (d.reads p.disk.now)))) (λ n. HoldsOnly (held_by write n)) p.disk.now end) codec (c.rekey_pages-disk.ensures.safely told) in
+    let two = subst (λ (l : List ℕ). KeepsOrCommits d.reads d.images d.moment d.since status (IsRekeyed keys write p.count l)
+    (HoldsOnly (held_by keys l)) (λ n. HoldsOnly (held_by write n)) p.disk.now end) same one in
+    let salt = c.salt.ensures ∙ ap (λ (k : FileKeys). k.salt) (c.codec.ensures ∙ codec) in
+    let is_key : (n : List ℕ) → salt_of n ≡ salt_of file → write ≡ keys_of c.args.new c.args.second.now n = λ n same_salt. c.codec_of_salt-write.ensures.keys n (salt ∙ sym same_salt) in
+    let three = said_so d.reads d.images d.moment d.since g.met.D.Disk.counts_now g.met.D.Disk.only_now {R = λ n. HoldsOnly (held_by (keys_of c.args.new c.args.second.now n) n)}
+    {is_other = λ n. IsRekeyedSo keys (keys_of c.args.new c.args.second.now n) file n} status
+    (λ n is. (p.count, subst (λ (k : FileKeys). IsRekeyed keys k p.count file n) (is_key n is.salt) is))
+    (λ n is image holds. subst (λ (k : FileKeys). HoldsOnly (held_by k n) image) (is_key n is.salt) holds) two in
+    let first : LeavesOnly d.moment d.since c.args.disk.now p.disk.now (HoldsOnly (held_by keys file)) =
+    rw made (read_only d.reads d.images d.moment d.since g.met.D.Disk.counts_now g.met.D.Disk.only_now start read) in
+    let last : c.disk-1.given.0 ≡ end = search rules in
+    rw last (after_old d.reads d.images d.moment d.since g.met.D.Disk.counts_now g.met.D.Disk.only_now status first three)
+
+pub returns-clause-fresh : goal.returns-clause-fresh
+returns-clause-fresh g c = λ told.
+    let d = g.D.Disk in
+    let p = c.into_pager-pager.result in
+    let made = c.into_pager-pager.ensures.disk.1 in
+    let end = c.rekey_pages-disk.result.0.now in
+    let first : LeavesOnly d.moment d.since c.args.disk.now p.disk.now (From SameFresh (d.images c.args.disk.now)) =
+    rw made (read_fresh d.reads d.images d.moment d.since g.met.D.Disk.counts_now g.met.D.Disk.only_now (c.open_main.ensures.only_read told)) in
+    let last : c.disk-1.given.0 ≡ end = search rules in
+    rw last (then_from g.met.D.Disk.counts_now (λ a b e ab be. be ∙ ab) first (c.rekey_pages-disk.ensures.fresh told))
+
+-- what holds where both hold
+ok_both : {T E : Type 0} {A B C : Type 0} (r : Result T E) → OnOk r A → OnOk r B → (A → B → C) → OnOk r C
+ok_both (Ok x) a b f = f a b
+ok_both (Err e) a b f = a
+
+pub returns-clause-own_draws : goal.returns-clause-own_draws
+returns-clause-own_draws g c =
+    let d = g.D.Disk in
+    let p = c.into_pager-pager.result in
+    let made = c.into_pager-pager.ensures in
+    let read = c.open_main.ensures.only_read in
+    let file = main_of (d.reads c.args.disk.now) in
+    let keys = keys_of c.args.old c.args.first.now file in
+    let write = c.codec_of_salt-write.result in
+    let end = c.rekey_pages-disk.result.0.now in
+    let after = c.rekey_pages-disk.result.1.now in
+    let main = main_of (d.reads end) in
+    let last : c.disk-1.given.0 ≡ end = search rules in
+    let drawn_last : c.entropy-1.given.0 ≡ after = search rules in
+    rw (last, drawn_last) (ok_both c.rekey_pages-disk.result.2 c.rekey_pages-disk.ensures.rekeyed c.rekey_pages-disk.ensures.own_draws (λ rekeyed draws told drawing.
+    let codec : p.codec ≡ keys = made.file.0 ∙ c.in-Ok.ensures.codec told in
+    let same : main_of (d.reads p.disk.now) ≡ file = ap (λ (x : _). main_of (d.reads x)) made.disk.1 ∙ ap (λ (files : Files). main_of files) (read told).stays in
+    let salt = c.salt.ensures ∙ ap (λ (k : FileKeys). k.salt) (c.codec.ensures ∙ codec) in
+    let is = rekeyed told in
+    let same_salt : salt_of main ≡ salt_of file = is.salt ∙ ap salt_of same in
+    rekeyed_draws p.codec write p.count (main_of (d.reads p.disk.now)) main (drop (length (g.E.Entropy.drawn c.args.entropy.now)) (g.E.Entropy.drawn after)) c.args.new c.args.second.now is
+    (c.codec_of_salt-write.ensures.keys main (salt ∙ sym same_salt))
+    (subst (λ (x : _). FileDraws write main (is_number p.count) 0 (drop (length (g.E.Entropy.drawn x)) (g.E.Entropy.drawn after))) made.entropy.1 (draws told drawing))))
+
+pub returns-clause-disk_later : goal.returns-clause-disk_later
+returns-clause-disk_later g c =
+    let last : c.disk-1.given.0 ≡ c.rekey_pages-disk.result.0.now = search rules in
+    rw last (omega (arith, c.open_main.ensures.later, ap g.D.Disk.faults c.into_pager-pager.ensures.disk.1, c.rekey_pages-disk.ensures.disk_later))
+
+pub returns-clause-entropy_later : goal.returns-clause-entropy_later
+returns-clause-entropy_later g c =
+    let last : c.entropy-1.given.0 ≡ c.rekey_pages-disk.result.1.now = search rules in
+    rw last (omega (arith, ap g.E.Entropy.faults c.into_pager-pager.ensures.entropy.1, c.rekey_pages-disk.ensures.entropy_later))
+
+pub returns-clause-entropy_fault : goal.returns-clause-entropy_fault
+returns-clause-entropy_fault g c = λ is.
+    let after = c.rekey_pages-disk.result.1.now in
+    let last : c.entropy-1.given.0 ≡ after = search rules in
+    rw last (subst (λ (x : _). Rose (g.E.Entropy.faults x) (g.E.Entropy.faults after)) c.into_pager-pager.ensures.entropy.1 (c.rekey_pages-disk.ensures.entropy_fault is))

@@ -1,0 +1,152 @@
+// A change of the file: it is recovered, opened, and changed in one transaction.
+ghost use Rattle.std.specs.Prelude.{◌≡◌, ◌≤◌, drop, length, true, Some, Err, IfErr, OnOk, IsTrue};
+ghost use Rattle.std.specs.List.{Contains};
+ghost use Rattle.cipher_profile.specs.Profile.{IsListed};
+ghost use Rattle.edge_model.specs.Causes.{Rose};
+ghost use Rattle.edge_model.specs.Images.{Each, From, LeavesOnly};
+ghost use Rattle.page_codec.specs.Page.{keys_of};
+ghost use Rattle.pager.specs.File.{main_of};
+ghost use Rattle.transaction.specs.Facts.{SameFresh};
+ghost use Rattle.sqlcipher_tool.specs.Answer.{Answer, HasDrawnCauses, PutsLine};
+ghost use Rattle.sqlcipher_tool.specs.Change.{IsAlone, IsChangeBetween, IsLateChange, KeepsOrCommits, change_answer, change_answers, change_status, command_of};
+ghost use Rattle.sqlcipher_tool.specs.Crash.{IsSafely};
+ghost use Rattle.sqlcipher_tool.specs.Holding.{HoldsOnly, disk_run, held_by};
+ghost use Rattle.sqlcipher_tool.specs.Opening.{AreRecovered};
+ghost use Rattle.sqlcipher_tool.specs.Promises.{AnswersOne, IsUnrecovered};
+ghost use Rattle.sqlcipher_tool.specs.Recovered.{recovered_answers};
+ghost use Rattle.sqlcipher_tool.specs.Renewal.{AreDrawn, IsNew};
+
+use crate::command::Field;
+use crate::conclusion::{conclude, conclude_stop};
+use crate::opening::{ChangeError, Stop};
+use crate::recovery::recover_main;
+use crate::rekey::rekey_file;
+use crate::stamp::stamp_file;
+use crate::status::Status;
+use crate::text::Text;
+use cipher_profile::{Profile, Secret};
+use edge_model::{Disk, Entropy, Sink};
+use std::alloc::Global;
+
+/// What is changed.
+#[derive(Clone, Copy, Debug, PartialEq, Eq)]
+pub enum Change {
+    /// A field of the database header.
+    Stamp {
+        /// The field.
+        field: Field,
+        /// Its new number.
+        value: u32,
+    },
+    /// The key of every page.
+    Rekey,
+}
+
+/// Changes a file of the first profile and secret, after a recovery, to one of the second.
+pub fn change_file<S: Sink, E: Entropy, D: Disk>(
+    alloc: Global,
+    change: Change,
+    old: Profile,
+    new: Profile,
+    first: &Secret,
+    second: &Secret,
+    out: &mut S,
+    entropy: &mut E,
+    disk: &mut D,
+) -> Status
+    requires listed { IsListed old × IsListed new }
+    requires between { IsChangeBetween change (record { old_profile = old; old_secret = first.now; new_profile = new; new_secret = second.now }) }
+    ensures answer { IsTrue D.tells
+        → AnswersOne (recovered_answers old (D.reads disk.old) (change_answers change old first.now)) result S.tells (S.taken out.old) (S.taken out.new) }
+    ensures line { IsTrue S.tells → PutsLine result (S.taken out.old) (S.taken out.new) }
+    ensures causes { HasDrawnCauses result true (D.faults disk.old) (D.faults disk.new) (S.faults out.old) (S.faults out.new) (E.faults entropy.old) (E.faults entropy.new) }
+    // old or new
+    ensures changes { IsTrue D.tells → IsSafely result (command_of change old new) (disk_run D.reads D.images D.moment D.since disk.old disk.new)
+        (Some (record { old_profile = old; old_secret = first.now; new_profile = new; new_secret = second.now })) }
+    ensures fresh { IsTrue D.tells → LeavesOnly D.moment D.since disk.old disk.new (From SameFresh (D.images disk.old)) }
+    ensures own_draws { IsTrue D.tells → IsTrue E.tells → result ≡ Status.Done
+        → AreDrawn (command_of change old new) (record { old_profile = old; old_secret = first.now; new_profile = new; new_secret = second.now })
+        (main_of (D.reads disk.new)) (drop (length (E.drawn entropy.old)) (E.drawn entropy.new)) }
+    ensures unrecovered { IsTrue D.tells → IsUnrecovered result → D.reads disk.new ≡ D.reads disk.old }
+{
+    match recover_main(alloc, disk, old) {
+        Ok(_) => change_main(alloc, change, old, new, first, second, out, entropy, disk),
+        Err(stop) => conclude_stop(out, stop),
+    }
+}
+
+// The change of Main as it reads. Its last line takes no memory.
+fn change_main<S: Sink, E: Entropy, D: Disk>(
+    alloc: Global,
+    change: Change,
+    old: Profile,
+    new: Profile,
+    first: &Secret,
+    second: &Secret,
+    out: &mut S,
+    entropy: &mut E,
+    disk: &mut D,
+) -> Status
+    requires listed { IsListed old × IsListed new }
+    requires between { IsChangeBetween change (record { old_profile = old; old_secret = first.now; new_profile = new; new_secret = second.now }) }
+    requires recovered { IsTrue D.tells → AreRecovered (D.reads disk.old) (D.images disk.old) }
+    requires alone { IsTrue D.tells → old.page_size ≤ length (main_of (D.reads disk.old)) → Each (D.images disk.old) (IsAlone (main_of (D.reads disk.old))) }
+    ensures answer { IsTrue D.tells → AnswersOne (change_answers change old first.now (main_of (D.reads disk.old))) result S.tells (S.taken out.old) (S.taken out.new) }
+    ensures line { IsTrue S.tells → PutsLine result (S.taken out.old) (S.taken out.new) }
+    ensures causes { HasDrawnCauses result true (D.faults disk.old) (D.faults disk.new) (S.faults out.old) (S.faults out.new) (E.faults entropy.old) (E.faults entropy.new) }
+    ensures safely { IsTrue D.tells → Each (D.images disk.old) (HoldsOnly (held_by (keys_of old first.now (main_of (D.reads disk.old))) (main_of (D.reads disk.old))))
+        → KeepsOrCommits D.reads D.images D.moment D.since result
+        (IsNew (command_of change old new) (record { old_profile = old; old_secret = first.now; new_profile = new; new_secret = second.now }) (main_of (D.reads disk.old)))
+        (HoldsOnly (held_by (keys_of old first.now (main_of (D.reads disk.old))) (main_of (D.reads disk.old))))
+        (λ file. HoldsOnly (held_by (keys_of new second.now file) file)) disk.old disk.new }
+    ensures fresh { IsTrue D.tells → LeavesOnly D.moment D.since disk.old disk.new (From SameFresh (D.images disk.old)) }
+    ensures own_draws { IsTrue D.tells → IsTrue E.tells → result ≡ Status.Done
+        → AreDrawn (command_of change old new) (record { old_profile = old; old_secret = first.now; new_profile = new; new_secret = second.now })
+        (main_of (D.reads disk.new)) (drop (length (E.drawn entropy.old)) (E.drawn entropy.new)) }
+{
+    match change_opened(alloc, change, old, new, first, second, entropy, disk) {
+        Ok(report) => conclude(out, &report, Status::Done),
+        Err(ChangeError::Stopped(stop)) => conclude_stop(out, stop),
+        Err(ChangeError::EntropyFault) => Status::EntropyFault,
+    }
+}
+
+// Main is opened, and changed. Answers what is printed.
+fn change_opened<E: Entropy, D: Disk>(
+    alloc: Global,
+    change: Change,
+    old: Profile,
+    new: Profile,
+    first: &Secret,
+    second: &Secret,
+    entropy: &mut E,
+    disk: &mut D,
+) -> Result<Text, ChangeError>
+    requires listed { IsListed old × IsListed new }
+    requires between { IsChangeBetween change (record { old_profile = old; old_secret = first.now; new_profile = new; new_secret = second.now }) }
+    requires recovered { IsTrue D.tells → AreRecovered (D.reads disk.old) (D.images disk.old) }
+    requires alone { IsTrue D.tells → old.page_size ≤ length (main_of (D.reads disk.old)) → Each (D.images disk.old) (IsAlone (main_of (D.reads disk.old))) }
+    ensures told { IsTrue D.tells → (answer : Answer) → change_answer result ≡ Some answer
+        → Contains (change_answers change old first.now (main_of (D.reads disk.old))) answer }
+    ensures safely { IsTrue D.tells → Each (D.images disk.old) (HoldsOnly (held_by (keys_of old first.now (main_of (D.reads disk.old))) (main_of (D.reads disk.old))))
+        → KeepsOrCommits D.reads D.images D.moment D.since (change_status result)
+        (IsNew (command_of change old new) (record { old_profile = old; old_secret = first.now; new_profile = new; new_secret = second.now }) (main_of (D.reads disk.old)))
+        (HoldsOnly (held_by (keys_of old first.now (main_of (D.reads disk.old))) (main_of (D.reads disk.old))))
+        (λ file. HoldsOnly (held_by (keys_of new second.now file) file)) disk.old disk.new }
+    ensures fresh { IsTrue D.tells → LeavesOnly D.moment D.since disk.old disk.new (From SameFresh (D.images disk.old)) }
+    ensures own_draws { OnOk result (IsTrue D.tells → IsTrue E.tells
+        → AreDrawn (command_of change old new) (record { old_profile = old; old_secret = first.now; new_profile = new; new_secret = second.now })
+        (main_of (D.reads disk.new)) (drop (length (E.drawn entropy.old)) (E.drawn entropy.new))) }
+    ensures late { IfErr result IsLateChange }
+    ensures disk_fault { result ≡ Err (ChangeError.Stopped Stop.DiskFault) → Rose (D.faults disk.old) (D.faults disk.new) }
+    ensures entropy_fault { result ≡ Err ChangeError.EntropyFault → Rose (E.faults entropy.old) (E.faults entropy.new) }
+    ensures disk_later { D.faults disk.old ≤ D.faults disk.new }
+    ensures entropy_later { E.faults entropy.old ≤ E.faults entropy.new }
+{
+    match change {
+        Change::Stamp { field, value } => {
+            stamp_file(alloc, old, field, value, first, entropy, disk)
+        }
+        Change::Rekey => rekey_file(alloc, old, new, first, second, entropy, disk),
+    }
+}

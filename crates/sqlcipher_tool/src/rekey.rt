@@ -1,0 +1,140 @@
+// `rekey`: every page is sealed under another key, in one transaction.
+ghost use Rattle.std.specs.Prelude.{◌≡◌, ◌≤◌, ℕ, List, drop, length, Ok, Err, IfErr, OnOk, IsTrue, Some};
+ghost use Rattle.std.specs.List.{Contains};
+ghost use Rattle.edge_model.specs.Causes.{Rose};
+ghost use Rattle.edge_model.specs.Images.{Each, From, LeavesOnly};
+ghost use Rattle.cipher_profile.specs.Profile.{IsListed};
+ghost use Rattle.db_format.specs.Source.{no_pins};
+ghost use Rattle.page_codec.specs.Page.{keys_of, salt_of};
+ghost use Rattle.pager.specs.File.{main_of};
+ghost use Rattle.pager.specs.Held.{pins_of};
+ghost use Rattle.pager.specs.Opening.{file_opened};
+ghost use Rattle.pager.specs.Pages.{is_number, opened_pages};
+ghost use Rattle.rekey_job.specs.Rekeyed.{IsRekeyed};
+ghost use Rattle.transaction.specs.Facts.{SameFresh};
+ghost use Rattle.sqlcipher_tool.specs.Answer.{Answer};
+ghost use Rattle.sqlcipher_tool.specs.Change.{IsAlone, IsLateChange, KeepsOrCommits, change_answer, change_status, rekey_error};
+ghost use Rattle.sqlcipher_tool.specs.Draws.{FileDraws};
+ghost use Rattle.sqlcipher_tool.specs.Holding.{HoldsOnly, held_by};
+ghost use Rattle.sqlcipher_tool.specs.Opening.{AreRecovered};
+ghost use Rattle.sqlcipher_tool.specs.Rekey.{rekey_answers, rekey_due};
+ghost use Rattle.sqlcipher_tool.specs.Renewal.{IsRekeyedSo, pages_of};
+
+use crate::opening::{ChangeError, Stop, open_main};
+use crate::status::Refusal;
+use crate::text::{Text, rekeyed_report};
+use cipher_profile::{Profile, Secret, derive};
+use edge_model::{Disk, Entropy};
+use page_codec::Codec;
+use pager::{OpenedFile, PageSource, Pager};
+use rekey_job::{RekeyError, rekey};
+use std::alloc::Global;
+
+/// Opens Main with the first secret, and seals each of its pages under the keys of the second. Answers what is printed.
+pub fn rekey_file<E: Entropy, D: Disk>(
+    alloc: Global,
+    old: Profile,
+    new: Profile,
+    first: &Secret,
+    second: &Secret,
+    entropy: &mut E,
+    disk: &mut D,
+) -> Result<Text, ChangeError>
+    requires listed { IsListed old × IsListed new }
+    requires layout { (new.page_size ≡ old.page_size) × (new.reserve ≡ old.reserve) }
+    requires recovered { IsTrue D.tells → AreRecovered (D.reads disk.old) (D.images disk.old) }
+    requires alone { IsTrue D.tells → old.page_size ≤ length (main_of (D.reads disk.old)) → Each (D.images disk.old) (IsAlone (main_of (D.reads disk.old))) }
+    ensures told { IsTrue D.tells → (answer : Answer) → change_answer result ≡ Some answer → Contains (rekey_answers old first.now (main_of (D.reads disk.old))) answer }
+    ensures safely { IsTrue D.tells → Each (D.images disk.old) (HoldsOnly (held_by (keys_of old first.now (main_of (D.reads disk.old))) (main_of (D.reads disk.old))))
+        → KeepsOrCommits D.reads D.images D.moment D.since (change_status result)
+        (λ file. IsRekeyedSo (keys_of old first.now (main_of (D.reads disk.old))) (keys_of new second.now file) (main_of (D.reads disk.old)) file)
+        (HoldsOnly (held_by (keys_of old first.now (main_of (D.reads disk.old))) (main_of (D.reads disk.old))))
+        (λ file. HoldsOnly (held_by (keys_of new second.now file) file)) disk.old disk.new }
+    ensures fresh { IsTrue D.tells → LeavesOnly D.moment D.since disk.old disk.new (From SameFresh (D.images disk.old)) }
+    ensures own_draws { OnOk result (IsTrue D.tells → IsTrue E.tells
+        → FileDraws (keys_of new second.now (main_of (D.reads disk.new))) (main_of (D.reads disk.new))
+        (is_number (pages_of (keys_of new second.now (main_of (D.reads disk.new))) (main_of (D.reads disk.new)))) 0 (drop (length (E.drawn entropy.old)) (E.drawn entropy.new))) }
+    ensures late { IfErr result IsLateChange }
+    ensures disk_fault { result ≡ Err (ChangeError.Stopped Stop.DiskFault) → Rose (D.faults disk.old) (D.faults disk.new) }
+    ensures entropy_fault { result ≡ Err ChangeError.EntropyFault → Rose (E.faults entropy.old) (E.faults entropy.new) }
+    ensures disk_later { D.faults disk.old ≤ D.faults disk.new }
+    ensures entropy_later { E.faults entropy.old ≤ E.faults entropy.new }
+{
+    let file = match open_main(alloc, disk, old, first) {
+        Ok(file) => file,
+        Err(stop) => return Err(ChangeError::Stopped(stop)),
+    };
+    let pager = file.into_pager(disk, entropy);
+    let write = codec_of_salt(new, second, pager.codec().salt());
+    let (disk, entropy, done) = rekey_pages(alloc, pager, write);
+    // Both end here as they are, entropy first: the prover learns of each from these lines.
+    let _ = entropy;
+    let _ = disk;
+    done
+}
+
+// The codec that the secret gives for a file with this salt.
+fn codec_of_salt(profile: Profile, secret: &Secret, salt: [u8; 16]) -> Codec
+    requires { IsListed profile }
+    ensures keys { (file : List ℕ) → salt ≡ salt_of file → result ≡ keys_of profile secret.now file }
+    ensures profile { result.profile ≡ profile }
+    ensures salt { result.salt ≡ salt }
+{
+    Codec::new(profile, derive(secret, &profile, &salt), salt)
+}
+
+// All pages are sealed under this codec. The disk and the entropy come back in any case.
+fn rekey_pages<'d, D: Disk, E: Entropy>(
+    alloc: Global,
+    pager: Pager<'d, D, E>,
+    write: Codec,
+) -> (&'d mut D, &'d mut E, Result<Text, ChangeError>)
+    requires layout { (write.profile.page_size ≡ pager.codec.profile.page_size) × (write.profile.reserve ≡ pager.codec.profile.reserve) × (write.salt ≡ pager.codec.salt) }
+    requires unpinned { pins_of pager.cache.held ≡ no_pins }
+    requires salt { IsTrue D.tells → pager.codec.salt ≡ salt_of (main_of (D.reads pager.disk.now)) }
+    requires opened { IsTrue D.tells → file_opened pager.codec (main_of (D.reads pager.disk.now)) ≡ Ok (record { header = pager.header; count = pager.count }) }
+    requires alone { IsTrue D.tells → Each (D.images pager.disk.now) (IsAlone (main_of (D.reads pager.disk.now))) }
+    ensures disk { result.0.ghost_name ≡ pager.entry.disk.ghost_name }
+    ensures entropy { result.1.ghost_name ≡ pager.entry.entropy.ghost_name }
+    ensures told { IsTrue D.tells → (answer : Answer) → change_answer result.2 ≡ Some answer
+        → Contains (rekey_due (opened_pages pager.entry.codec (main_of (D.reads pager.entry.disk.now)) pager.entry.count)) answer }
+    ensures safely { IsTrue D.tells → KeepsOrCommits D.reads D.images D.moment D.since (change_status result.2)
+        (IsRekeyed pager.entry.codec write pager.entry.count (main_of (D.reads pager.entry.disk.now)))
+        (HoldsOnly (held_by pager.entry.codec (main_of (D.reads pager.entry.disk.now))))
+        (λ file. HoldsOnly (held_by write file)) pager.entry.disk.now result.0.now }
+    ensures fresh { IsTrue D.tells → LeavesOnly D.moment D.since pager.entry.disk.now result.0.now (From SameFresh (D.images pager.entry.disk.now)) }
+    ensures rekeyed { OnOk result.2 (IsTrue D.tells → IsRekeyed pager.entry.codec write pager.entry.count (main_of (D.reads pager.entry.disk.now)) (main_of (D.reads result.0.now))) }
+    ensures own_draws { OnOk result.2 (IsTrue D.tells → IsTrue E.tells
+        → FileDraws write (main_of (D.reads result.0.now)) (is_number pager.entry.count) 0 (drop (length (E.drawn pager.entry.entropy.now)) (E.drawn result.1.now))) }
+    ensures late { IfErr result.2 IsLateChange }
+    ensures disk_fault { result.2 ≡ Err (ChangeError.Stopped Stop.DiskFault) → Rose (D.faults pager.entry.disk.now) (D.faults result.0.now) }
+    ensures entropy_fault { result.2 ≡ Err ChangeError.EntropyFault → Rose (E.faults pager.entry.entropy.now) (E.faults result.1.now) }
+    ensures disk_later { D.faults pager.entry.disk.now ≤ D.faults result.0.now }
+    ensures entropy_later { E.faults pager.entry.entropy.now ≤ E.faults result.1.now }
+{
+    // Behind the commit nothing takes memory.
+    let report = rekeyed_report(pager.pages());
+    let (disk, entropy, done) = rekey(alloc, pager, write);
+    match done {
+        Ok(()) => (disk, entropy, Ok(report)),
+        Err(error) => (disk, entropy, Err(rekey_error(error))),
+    }
+}
+
+// How a rekey that does not come to its end stops the command.
+fn rekey_error(error: RekeyError) -> ChangeError
+    ensures { result ≡ rekey_error error }
+{
+    match error {
+        RekeyError::PageTag { page } => {
+            ChangeError::Stopped(Stop::Refused(Refusal::PageTag { page }))
+        }
+        RekeyError::Defect(defect) => ChangeError::Stopped(Stop::Refused(Refusal::Defect(defect))),
+        RekeyError::DiskFault => ChangeError::Stopped(Stop::DiskFault),
+        RekeyError::EntropyFault => ChangeError::EntropyFault,
+        // The layouts were compared before the key lines were taken.
+        RekeyError::LayoutDiffers | RekeyError::OutOfMemory => {
+            ChangeError::Stopped(Stop::OutOfMemory)
+        }
+    }
+}
