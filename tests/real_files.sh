@@ -254,6 +254,7 @@ product_files() {
         [ -f "$product/$name.db" ] || continue
         "$top/tests/stops.sh" "$product/$name.db" recover "${name:1:1}" < /dev/null || differ=$((differ + 1))
     done
+    SQLCIPHER4=$program "$top/tests/rekey.sh" "$product" "$table" || differ=$((differ + 1))
 }
 
 "$top/tests/install_product.sh"
@@ -268,4 +269,5 @@ echo "real files: $((compared - differ)) of $compared comparisons are the same"
 "$top/tests/export_to_sql.py" || exit 1
 "$top/tests/hostile_pages.sh" || exit 1
 "$top/tests/stamp.sh" || exit 1
+"$top/tests/make.sh" || exit 1
 "$top/tests/edges.sh"

@@ -17,25 +17,13 @@ wrong=0
 
 [ -x "$program" ] || { echo "stamp: $program is not built"; exit 1; }
 command -v sqlcipher > /dev/null || { echo "stamp: skipped, since sqlcipher is missing"; exit 0; }
-four=${SQLCIPHER4:-$(command -v sqlcipher4 || true)}
-[ -n "$four" ] || { [ ! -x "$top/out/product/sqlcipher4" ] || four=$top/out/product/sqlcipher4; }
+. "$top/tests/common.sh"
 
 key=old
 printf '%s\n' "$key" > "$folder/key"
 
-product() { # product VERSION: the program that writes this version
-    if [ "$1" = 4 ]; then echo "$four"; else echo sqlcipher; fi
-}
-
 sql() { # sql VERSION FILE: runs the SQL of standard input
-    {
-        echo "PRAGMA key = '$key';"
-        case $1 in
-            1) echo "PRAGMA cipher_use_hmac = OFF; PRAGMA kdf_iter = 4000;" ;;
-            2) echo "PRAGMA kdf_iter = 4000;" ;;
-        esac
-        cat
-    } | "$(product "$1")" -batch "$2" 2> "$folder/errors"
+    { opening "$1" "$key"; cat; } | "$(product "$1")" -batch "$2" 2> "$folder/errors"
 }
 
 say() { wrong=$((wrong + 1)); echo "stamp: $*"; }
@@ -58,26 +46,17 @@ PRAGMA user_version = 3;
 SQL
 }
 
-# The calls that change a file or a folder, or sync one. An open counts where it may make a file.
-writing=openat,open,creat,write,pwrite64,writev,pwritev,ftruncate,fsync,fdatasync,unlink,unlinkat,rename,renameat,renameat2
-
 stops() { # stops VERSION FILE: a stop at each writing call of a stamp
     local version=$1 file=$2 name number killed old new found stopped=0
     rm -rf "$folder/whole" && mkdir "$folder/whole" && cp "$file" "$folder/whole/file" || return 1
     old=$(fields "$version" "$file")
-    (cd "$folder/whole" && strace -f -qq -o "$folder/calls" -e trace="$writing" "$program" file stamp "$version" user-version 7 \
-        < "$folder/key" > /dev/null) || { say "version $version: the program fails under strace"; return; }
+    (cd "$folder/whole" && traced "$folder/calls" file stamp "$version" user-version 7 < "$folder/key" > /dev/null) || { say "version $version: the program fails under strace"; return; }
     new=$(fields "$version" "$folder/whole/file")
-    sed -E 's/^[0-9]+ +//' "$folder/calls" | awk -F'(' '
-        { seen[$1]++ }
-        $1 ~ /^open/ && !/O_CREAT/ { next }
-        /^[a-z]/ { print $1, seen[$1] }' > "$folder/stops"
+    list_stops "$folder/calls" > "$folder/stops"
     while read -r name number; do
         rm -rf "$folder/stopped" "$folder/copy"
         mkdir "$folder/stopped" && cp "$file" "$folder/stopped/file" || return 1
-        # The call is not made, and the program is killed there.
-        { (cd "$folder/stopped" && strace -f -qq -o /dev/null -e trace="$name" \
-            -e inject="$name:error=EIO:signal=KILL:when=$number" "$program" file stamp "$version" user-version 7 \
+        { (cd "$folder/stopped" && stopped_at "$name" "$number" file stamp "$version" user-version 7 \
             < "$folder/key" > /dev/null) } 2> /dev/null
         killed=$?
         [ "$killed" -eq 137 ] || say "version $version: $name $number: ended with $killed"
@@ -119,7 +98,7 @@ for version in 1 2 3 4; do
     # All pages but the first are stored as before.
     page=$(fields "$version" "$file" | awk '/^page size/ { print $3 }')
     cmp -s <(tail -c +$((page + 1)) "$file") <(tail -c +$((page + 1)) "$folder/before.db") || say "version $version: another page was changed"
-    if strace -qq -o /dev/null true 2> /dev/null; then
+    if can_trace; then
         stops "$version" "$folder/before.db"
     else
         echo "stamp: the stops are left out, since strace is missing or cannot trace"

@@ -9,6 +9,7 @@
 set -u
 top=$(cd "$(dirname "$0")/.." && pwd) || exit 1
 program=${PROGRAM:-$top/out/sqlcipher-tool}
+. "$top/tests/common.sh"
 if [ $# -lt 2 ]; then
     echo "stops: FILE and the words of a command are missing"
     exit 1
@@ -19,7 +20,7 @@ folder=$(mktemp -d) || exit 1
 trap 'rm -rf "$folder"' EXIT
 cat > "$folder/keys"
 
-if ! strace -qq -o /dev/null true 2> /dev/null; then
+if ! can_trace; then
     echo "stops: skipped, since strace is missing or cannot trace"
     exit 0
 fi
@@ -27,9 +28,6 @@ if [ ! -x "$program" ]; then
     echo "stops: $program is not built"
     exit 1
 fi
-
-# The calls that change a file or a folder, or sync one. An open counts where it may make a file.
-writing=openat,open,creat,write,pwrite64,writev,pwritev,ftruncate,fsync,fdatasync,unlink,unlinkat,rename,renameat,renameat2
 
 place() { # place FOLDER: the files as they were
     mkdir "$folder/$1" && cp "$file" "$folder/$1/file" || exit 1
@@ -39,27 +37,20 @@ place() { # place FOLDER: the files as they were
 }
 
 place whole
-(cd "$folder/whole" && strace -f -qq -o "$folder/calls" -e trace="$writing" "$program" file "$@" \
-    < "$folder/keys" > "$folder/lines")
+(cd "$folder/whole" && traced "$folder/calls" file "$@" < "$folder/keys" > "$folder/lines")
 status=$?
 if [ "$status" -ne 0 ]; then
     echo "stops: without a stop the program ends with $status"
     exit 1
 fi
 
-# NAME NUMBER for each call that writes, numbered among those of its name, as strace counts them
-sed -E 's/^[0-9]+ +//' "$folder/calls" | awk -F'(' '
-    { seen[$1]++ }
-    $1 ~ /^open/ && !/O_CREAT/ { next }
-    /^[a-z]/ { print $1, seen[$1] }' > "$folder/stops"
+list_stops "$folder/calls" > "$folder/stops"
 
 stopped=0
 differ=0
 while read -r name number; do
     place stopped
-    # The call is not made, and the program is killed there.
-    { (cd "$folder/stopped" && strace -f -qq -o /dev/null -e trace="$name" \
-        -e inject="$name:error=EIO:signal=KILL:when=$number" "$program" file "$@" < "$folder/keys" > /dev/null) } 2> /dev/null
+    { (cd "$folder/stopped" && stopped_at "$name" "$number" file "$@" < "$folder/keys" > /dev/null) } 2> /dev/null
     killed=$?
     (cd "$folder/stopped" && "$program" file "$@" < "$folder/keys" > /dev/null)
     status=$?
