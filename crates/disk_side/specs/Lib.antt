@@ -1,3 +1,4 @@
 pub mod OnlyFresh
+pub mod Place
 pub mod Published
 pub mod Torn

@@ -11,6 +11,7 @@ mod side;
 #[cfg(test)]
 mod tests;
 
+pub use clearing::{clear_fresh, create_fresh};
 pub use pair::Pair;
 pub use publishing::{publish, publish_new};
 pub use side::Side;

@@ -92,7 +92,8 @@ impl Cache {
 
     /// The bytes of page n, where it is held.
     pub fn get(&self, n: u32) -> Option<&[u8]>
-        ensures { option_map (λ bytes. bytes.now) result ≡ bytes_at n self.now.held }
+        ensures value { option_map (λ bytes. bytes.now) result ≡ bytes_at n self.now.held }
+        ensures size { IfSome result (λ bytes. length bytes.now ≡ self.now.usable) }
     {
         match frame_of(&self.index, &self.table, n) {
             Some(frame) => Some(self.store[frame as usize].bytes()),

@@ -4,7 +4,9 @@ use Rattle.std.specs.Prelude.{slice_range}
 use Rattle.std.proofs.lemmas.List.{drop_at, length-append, take-append-drop, take_at}
 use Rattle.std.proofs.lemmas.Grind.{common_steps}
 use Rattle.std.proofs.lemmas.Slice.{between_is, take-put_mid_below}
-use Rattle.page_codec.specs.Page.{cipher_start, magic}
+use Rattle.cbc_mode.specs.Cbc.{cbc_decrypted}
+use Rattle.cipher_profile.specs.Profile.{usable}
+use Rattle.page_codec.specs.Page.{FileKeys, cipher_start, magic, opened, stored_iv}
 use borrow.Rule.Slice.PartMut.{put_mid}
 
 -- what lies between a head and a rest
@@ -35,3 +37,13 @@ part_before at len old new i j before within =
 pub magic_first : (n : ℕ) (plain : List ℕ) → (n ≡ 1 → take 16 plain ≡ magic)
     → take (cipher_start n) magic ++ drop (cipher_start n) plain ≡ plain
 magic_first n plain begins = grind (arith, common_steps, take-append-drop)
+
+-- what a page opens to, by its IV and its content
+pub opened_of : (file : FileKeys) (n : ℕ) (stored iv content : List ℕ) → iv ≡ stored_iv file.profile stored → content ≡ take (usable file.profile) stored
+    → take (cipher_start n) magic ++ cbc_decrypted file.keys.enc iv (drop (cipher_start n) content) ≡ opened file n stored
+unfolding opened
+opened_of file n stored iv content first body =
+    let start = cipher_start n in
+    ap (λ (block : List ℕ). take start magic ++ cbc_decrypted file.keys.enc block (drop start content)) first
+    ∙ ap (λ (text : List ℕ). take start magic ++ cbc_decrypted file.keys.enc (stored_iv file.profile stored) text)
+    (ap (drop start) body ∙ sym (between_is stored start (usable file.profile)))

@@ -1,7 +1,8 @@
 // Opening a stored page.
-ghost use Rattle.std.specs.Prelude.{◌≡◌, ◌≤◌, ◌↔◌, length, IfErr, IfOk, IsOk, IsTrue};
+ghost use Rattle.std.specs.Prelude.{◌≡◌, ◌≤◌, ◌↔◌, ◌++◌, length, take, drop, IfErr, IfOk, IsOk, IsTrue};
+ghost use Rattle.cbc_mode.specs.Cbc.{cbc_decrypted};
 ghost use Rattle.cipher_profile.specs.Profile.{usable};
-ghost use Rattle.page_codec.specs.Page.{accepts, opened};
+ghost use Rattle.page_codec.specs.Page.{accepts, cipher_start, magic, opened};
 
 use crate::codec::{Codec, IV_LEN, cipher_start};
 use cbc_mode::cbc_decrypt;
@@ -28,27 +29,77 @@ impl Codec {
         ensures kept { IfErr result (λ _. plain.new ≡ plain.old) }
         ensures without_tags { self.now.profile.tag_len ≡ 0 → IsOk result }
     {
-        if self.profile.tag_len > 0 && !self.tag_holds(n, stored) {
-            return Err(TagRefused { page: n });
-        }
+        self.check_tag(n, stored)?;
         self.decipher(n, stored, plain);
         Ok(())
     }
 
+    /// Opens stored page n, numbered from 1, where it stands: the plain page takes the place of the ciphertext, before the reserve.
+    /// A profile without tags takes every page.
+    pub fn open_in_place(&self, n: u32, page: &mut [u8]) -> Result<(), TagRefused>
+        requires number { 1 ≤ n }
+        requires size { length page.old ≡ self.now.profile.page_size }
+        ensures accepted { IsOk result ↔ IsTrue (accepts self.now n page.old) }
+        ensures opened { IfOk result (λ _. take (usable self.now.profile) page.new ≡ opened self.now n page.old) }
+        ensures reserve { IfOk result (λ _. drop (usable self.now.profile) page.new ≡ drop (usable self.now.profile) page.old) }
+        ensures page { IfErr result (λ refused. refused.page ≡ n) }
+        ensures kept { IfErr result (λ _. page.new ≡ page.old) }
+        ensures without_tags { self.now.profile.tag_len ≡ 0 → IsOk result }
+    {
+        self.check_tag(n, page)?;
+        self.decipher_in_place(n, page);
+        Ok(())
+    }
+
+    // Whether the tag of stored page n is right.
+    fn check_tag(&self, n: u32, stored: &[u8]) -> Result<(), TagRefused>
+        requires number { 1 ≤ n }
+        requires size { length stored.now ≡ self.now.profile.page_size }
+        ensures accepted { IsOk result ↔ IsTrue (accepts self.now n stored.now) }
+        ensures page { IfErr result (λ refused. refused.page ≡ n) }
+        ensures without_tags { self.now.profile.tag_len ≡ 0 → IsOk result }
+    {
+        if self.profile.tag_len > 0 && !self.tag_holds(n, stored) {
+            return Err(TagRefused { page: n });
+        }
+        Ok(())
+    }
+
     /// Opens stored page n, whatever its tag is.
-    #[tactic(auto, unfolding(crate::specs::Page::opened))]
     pub(crate) fn decipher(&self, n: u32, stored: &[u8], plain: &mut [u8])
         requires stored_size { length stored.now ≡ self.now.profile.page_size }
         requires plain_size { length plain.old ≡ usable self.now.profile }
         ensures { plain.new ≡ opened self.now n stored.now }
     {
-        let start = cipher_start(n);
         let usable = self.profile.usable();
         let mut iv = [0u8; IV_LEN];
         iv.copy_from_slice(&stored[usable..usable + IV_LEN]);
-        let (head, text) = plain.split_at_mut(start);
+        plain.copy_from_slice(&stored[..usable]);
+        self.decipher_content(n, &iv, plain);
+    }
+
+    // The same where the page stands.
+    fn decipher_in_place(&self, n: u32, page: &mut [u8])
+        requires { length page.old ≡ self.now.profile.page_size }
+        ensures opened { take (usable self.now.profile) page.new ≡ opened self.now n page.old }
+        ensures reserve { drop (usable self.now.profile) page.new ≡ drop (usable self.now.profile) page.old }
+    {
+        let (content, reserve) = page.split_at_mut(self.profile.usable());
+        let mut iv = [0u8; IV_LEN];
+        iv.copy_from_slice(&reserve[..IV_LEN]);
+        self.decipher_content(n, &iv, content);
+    }
+
+    // The content of stored page n becomes the plain page, under this IV.
+    fn decipher_content(&self, n: u32, iv: &[u8; IV_LEN], content: &mut [u8])
+        requires { length content.old ≡ usable self.now.profile }
+        ensures { content.new ≡ take (cipher_start n) magic
+            ++ cbc_decrypted self.now.keys.enc iv.now (drop (cipher_start n) content.old) }
+    {
+        let start = cipher_start(n);
+        let _usable = self.profile.usable();
+        let (head, text) = content.split_at_mut(start);
         head.copy_from_slice(&MAGIC[..start]);
-        text.copy_from_slice(&stored[start..usable]);
-        cbc_decrypt(&self.cipher, &iv, text);
+        cbc_decrypt(&self.cipher, iv, text);
     }
 }

@@ -127,6 +127,14 @@ fn check_sealed(rt: &impl Abort, word: &str, n: u32, first: &str, last: &str, re
         "page {n} of profile {word}"
     );
     assert!(rt; opened[..] == plain[..], "page {n} of profile {word}");
+    assert!(rt;
+        codec.open_in_place(n, stored) == Ok(()),
+        "page {n} of profile {word}"
+    );
+    assert!(rt;
+        stored[..usable] == plain[..] && has_part(stored, usable, reserve),
+        "page {n} of profile {word} in place"
+    );
 }
 
 // The first and the last block of the ciphertext, and then the IV, the tag and the padding, as Python's hashlib, hmac and

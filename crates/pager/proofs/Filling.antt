@@ -5,13 +5,14 @@ use Rattle.std.specs.List.{AllByRecursion}
 use Rattle.std.specs.Option.{option_map}
 use Rattle.std.proofs.lemmas.List.{length-replicate}
 use Rattle.std.proofs.Math.Seq.{take-append_seam}
+use Rattle.cipher_profile.specs.Profile.{usable}
 use Rattle.page_codec.specs.Page.{FileKeys, accepts, opened}
 use Rattle.page_cache.specs.Lending.{laid_over}
 use Rattle.page_cache.specs.Cache.{written_over}
 use Rattle.page_cache.specs.Pages.{Page, Pages, page_at, is_held, without, changed, last_unpinned, fresh_page, pin_more, pin_less}
 use Rattle.page_cache.proofs.CallerLemmas.{less_without, victim_there, all_without, all_page_at, all_changed, number_of, changed_fresh, without_fresh}
 use Rattle.pager.specs.File.{page_stored}
-use Rattle.pager.specs.Held.{IsOpened, AreOpened, HasRoom, bytes_of_page}
+use Rattle.pager.specs.Held.{IsOpened, AreOpened, HasRoom, bytes_of_page, plain_of_page}
 
 pub on_err : {T E : Type 0} {P : Type 0} (r : Result T E) → is_ok r ≡ false → OnErr r P → P
 on_err (Ok x) bad holds = cc
@@ -42,10 +43,10 @@ laid_same m w same = rw (length-replicate {A = ℕ} m 0) (subst (λ k. take k (w
 pub changed_new : (n : ℕ) (old new : Pages) (w : List ℕ) (room : HasRoom n old new) → changed n (written_over w) new.held ≡ written_over w (fresh_page n old.usable) ∷ room.rest
 changed_new n old new w room = ap (λ (p : Pages). changed n (written_over w) p.held) room.placed ∙ changed_fresh n old.usable (written_over w) room.rest room.absent
 
-pub opened_after : (keys : FileKeys) (file : List ℕ) (n : ℕ) (old new : Pages) (w : List ℕ) → HasRoom n old new → AreOpened keys file old.held → length w ≡ old.usable → accepts keys n (page_stored keys file n) ≡ true → w ≡ opened keys n (page_stored keys file n) → AreOpened keys file (changed n (written_over w) new.held)
+pub opened_after : (keys : FileKeys) (file : List ℕ) (n : ℕ) (old new : Pages) (w : List ℕ) → HasRoom n old new → AreOpened keys file old.held → length w ≡ old.usable → accepts keys n (page_stored keys file n) ≡ true → take (usable keys.profile) w ≡ opened keys n (page_stored keys file n) → AreOpened keys file (changed n (written_over w) new.held)
 opened_after keys file n old new w room all size accepted plain =
     subst (AreOpened keys file) (sym (changed_new n old new w room))
-    (record { accepted = accepted; plain = laid_same old.usable w size ∙ plain }, rest_opened keys file n old new room all)
+    (record { accepted = accepted; plain = ap (take (usable keys.profile)) (laid_same old.usable w size) ∙ plain }, rest_opened keys file n old new room all)
 
 -- and once it is out again
 pub gone_again : (n : ℕ) (old new : Pages) (w : List ℕ) (room : HasRoom n old new) → without n (changed n (written_over w) new.held) ≡ room.rest
@@ -71,16 +72,16 @@ opened_pins keys file n held all = (
 )
 
 held_facts : (keys : FileKeys) (file : List ℕ) (n : ℕ) (held : List Page) (o : Option Page) → page_at n held ≡ o → is_some o ≡ true → AreOpened keys file held
-    → (accepts keys n (page_stored keys file n) ≡ true) × (unwrap_or (option_map (λ page. page.bytes) o) [] ≡ opened keys n (page_stored keys file n))
+    → (accepts keys n (page_stored keys file n) ≡ true) × (take (usable keys.profile) (unwrap_or (option_map (λ page. page.bytes) o) []) ≡ opened keys n (page_stored keys file n))
 held_facts keys file n held None same there all = cc
 held_facts keys file n held (Some p) same there all =
     let page = all_page_at (IsOpened keys file) n held all p same in
     let number = same_number p.number n (number_of n held p same) in
-    (subst (λ m. accepts keys m (page_stored keys file m) ≡ true) number page.accepted, subst (λ m. p.bytes ≡ opened keys m (page_stored keys file m)) number page.plain)
+    (subst (λ m. accepts keys m (page_stored keys file m) ≡ true) number page.accepted, subst (λ m. take (usable keys.profile) p.bytes ≡ opened keys m (page_stored keys file m)) number page.plain)
 
--- a held page is accepted, and its bytes are its plain page
+-- a held page is accepted, and its plain page is in front
 pub held_opened : (keys : FileKeys) (file : List ℕ) (n : ℕ) (held : List Page) → is_held n held ≡ true → AreOpened keys file held
-    → (accepts keys n (page_stored keys file n) ≡ true) × (bytes_of_page n held ≡ opened keys n (page_stored keys file n))
+    → (accepts keys n (page_stored keys file n) ≡ true) × (plain_of_page keys.profile n held ≡ opened keys n (page_stored keys file n))
 held_opened keys file n held there all = held_facts keys file n held (page_at n held) refl there all
 
 held_long : (usable n : ℕ) (held : List Page) (o : Option Page) → page_at n held ≡ o → is_some o ≡ true → AllByRecursion (λ page. length page.bytes ≡ usable) held

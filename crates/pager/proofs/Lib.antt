@@ -8,3 +8,4 @@ pub mod EndingLemmas
 pub mod TxnLemmas
 pub mod BatchLemmas
 pub mod UnderWayLemmas
+pub mod UnreadLemmas

@@ -1,15 +1,17 @@
--- What the frames of a pager hold.
-use Rattle.std.specs.Prelude.{ℕ, ◌≡◌, true, List, [], ◌∷◌, ◌⊎◌, length, unwrap_or, None, Some}
+-- What the frames of a pager hold. A frame has the length of a stored page, and the plain page is in front, in place of the ciphertext.
+use Rattle.std.specs.Prelude.{ℕ, ◌≡◌, true, List, [], ◌∷◌, ◌⊎◌, length, take, unwrap_or, None, Some}
 use Rattle.std.specs.List.{AllByRecursion, AllByRecursion-prop}
 use Rattle.std.proofs.Props.{props}
+use Rattle.cipher_profile.specs.declared.profile.Profile.{Profile}
+use Rattle.cipher_profile.specs.Profile.{usable}
 use Rattle.page_codec.specs.Page.{FileKeys, accepts, opened}
 use Rattle.page_cache.specs.Pages.{Page, Pages, page_at, bytes_at, pins_at, last_unpinned, without, fresh_page}
 use Rattle.pager.specs.File.{page_stored}
 
--- a held page is the plain page of an accepted one
+-- a held page is accepted, and its plain page is in front
 pub record IsOpened (keys : FileKeys) (file : List ℕ) (page : Page) : Type 0 where
   pub accepted : accepts keys page.number (page_stored keys file page.number) ≡ true
-  pub plain : page.bytes ≡ opened keys page.number (page_stored keys file page.number)
+  pub plain : take (usable keys.profile) page.bytes ≡ opened keys page.number (page_stored keys file page.number)
 
 -- each held page is
 abbrev pub AreOpened : FileKeys → List ℕ → List Page → Type 0
@@ -22,6 +24,10 @@ AreOpened-prop keys file held = AllByRecursion-prop (IsOpened keys file) (λ pag
 -- the bytes of page n, none where it is not held
 abbrev pub bytes_of_page : ℕ → List Page → List ℕ
 bytes_of_page n held = unwrap_or (bytes_at n held) []
+
+-- the plain page n, which is in front of its frame, none where it is not held
+abbrev pub plain_of_page : Profile → ℕ → List Page → List ℕ
+plain_of_page profile n held = take (usable profile) (bytes_of_page n held)
 
 -- how often each page is pinned
 abbrev pub pins_of : List Page → ℕ → ℕ

@@ -5,6 +5,7 @@ pub mod Pages
 pub mod Held
 pub mod Causes
 pub mod Reads
+pub mod Beside
 pub mod Changed
 pub mod UnderWay
 pub mod Base

@@ -73,6 +73,14 @@ IsRefusedAs tells seen n disk disk_now entropy entropy_now DiskFault = Rose disk
 IsRefusedAs tells seen n disk disk_now entropy entropy_now EntropyFault = Rose entropy entropy_now
 IsRefusedAs tells seen n disk disk_now entropy entropy_now AllPinned = ⊥
 
+-- the same, where nothing is said of the counts
+abbrev pub MayRefuseAs : Bool → Plain → ℕ → PageError → Type 0
+MayRefuseAs tells seen n OutOfRange = is_number seen.count n ≡ false
+MayRefuseAs tells seen n (TagRefused page) = (is_number seen.count n ≡ true) × (page ≡ n) × (IsTrue tells → seen.accepts n ≡ false)
+MayRefuseAs tells seen n DiskFault = Unit {0}
+MayRefuseAs tells seen n EntropyFault = Unit {0}
+MayRefuseAs tells seen n AllPinned = ⊥
+
 -- no call failed: what the transaction was before the refusal, it still is
 abbrev pub is_failure : PageError → Bool
 is_failure OutOfRange = false

@@ -1,5 +1,5 @@
 // A file that was opened, before its pages are read.
-ghost use Rattle.std.specs.Prelude.{◌≡◌, ◌⊎◌, ◌≤◌, ◌<◌, ◌*◌, [], length, vec_len, None, Ok, Err, IfOk, IfErr, IsTrue};
+ghost use Rattle.std.specs.Prelude.{◌≡◌, ◌⊎◌, ◌≤◌, ◌<◌, ◌*◌, [], length, None, Ok, Err, IfOk, IfErr, IsTrue};
 ghost use Rattle.edge_model.specs.Causes.{Rose};
 ghost use Rattle.edge_model.specs.Images.{Each};
 ghost use Rattle.edge_model.specs.OnlyRead.{OnlyRead};
@@ -24,12 +24,11 @@ pub struct OpenedFile {
     pub(crate) header: Header,
     pub(crate) count: u32,
     pub(crate) cache: Cache,
-    pub(crate) stored: Vec<u8>,
     ghost layout: { header.page_size ≡ codec.profile.page_size },
+    ghost limits: { (header.format ≤ 4) × (header.encoding ≤ 3) },
     ghost some: { 1 ≤ count },
     ghost largest: { count * codec.profile.page_size ≤ largest_database },
-    ghost fits: { cache.usable ≡ usable codec.profile },
-    ghost room: { vec_len stored ≡ codec.profile.page_size },
+    ghost fits: { cache.usable ≡ codec.profile.page_size },
     ghost lendable: { IsUsable (usable codec.profile) },
     ghost unread: { length cache.held ≡ 0 },
 }
@@ -54,11 +53,8 @@ impl OpenedFile {
         ensures only_read { IsTrue D.tells → OnlyRead D.reads D.images D.moment D.since disk.old disk.new }
     {
         let found = open_main(disk, &codec)?;
-        let profile = *codec.profile();
-        let Ok(cache) = Cache::new(alloc, frames, profile.usable()) else {
-            return Err(OpenError::OutOfMemory);
-        };
-        let Ok(stored) = vec![in alloc; 0u8; profile.page_size as usize] else {
+        let page_size = codec.profile().page_size as usize;
+        let Ok(cache) = Cache::new(alloc, frames, page_size) else {
             return Err(OpenError::OutOfMemory);
         };
         Ok(OpenedFile {
@@ -66,7 +62,6 @@ impl OpenedFile {
             header: found.header,
             count: found.count,
             cache,
-            stored,
         })
     }
 
@@ -88,7 +83,6 @@ impl OpenedFile {
             header,
             count,
             cache,
-            stored,
         } = self;
         Pager {
             disk,
@@ -97,7 +91,6 @@ impl OpenedFile {
             header,
             count,
             cache,
-            stored,
             last: 0,
         }
     }

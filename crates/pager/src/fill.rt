@@ -1,5 +1,5 @@
 // A page is brought into a frame.
-ghost use Rattle.std.specs.Prelude.{◌≡◌, ◌⊎◌, ◌*◌, ◌≤◌, ◌<◌, ℕ, length, true, false, None, Err, IfErr, OnOk, OnErr, IsTrue};
+ghost use Rattle.std.specs.Prelude.{◌≡◌, ◌⊎◌, ◌*◌, ◌≤◌, ◌<◌, ℕ, length, take, true, false, None, Err, IfErr, OnOk, OnErr, IsTrue};
 ghost use Rattle.edge_model.specs.Causes.{Rose};
 ghost use Rattle.edge_model.specs.OnlyRead.{OnlyRead};
 ghost use Rattle.cipher_profile.specs.Profile.{usable};
@@ -50,7 +50,34 @@ fn make_room(cache: &mut Cache, n: u32) -> Result<(), PageError>
     }
 }
 
-// Reads page n into a buffer and opens it into a frame.
+// Reads page n and opens it where it stands: the plain page is in front then.
+fn read_opened<D: Disk>(
+    disk: &mut D,
+    codec: &Codec,
+    n: u32,
+    page: &mut [u8],
+) -> Result<(), PageError>
+    requires number { 1 ≤ n }
+    requires there { IsTrue D.tells → n * codec.now.profile.page_size ≤ length (main_of (D.reads disk.old)) }
+    requires size { length page.old ≡ codec.now.profile.page_size }
+    ensures accepted { OnOk result (IsTrue D.tells → accepts codec.now n (page_stored codec.now (main_of (D.reads disk.old)) n) ≡ true) }
+    ensures plain { OnOk result (IsTrue D.tells → take (usable codec.now.profile) page.new ≡ opened codec.now n (page_stored codec.now (main_of (D.reads disk.old)) n)) }
+    ensures refused { IfErr result (λ e. ((e ≡ PageError.TagRefused n) × (IsTrue D.tells → accepts codec.now n (page_stored codec.now (main_of (D.reads disk.old)) n) ≡ false))
+        ⊎ ((e ≡ PageError.DiskFault) × Rose (D.faults disk.old) (D.faults disk.new))) }
+    ensures later { D.faults disk.old ≤ D.faults disk.new }
+    ensures only_read { IsTrue D.tells → OnlyRead D.reads D.images D.moment D.since disk.old disk.new }
+{
+    let _listed = codec.profile();
+    if read_page(disk, n, page).is_err() {
+        return Err(PageError::DiskFault);
+    }
+    match codec.open_in_place(n, page) {
+        Ok(()) => Ok(()),
+        Err(_) => Err(PageError::TagRefused { page: n }),
+    }
+}
+
+/// Reads page n into a buffer, opens it there, and copies out the plain page.
 pub(crate) fn read_plain<D: Disk>(
     disk: &mut D,
     codec: &Codec,
@@ -69,28 +96,21 @@ pub(crate) fn read_plain<D: Disk>(
     ensures later { D.faults disk.old ≤ D.faults disk.new }
     ensures only_read { IsTrue D.tells → OnlyRead D.reads D.images D.moment D.since disk.old disk.new }
 {
-    let _listed = codec.profile();
-    if read_page(disk, n, stored).is_err() {
-        return Err(PageError::DiskFault);
-    }
-    match codec.open_page(n, stored, plain) {
-        Ok(()) => Ok(()),
-        Err(_) => Err(PageError::TagRefused { page: n }),
-    }
+    read_opened(disk, codec, n, stored)?;
+    plain.copy_from_slice(&stored[..codec.profile().usable()]);
+    Ok(())
 }
 
-/// Page n is held, the most recently used. The buffer is for the page as it is stored.
+/// Page n is held, the most recently used.
 pub(crate) fn fill_page<D: Disk>(
     disk: &mut D,
     codec: &Codec,
     cache: &mut Cache,
-    stored: &mut [u8],
     n: u32,
 ) -> Result<(), PageError>
     requires number { 1 ≤ n }
     requires there { IsTrue D.tells → n * codec.now.profile.page_size ≤ length (main_of (D.reads disk.old)) }
-    requires room { length stored.old ≡ codec.now.profile.page_size }
-    requires size { cache.old.usable ≡ usable codec.now.profile }
+    requires size { cache.old.usable ≡ codec.now.profile.page_size }
     requires opened { IsTrue D.tells → AreOpened codec.now (main_of (D.reads disk.old)) cache.old.held }
     ensures held { OnOk result (is_held n cache.new.held ≡ true) }
     ensures opened { IsTrue D.tells → AreOpened codec.now (main_of (D.reads disk.old)) cache.new.held }
@@ -109,7 +129,7 @@ pub(crate) fn fill_page<D: Disk>(
         return Ok(());
     }
     make_room(cache, n)?;
-    match read_plain(disk, codec, n, stored, cache.at_mut(n)) {
+    match read_opened(disk, codec, n, cache.at_mut(n)) {
         Ok(()) => Ok(()),
         Err(refusal) => {
             cache.discard(n);

@@ -28,6 +28,7 @@ mod main_file;
 mod opening;
 mod pager;
 mod sealing;
+mod side;
 mod source;
 mod spilled;
 #[cfg(test)]

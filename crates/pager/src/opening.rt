@@ -111,6 +111,7 @@ pub(crate) fn open_main<D: Disk>(disk: &mut D, codec: &Codec) -> Result<Counted,
     ensures some { IfOk result (λ found. 1 ≤ found.count) }
     ensures largest { IfOk result (λ found. found.count * codec.now.profile.page_size ≤ largest_database) }
     ensures layout { IfOk result (λ found. found.header.page_size ≡ codec.now.profile.page_size) }
+    ensures limits { IfOk result (λ found. (found.header.format ≤ 4) × (found.header.encoding ≤ 3)) }
     ensures refused { IfErr result (λ error. IsTrue D.tells → (error ≡ OpenError.DiskFault) ⊎ (file_opened codec.now (main_of (D.reads disk.old)) ≡ Err error)) }
     ensures fed { IfErr result (λ error. error ≢ OpenError.OutOfMemory) }
     ensures fault { IfErr result (λ error. error ≡ OpenError.DiskFault → Rose (D.faults disk.old) (D.faults disk.new)) }
@@ -133,6 +134,7 @@ fn main_header<D: Disk>(
     ensures told { IfOk result (λ header. IsTrue D.tells → header ≡ file_header codec.now (main_of (D.reads disk.old))) }
     ensures passed { OnOk result (IsTrue D.tells → first_broken (key_rules codec.now (main_of (D.reads disk.old))) ≡ None) }
     ensures layout { IfOk result (λ header. IfOk header (λ header. header.page_size ≡ codec.now.profile.page_size)) }
+    ensures limits { IfOk result (λ header. IfOk header (λ header. (header.format ≤ 4) × (header.encoding ≤ 3))) }
     ensures refused { IfErr result (λ error. IsTrue D.tells → (error ≡ OpenError.DiskFault)
         ⊎ (first_broken (key_rules codec.now (main_of (D.reads disk.old))) ≡ Some error)) }
     ensures fed { IfErr result (λ error. error ≢ OpenError.OutOfMemory) }
@@ -142,17 +144,18 @@ fn main_header<D: Disk>(
 {
     let profile = *codec.profile();
     let mut buffer = [0u8; MAX_PAGE];
-    let stored = &mut buffer[..profile.page_size as usize];
-    if read_page(disk, 1, stored).is_err() {
+    let page = &mut buffer[..profile.page_size as usize];
+    if read_page(disk, 1, page).is_err() {
         return Err(OpenError::DiskFault);
     }
-    if !codec.key_fits(stored) {
+    if !codec.key_fits(page) {
         return Err(OpenError::KeyRefused);
     }
-    let mut room = [0u8; MAX_PAGE];
-    let plain = &mut room[..profile.usable()];
-    match codec.open_page(1, stored, plain) {
-        Ok(()) => Ok(read_header(plain, profile.page_size, profile.reserve)),
+    match codec.open_in_place(1, page) {
+        Ok(()) => {
+            let plain = &page[..profile.usable()];
+            Ok(read_header(plain, profile.page_size, profile.reserve))
+        }
         // A key that fits opens page 1.
         Err(_) => Err(OpenError::KeyRefused),
     }
@@ -166,7 +169,7 @@ fn count_main(header: Header, length: u64) -> Result<Counted, OpenError>
         × (IfErr result (λ error. with_count header (count_of_pages header length) ≡ Err error)) }
     ensures some { IfOk result (λ found. 1 ≤ found.count) }
     ensures largest { IfOk result (λ found. found.count * header.page_size ≤ largest_database) }
-    ensures layout { IfOk result (λ found. found.header.page_size ≡ header.page_size) }
+    ensures header { IfOk result (λ found. found.header ≡ header) }
     ensures counted { IfErr result (λ error. (error ≢ OpenError.DiskFault) × (error ≢ OpenError.OutOfMemory)) }
 {
     match counted_pages(&header, length) {

@@ -1,5 +1,5 @@
 // A pager: the pages of an encrypted file, read into frames.
-ghost use Rattle.std.specs.Prelude.{◌≡◌, ◌≤◌, ◌*◌, ◌<◌, ◌-◌, [], length, vec_len, true, false, None, Ok, Err, IfOk, IfErr, OnOk, OnErr, IsTrue, if◌then◌else◌};
+ghost use Rattle.std.specs.Prelude.{◌≡◌, ◌≤◌, ◌*◌, ◌<◌, ◌-◌, [], length, true, false, None, Ok, Err, IfOk, IfErr, OnOk, OnErr, IsTrue, if◌then◌else◌};
 ghost use Rattle.edge_model.specs.Images.{Each};
 ghost use Rattle.edge_model.specs.OnlyRead.{OnlyRead};
 ghost use Rattle.cipher_profile.specs.Profile.{usable};
@@ -7,7 +7,7 @@ ghost use Rattle.db_format.specs.Count.{largest_database};
 ghost use Rattle.db_format.specs.Pages.{IsUsable};
 ghost use Rattle.page_cache.specs.Pages.{is_held};
 ghost use Rattle.pager.specs.File.{main_of};
-ghost use Rattle.pager.specs.Held.{bytes_of_page, pins_of, AreOpened, AreOpened-prop, IsAllPinned};
+ghost use Rattle.pager.specs.Held.{plain_of_page, pins_of, AreOpened, AreOpened-prop, IsAllPinned};
 ghost use Rattle.pager.specs.Opening.{HasNoJournal, IsRefusedBy, file_opened};
 ghost use Rattle.pager.specs.Pages.{is_number, opened_pages};
 ghost use Rattle.pager.specs.Causes.{IsRefused, MayRefuse};
@@ -30,16 +30,15 @@ pub struct Pager<'d, D: Disk, E: Entropy> {
     pub(crate) codec: Codec,
     pub(crate) header: Header,
     pub(crate) count: u32,
+    // in a frame a page is read and opened: the plain page is in front, before the reserve
     pub(crate) cache: Cache,
-    // the page that is being read, as it is stored
-    pub(crate) stored: Vec<u8>,
     // the page that was loaded last, 0 for none
     pub(crate) last: u32,
     ghost whole: { IsTrue D.tells → count * codec.profile.page_size ≤ length (main_of (D.reads disk.now)) },
+    ghost limits: { (header.format ≤ 4) × (header.encoding ≤ 3) },
     ghost some: { 1 ≤ count },
     ghost largest: { count * codec.profile.page_size ≤ largest_database },
-    ghost fits: { cache.usable ≡ usable codec.profile },
-    ghost room: { vec_len stored ≡ codec.profile.page_size },
+    ghost fits: { cache.usable ≡ codec.profile.page_size },
     ghost lendable: { IsUsable (usable codec.profile) },
     ghost opened: { IsTrue D.tells → AreOpened codec (main_of (D.reads disk.now)) cache.held } by { λ f g i told. AreOpened-prop codec (main_of (D.reads disk.now)) cache.held (f told) (g told) i },
 }
@@ -108,10 +107,10 @@ impl<'d, D: Disk, E: Entropy> Pager<'d, D, E> {
 
     /// Brings page n in, for `lent` to lend.
     pub(crate) fn bring_in(&mut self, n: u32) -> Result<(), PageError>
-        ensures told { OnOk result (IsTrue D.tells → bytes_of_page self.new.last self.new.cache.held
+        ensures told { OnOk result (IsTrue D.tells → plain_of_page self.new.codec.profile self.new.last self.new.cache.held
             ≡ (opened_pages self.old.codec (main_of (D.reads self.old.disk.now)) self.old.count).page n) }
         ensures accepted { OnOk result (IsTrue D.tells → (opened_pages self.old.codec (main_of (D.reads self.old.disk.now)) self.old.count).accepts n ≡ true) }
-        ensures size { OnOk result (length (bytes_of_page self.new.last self.new.cache.held) ≡ usable self.old.codec.profile) }
+        ensures size { OnOk result (length (plain_of_page self.new.codec.profile self.new.last self.new.cache.held) ≡ usable self.old.codec.profile) }
         ensures usable { OnOk result (IsUsable (usable self.old.codec.profile)) }
         ensures in_range { OnOk result (is_number self.old.count n ≡ true) }
         ensures held { OnOk result (is_held n self.new.cache.held ≡ true) }
@@ -130,13 +129,7 @@ impl<'d, D: Disk, E: Entropy> Pager<'d, D, E> {
         if n == 0 || n > self.count {
             return Err(PageError::OutOfRange);
         }
-        match fill_page(
-            &mut *self.disk,
-            &self.codec,
-            &mut self.cache,
-            &mut self.stored,
-            n,
-        ) {
+        match fill_page(&mut *self.disk, &self.codec, &mut self.cache, n) {
             Ok(()) => {
                 self.last = n;
                 Ok(())
@@ -147,10 +140,11 @@ impl<'d, D: Disk, E: Entropy> Pager<'d, D, E> {
 
     /// The page that was brought in last.
     pub(crate) fn lent(&self) -> &[u8]
-        ensures { result.now ≡ bytes_of_page self.now.last self.now.cache.held }
+        ensures { result.now ≡ plain_of_page self.now.codec.profile self.now.last self.now.cache.held }
     {
+        let usable = self.codec.profile().usable();
         match self.cache.get(self.last) {
-            Some(page) => page,
+            Some(page) => &page[..usable],
             None => &[],
         }
     }
@@ -167,7 +161,6 @@ impl<'d, D: Disk, E: Entropy> Pager<'d, D, E> {
             header: _,
             count: _,
             cache: _,
-            stored: _,
             last: _,
         } = self;
         (disk, entropy)

@@ -2,7 +2,7 @@
 ghost use Rattle.std.specs.Prelude.{◌≡◌, ◌≤◌, ◌<◌, ◌^◌, ◌-◌, ℕ, true, nat_lt, OnOk, IfErr, IsTrue, if◌then◌else◌, refl};
 ghost use Rattle.page_cache.specs.Pages.{is_held};
 ghost use Rattle.pager.specs.File.{main_of};
-ghost use Rattle.pager.specs.Held.{bytes_of_page, pins_of};
+ghost use Rattle.pager.specs.Held.{plain_of_page, pins_of};
 ghost use Rattle.pager.specs.Pages.{opened_pages};
 ghost use Rattle.pager.specs.Causes.{MayRefuse, is_fault};
 
@@ -21,7 +21,7 @@ impl<'d, D: Disk, E: Entropy> PageSource for Pager<'d, D, E> {
 
     ghost plain = { λ p. opened_pages p.codec (main_of (D.reads p.disk.now)) p.count };
 
-    ghost at_hand = { λ p. bytes_of_page p.last p.cache.held };
+    ghost at_hand = { λ p. plain_of_page p.codec.profile p.last p.cache.held };
 
     ghost is_held = { λ p n. is_held n p.cache.held };
 

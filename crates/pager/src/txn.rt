@@ -14,7 +14,7 @@ ghost use Rattle.transaction.specs.Marks.{marked_count};
 ghost use Rattle.pager.specs.Changed.{HasMagic, same_layout, unchanged, with_bytes};
 ghost use Rattle.pager.specs.Pages.{is_number};
 ghost use Rattle.pager.specs.Reads.{DiskRead, Untouched};
-ghost use Rattle.pager.specs.UnderWay.{HasNewPages, lent_out, IsReadyFor, IsRefusedAs, IsUnderWay, Start, is_failure, is_touched, seen_pages};
+ghost use Rattle.pager.specs.UnderWay.{HasNewPages, lent_out, IsReadyFor, IsRefusedAs, IsUnderWay, MayRefuseAs, Start, is_failure, is_touched, seen_pages};
 
 use crate::changed::ChangedPages;
 use crate::fill::{PageError, read_plain};
@@ -102,6 +102,7 @@ impl<'d, D: Disk, E: Entropy> Txn<'d, D, E> {
         ensures told { IfOk result (λ page. IsTrue D.tells → page.now ≡ (seen_pages self.old.read self.old.write (main_of (D.reads self.old.disk.now)) self.old.count self.old.recorded self.old.changed.held).page n) }
         ensures range { IfOk result (λ page. is_number self.old.count n ≡ true) }
         ensures out_of_range { is_number self.old.count n ≡ false → result ≡ Err PageError.OutOfRange }
+        ensures refused { IfErr result (MayRefuseAs D.tells (seen_pages self.old.read self.old.write (main_of (D.reads self.old.disk.now)) self.old.count self.old.recorded self.old.changed.held) n) }
     {
         self.load(n)?;
         Ok(self.loaded())
@@ -572,6 +573,9 @@ impl<'d, D: Disk, E: Entropy> Pager<'d, D, E> {
         let Ok(draws) = vec![in alloc; 0u8; frames as usize * profile.reserve as usize] else {
             return Err((self, BeginError::OutOfMemory));
         };
+        let Ok(stored) = vec![in alloc; 0u8; profile.page_size as usize] else {
+            return Err((self, BeginError::OutOfMemory));
+        };
         let Ok(plain) = vec![in alloc; 0u8; profile.usable()] else {
             return Err((self, BeginError::OutOfMemory));
         };
@@ -582,7 +586,6 @@ impl<'d, D: Disk, E: Entropy> Pager<'d, D, E> {
             header: _,
             count,
             cache: _,
-            stored,
             last: _,
         } = self;
         Ok(Txn {

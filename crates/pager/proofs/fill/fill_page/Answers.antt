@@ -29,29 +29,29 @@ pub returns-in-Ok-clause-opened : goal.returns-in-Ok-clause-opened
 returns-in-Ok-clause-opened g c = λ told.
     let keys = c.args.codec.now in
     let main = main_of (g.D.Disk.reads c.args.disk.now) in
-    opened_after keys main c.args.n c.touch.new.self c.make_room.new.cache c.read_plain.new.plain c.in_ok-make_room.ensures.room
+    opened_after keys main c.args.n c.touch.new.self c.make_room.new.cache c.read_opened.new.page c.in_ok-make_room.ensures.room
     (rw c.touch.ensures.first (all_moved_first (IsOpened keys main) c.args.n c.args.cache.now.held (c.requires.opened told)))
-    (c.read_plain.auto.plain ∙ c.at_mut.ensures.size ∙ ap (λ (p : Pages). p.usable) c.in_ok-make_room.ensures.room.placed)
+    (c.read_opened.auto.page ∙ c.at_mut.ensures.size ∙ ap (λ (p : Pages). p.usable) c.in_ok-make_room.ensures.room.placed)
     (c.in-Ok.ensures.accepted told) (c.in-Ok.ensures.plain told)
 
 pub returns-in-Ok-clause-pins : goal.returns-in-Ok-clause-pins
 returns-in-Ok-clause-pins g c =
-    pins_filled c.args.n c.touch.new.self c.make_room.new.cache c.read_plain.new.plain c.in_ok-make_room.ensures.room c.touch.ensures.sound.distinct
+    pins_filled c.args.n c.touch.new.self c.make_room.new.cache c.read_opened.new.page c.in_ok-make_room.ensures.room c.touch.ensures.sound.distinct
     ∙ ap (λ (p : Pages). pins_of p.held) c.touch.ensures.first ∙ pins_moved_first c.args.n c.args.cache.now.held
 
 pub returns-in-Err-clause-opened : goal.returns-in-Err-clause-opened
 returns-in-Err-clause-opened g c = λ told.
     let keys = c.args.codec.now in
     let main = main_of (g.D.Disk.reads c.args.disk.now) in
-    rw c.discard.ensures.gone (opened_gone keys main c.args.n c.touch.new.self c.make_room.new.cache c.read_plain.new.plain c.in_ok-make_room.ensures.room
+    rw c.discard.ensures.gone (opened_gone keys main c.args.n c.touch.new.self c.make_room.new.cache c.read_opened.new.page c.in_ok-make_room.ensures.room
     (rw c.touch.ensures.first (all_moved_first (IsOpened keys main) c.args.n c.args.cache.now.held (c.requires.opened told))))
 
 pub returns-in-Err-clause-pins : goal.returns-in-Err-clause-pins
 returns-in-Err-clause-pins g c =
     ap (λ (p : Pages). pins_of p.held) c.discard.ensures.gone
-    ∙ pins_gone c.args.n c.touch.new.self c.make_room.new.cache c.read_plain.new.plain c.in_ok-make_room.ensures.room c.touch.ensures.sound.distinct
+    ∙ pins_gone c.args.n c.touch.new.self c.make_room.new.cache c.read_opened.new.page c.in_ok-make_room.ensures.room c.touch.ensures.sound.distinct
     ∙ ap (λ (p : Pages). pins_of p.held) c.touch.ensures.first ∙ pins_moved_first c.args.n c.args.cache.now.held
 
 pub returns-in-Err-clause-gone : goal.returns-in-Err-clause-gone
 returns-in-Err-clause-gone g c =
-    rw c.discard.ensures.gone (absent_gone c.args.n c.touch.new.self c.make_room.new.cache c.read_plain.new.plain c.in_ok-make_room.ensures.room)
+    rw c.discard.ensures.gone (absent_gone c.args.n c.touch.new.self c.make_room.new.cache c.read_opened.new.page c.in_ok-make_room.ensures.room)

@@ -44,9 +44,7 @@ invariant_of-result-clause-room g c =
 
 pub invariant_of-result-clause-buffers : goal.invariant_of-result-clause-buffers
 invariant_of-result-clause-buffers g c =
-    let yes : same_layout c.args.self.codec c.args.write ≡ true = search (rules, c.is_same_layout.ensures, c.if-not-is_same_layout.false) in
-    let layout = layout_same c.args.self.codec c.args.write yes in
-    (c.args.self.room ∙ sym layout.0, c.in-Ok-vec-2.ensures.len ∙ c.usable-2.ensures.value ∙ ap (λ (p : Profile). usable p) c.profile.ensures.value)
+    (c.in-Ok-vec-2.ensures.len ∙ ap (λ (p : Profile). p.page_size) c.profile.ensures.value, c.in-Ok-vec-3.ensures.len ∙ c.usable-2.ensures.value ∙ ap (λ (p : Profile). usable p) c.profile.ensures.value)
 
 pub invariant_of-result-clause-long : goal.invariant_of-result-clause-long
 invariant_of-result-clause-long g c =

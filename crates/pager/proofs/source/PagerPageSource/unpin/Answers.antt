@@ -1,9 +1,10 @@
-use Rattle.std.proofs.Common.{◌∙◌, ap, sym, Bool}
+use Rattle.std.proofs.Common.{◌∙◌, ap, sym, take, Bool}
 use Rattle.std.specs.Prelude.{if◌then◌else◌}
+use Rattle.cipher_profile.specs.Profile.{usable}
 use Rattle.db_format.specs.Source.{one_less}
 use Rattle.page_cache.specs.Pages.{Pages}
 use Rattle.pager.specs.File.{main_of}
-use Rattle.pager.specs.Held.{bytes_of_page, pins_of}
+use Rattle.pager.specs.Held.{plain_of_page, pins_of}
 use Rattle.pager.proofs.Filling.{opened_pins}
 use Rattle.pager.proofs.Pins.{bytes_unpinned, has_pins, pins_less}
 use Rattle.pager.proofs.source.PagerPageSource.unpin.Goals as goal
@@ -22,4 +23,4 @@ returns-clause-pins g c =
 
 pub returns-clause-at_hand : goal.returns-clause-at_hand
 returns-clause-at_hand g c =
-    ap (λ (p : Pages). bytes_of_page c.args.self.now.last p.held) c.unpin.ensures.less ∙ bytes_unpinned c.args.n c.args.self.now.last c.args.self.now.cache.held
+    ap (λ (p : Pages). plain_of_page c.args.self.now.codec.profile c.args.self.now.last p.held) c.unpin.ensures.less ∙ ap (take (usable c.args.self.now.codec.profile)) (bytes_unpinned c.args.n c.args.self.now.last c.args.self.now.cache.held)

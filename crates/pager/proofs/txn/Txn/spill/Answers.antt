@@ -1,4 +1,4 @@
-use Rattle.std.proofs.Common.{◌≡◌, ◌∙◌, ℕ, Bool, List, [], true, ap, sym, subst}
+use Rattle.std.proofs.Common.{◌≡◌, ◌∙◌, ℕ, List, [], true, ap, sym, subst}
 use Rattle.page_cache.specs.Pages.{Page}
 use Rattle.pager.specs.Changed.{Changed}
 use Rattle.pager.specs.Pages.{is_number}

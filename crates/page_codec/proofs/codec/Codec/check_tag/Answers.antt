@@ -1,8 +1,8 @@
 use Rattle.std.proofs.Common.{arith, refl, ap, sym, ◌∙◌, ◌≡◌, IsTrue}
 use Rattle.page_codec.specs.Page.{FileKeys, accepts}
 use Rattle.page_codec.proofs.TagPlace.{accepts-no_tag}
-use Rattle.page_codec.proofs.codec.Codec.open_page.Goals as goal
-use Rattle.page_codec.proofs.codec.Codec.open_page.Goals.{else-self-gt0-via-then-self-gt0+else-not-tag_holds, else-self-gt0-via-else-self-gt0}
+use Rattle.page_codec.proofs.codec.Codec.check_tag.Goals as goal
+use Rattle.page_codec.proofs.codec.Codec.check_tag.Goals.{else-self-gt0-via-then-self-gt0+else-not-tag_holds, else-self-gt0-via-else-self-gt0}
 
 pub returns-clause-accepted : goal.returns-clause-accepted
 returns-clause-accepted c =
