@@ -15,7 +15,7 @@ use Rattle.btree_walk.specs.declared.error.WalkError.TheVariants.{Defect as Foun
 use Rattle.btree_walk.specs.declared.turn.Moved.{Moved}
 use Rattle.btree_walk.specs.declared.turn.Moved.TheVariants.{Up, Down, Passed, Gave}
 use Rattle.btree_walk.specs.Causes.{IsAmong, IsMarked}
-use Rattle.btree_walk.specs.Order.{IsAfter, IsCovered}
+use Rattle.btree_walk.specs.Order.{IsAfter, IsCovered, last_after}
 use Rattle.btree_walk.specs.Pins.{path_pins}
 use Rattle.btree_walk.specs.Turn.{AreInside, IsInside}
 
@@ -146,16 +146,16 @@ GivesNext refuses pages all given (Err error) = IsAmong refuses pages all error
 
 -- ---- inside a call
 
--- the last rowid stays until an entry is given
+-- the last rowid stays until an entry is given, and then is that entry's, where it has one
 abbrev pub IsRising : Cursor → Cursor → Moved → Type 0
 IsRising old new Up = new.last ≡ old.last
 IsRising old new Down = new.last ≡ old.last
 IsRising old new Passed = new.last ≡ old.last
-IsRising old new Gave = IsAfter old.last new.rowid × (length new.payload.items ≤ max_payload)
+IsRising old new Gave = IsAfter old.last new.rowid × (length new.payload.items ≤ max_payload) × (new.last ≡ last_after old.last new.rowid)
 
--- the entry that was given is read, and its rowid is above the last one
+-- the entry that was given is read, and its rowid is above the last one and is now the last
 abbrev pub IsGivenAfter : Cursor → Cursor → Bool → Type 0
-IsGivenAfter old new true = IsAfter old.last new.rowid × (length new.payload.items ≤ max_payload)
+IsGivenAfter old new true = IsAfter old.last new.rowid × (length new.payload.items ≤ max_payload) × (new.last ≡ last_after old.last new.rowid)
 IsGivenAfter old new false = new.last ≡ old.last
 
 -- after an error that is a defect, the cursor has it

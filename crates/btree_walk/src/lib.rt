@@ -21,3 +21,4 @@ mod turn;
 pub use cursor::{Cursor, Entry};
 pub use error::WalkError;
 pub use number::is_in_range;
+pub use page::tree_family;

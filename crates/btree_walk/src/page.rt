@@ -26,6 +26,20 @@ pub(crate) enum Turn {
     End,
 }
 
+/// The family of the tree with this root, which is loaded.
+pub fn tree_family<S: PageSource>(source: &mut S, root: u32) -> Result<Family, S::Refusal>
+    ensures value { IfOk result (λ family. IsTrue S.tells → family ≡ root_family root ((S.plain source.old).page root)) }
+    ensures refused { IfErr result (S.refuses (S.plain source.old) root) }
+    ensures fault { IfErr result (λ refusal. IsTrue (S.is_fault refusal) → Rose (S.faults source.old) (S.faults source.new)) }
+    ensures pins { S.pins source.new ≡ S.pins source.old }
+    ensures reads { S.only_read source.old source.new }
+{
+    match source.load(root) {
+        Ok(()) => Ok(root_family(source.loaded(), root)),
+        Err(refusal) => Err(refusal),
+    }
+}
+
 // The family that is asked for, or else that of the root, which is then loaded.
 pub(crate) fn choose_family<S: PageSource>(
     source: &mut S,
@@ -40,10 +54,7 @@ pub(crate) fn choose_family<S: PageSource>(
 {
     match asked {
         Some(family) => Ok(family),
-        None => match source.load(root) {
-            Ok(()) => Ok(root_family(source.loaded(), root)),
-            Err(refusal) => Err(refusal),
-        },
+        None => tree_family(source, root),
     }
 }
 

@@ -1,12 +1,10 @@
 pub mod CursorSteps
 pub mod Escapes
-pub mod FewerMarks
 pub mod Handing
 pub mod ItemText
 pub mod Moving
 pub mod PartSteps
 pub mod SchemaText
-pub mod SoundParts
 pub mod TreeText
 pub mod ValueSteps
 pub mod Zeros

@@ -14,7 +14,8 @@ use Rattle.btree_walk.specs.Cursor.{IsAt, IsMade, IsNext, walked}
 use Rattle.btree_walk.proofs.CursorLemmas.{at_made}
 use Rattle.export_rows.specs.Lines.{entry_line}
 use Rattle.export_rows.specs.Out.{Moves, MovesPart}
-use Rattle.export_rows.specs.Report.{row_text, tree_rows}
+use Rattle.export_rows.specs.Report.{row_text}
+use Rattle.schema_map.specs.Alone.{tree_rows}
 use Rattle.export_rows.proofs.Moving.{cut, restated, restated_part, then, then_part, waits}
 
 -- the cursor gave these entries of the tree, and their lines are moved

@@ -21,9 +21,9 @@ use Rattle.btree_model.proofs.LeafLemmas.{is_in, no_leaf}
 use Rattle.btree_model.proofs.PlainLemmas.{leaf_is}
 use Rattle.btree_model.proofs.UnmarkedLemmas.{or_left, or_right, sound_left}
 use Rattle.btree_model.proofs.UnreadLemmas.{AreAlikeBut, walk_same}
-use Rattle.export_rows.specs.Schema.{schema_rows}
-use Rattle.export_rows.proofs.FewerMarks.{alone_as_after}
-use Rattle.export_rows.proofs.SoundParts.{all_sound, both_sound, both_true, free, rows_are, schema, schema_sound}
+use Rattle.schema_map.specs.Alone.{schema_rows}
+use Rattle.schema_map.proofs.FewerMarks.{alone_as_after}
+use Rattle.schema_map.proofs.SoundParts.{all_sound, both_sound, both_true, free, rows_are, schema, schema_sound}
 
 -- ---- a part without a defect begins at a page that is in no earlier part
 

@@ -1,10 +1,9 @@
 -- The text of a content: the line of the database, then each schema row with the entries of its tree, and last `end`.
 use Rattle.std.specs.Prelude.{ℕ, ℤ, List, [], ◌++◌, length, Some, None, unwrap_or, sum_by}
 use Rattle.std.specs.List.{flat_map}
-use Rattle.db_format.specs.Pages.{Pages, nothing}
+use Rattle.db_format.specs.Pages.{Pages}
 use Rattle.db_format.specs.Record.{columns}
 use Rattle.btree_model.specs.Finding.{Row, entries}
-use Rattle.btree_model.specs.Tree.{root_family, tree_walk}
 use Rattle.btree_model.specs.Content.{Content, Entry, SchemaItem, with_tree, alone, entry_of, item_of, without_fourth}
 use Rattle.export_rows.specs.Lines.{database_line, end_line, entry_line, schema_line}
 
@@ -25,12 +24,6 @@ item_count (alone rowid payload) = 0
 
 abbrev pub entry_count : Content → ℕ
 entry_count held = sum_by item_count held.rows
-
--- ---- one tree
-
--- the entries of the tree with this root
-abbrev pub tree_rows : Pages → ℕ → List Row
-tree_rows pages root = entries (tree_walk pages (root_family root (pages.page root)) nothing root)
 
 abbrev pub row_text : Row → List ℕ
 row_text row = entry_text (entry_of row)

@@ -1,18 +1,12 @@
 -- The rows of a schema as they are kept, and their text.
 use Rattle.std.specs.Prelude.{◌≡◌, ◌<◌, ◌^◌, ℕ, true, List, map}
 use Rattle.std.specs.List.{flat_map}
-use Rattle.db_format.specs.Pages.{Pages, nothing}
-use Rattle.btree_page.specs.declared.kind.Family.TheVariants.{Table}
-use Rattle.btree_model.specs.Finding.{Row, entries}
+use Rattle.db_format.specs.Pages.{Pages}
 use Rattle.btree_model.specs.Parts.{counts, is_database}
-use Rattle.btree_model.specs.Tree.{tree_walk}
+use Rattle.schema_map.specs.Alone.{schema_rows}
 use Rattle.schema_map.specs.Schema.{schema_row}
 use Rattle.schema_map.specs.declared.schema.SchemaRow.{SchemaRow}
 use Rattle.export_rows.specs.Report.{item_at, item_count, item_text}
-
--- the entries of the schema
-abbrev pub schema_rows : Pages → List Row
-schema_rows pages = entries (tree_walk pages Table nothing 1)
 
 -- these are the rows of the schema of a database without a defect; the entries of its trees can be counted
 pub record IsSchemaOf (pages : Pages) (rows : List SchemaRow) : Type 0 where

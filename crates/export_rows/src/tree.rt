@@ -9,41 +9,16 @@ ghost use Rattle.btree_model.specs.Tree.{root_family};
 ghost use Rattle.btree_walk.specs.Causes.{IsAmong, IsGivenBy, is_failure};
 ghost use Rattle.export_rows.specs.Causes.{IfWalk};
 ghost use Rattle.export_rows.specs.Out.{Moves, MovesPart};
-ghost use Rattle.export_rows.specs.Report.{row_text, tree_rows};
+ghost use Rattle.export_rows.specs.Report.{row_text};
+ghost use Rattle.schema_map.specs.Alone.{tree_rows};
 
 use crate::error::ExportError;
 use crate::line_out::LineOut;
 use crate::lines::put_entry;
-use btree_page::{Family, page_kind};
 use btree_walk::{Cursor, WalkError};
 use db_format::{Defect, PageSource, RecordView, Seen};
 use edge_model::Sink;
 use std::alloc::Global;
-
-/// The family of the tree with this root.
-pub(crate) fn tree_family<S: PageSource>(source: &mut S, root: u32) -> Result<Family, S::Refusal>
-    ensures value { IfOk result (λ family. IsTrue S.tells → family ≡ root_family root ((S.plain source.old).page root)) }
-    ensures refused { IfErr result (S.refuses (S.plain source.old) root) }
-    ensures fault { IfErr result (λ refusal. IsTrue (S.is_fault refusal) → Rose (S.faults source.old) (S.faults source.new)) }
-    ensures pins { S.pins source.new ≡ S.pins source.old }
-    ensures reads { S.only_read source.old source.new }
-{
-    match source.load(root) {
-        Ok(()) => Ok(family_of(source.loaded(), root)),
-        Err(refusal) => Err(refusal),
-    }
-}
-
-// The family of the tree that has this page n as its root.
-fn family_of(plain: &[u8], n: u32) -> Family
-    requires { 480 ≤ length plain.now }
-    ensures { result ≡ root_family n plain.now }
-{
-    match page_kind(plain, n) {
-        Some(kind) => kind.family(),
-        None => Family::Index,
-    }
-}
 
 /// Appends a line for each entry of the tree with this root, and answers how many there are.
 pub(crate) fn put_tree<S: PageSource, K: Sink>(

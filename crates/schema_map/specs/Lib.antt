@@ -4,3 +4,4 @@ pub mod Schema
 pub mod Parts
 pub mod Started
 pub mod Census
+pub mod Alone

@@ -16,13 +16,14 @@ use Rattle.schema_map.specs.declared.schema.SchemaRow.{SchemaRow}
 use Rattle.export_rows.specs.Causes.{IfWalk, IsLate}
 use Rattle.export_rows.specs.Lines.{database_line, end_line, kept_of}
 use Rattle.export_rows.specs.Report.{entry_count, export_report}
-use Rattle.export_rows.specs.Schema.{IsSchemaOf, row_count, rows_text, schema_rows}
+use Rattle.export_rows.specs.Schema.{IsSchemaOf, row_count, rows_text}
+use Rattle.schema_map.specs.Alone.{schema_rows}
 use Rattle.export_rows.specs.declared.error.ExportError.{ExportError}
 use Rattle.export_rows.specs.declared.error.ExportError.TheVariants.{Walk, OutputFault}
 use Rattle.export_rows.proofs.Handing.{if_given_later}
 use Rattle.export_rows.proofs.Moving.{restated_part}
 use Rattle.export_rows.proofs.SchemaText.{count_of_content, text_of_content}
-use Rattle.export_rows.proofs.SoundParts.{database_schema}
+use Rattle.schema_map.proofs.SoundParts.{database_schema}
 use Rattle.export_rows.proofs.TreeText.{none_put}
 use Rattle.export_rows.proofs.content.export.Goals as goal
 

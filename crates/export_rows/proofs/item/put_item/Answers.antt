@@ -12,7 +12,8 @@ use Rattle.btree_walk.specs.declared.error.WalkError.TheVariants.{Source}
 use Rattle.btree_walk.proofs.PathLemmas.{number_is_page}
 use Rattle.btree_walk.proofs.TurnLemmas.{start_shut}
 use Rattle.export_rows.specs.Lines.{schema_line}
-use Rattle.export_rows.specs.Report.{item_at, item_text, item_count, row_text, tree_rows}
+use Rattle.export_rows.specs.Report.{item_at, item_text, item_count, row_text}
+use Rattle.schema_map.specs.Alone.{tree_rows}
 use Rattle.export_rows.proofs.Handing.{if_among_later, if_given_later}
 use Rattle.export_rows.proofs.ItemText.{tree_count, tree_text}
 use Rattle.export_rows.proofs.Moving.{cut, restated, restated_part, then, then_part}

@@ -13,7 +13,8 @@ use Rattle.btree_walk.specs.Turn.{work}
 use Rattle.btree_walk.proofs.CauseLemmas.{given_later}
 use Rattle.btree_walk.proofs.CursorLemmas.{ready_made}
 use Rattle.export_rows.specs.Lines.{entry_line}
-use Rattle.export_rows.specs.Report.{row_text, tree_rows}
+use Rattle.export_rows.specs.Report.{row_text}
+use Rattle.schema_map.specs.Alone.{tree_rows}
 use Rattle.export_rows.proofs.CursorSteps.{walked_is, work_first}
 use Rattle.export_rows.proofs.Moving.{restated, restated_part}
 use Rattle.export_rows.proofs.PartSteps.{among_joined, no_record}

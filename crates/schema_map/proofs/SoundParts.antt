@@ -20,9 +20,9 @@ use Rattle.btree_model.specs.Tree.{root_family, tree_walk}
 use Rattle.btree_model.proofs.FindingLemmas.{entries-append}
 use Rattle.btree_model.proofs.UnmarkedLemmas.{sound_left, sound_right}
 use Rattle.schema_map.specs.Parts.{first_places}
-use Rattle.export_rows.specs.Report.{tree_rows}
-use Rattle.export_rows.specs.Schema.{schema_rows}
-use Rattle.export_rows.proofs.FewerMarks.{alone_as_after}
+use Rattle.schema_map.specs.Alone.{tree_rows}
+use Rattle.schema_map.specs.Alone.{schema_rows}
+use Rattle.schema_map.proofs.FewerMarks.{alone_as_after}
 
 pub both_true : (a b : Bool) → (a && b) ≡ true → (a ≡ true) × (b ≡ true)
 both_true true b h = (refl, h)
