@@ -16,6 +16,7 @@ use Rattle.page_build.specs.CellBytes.{IsStoredOn, cell_bytes, stored_bytes}
 use Rattle.page_build.specs.Written.{IsWritten, four_bytes}
 use Rattle.page_build.proofs.CellBack.{IsWritten-cell_bytes}
 use Rattle.bulk_load.specs.declared.pair.Pair.{Pair}
+use Rattle.bulk_load.specs.Bound.{cell_len}
 use Rattle.bulk_load.specs.Cells.{row_len}
 use Rattle.bulk_load.specs.Loader.{stored_as}
 use Rattle.bulk_load.specs.Settle.{IsNamed, IsPair}
@@ -181,3 +182,43 @@ pair_is usable payload rest k n pair local most few all none some child is =
     stored_is Index usable payload k n local (λ whole. none (omega arith)) in
     let on : IsStoredOn Index usable stored = stored_on Index usable payload k n local most few (λ part. some (omega arith)) in
     entry_is usable stored pair on child (is ∙ ap (λ s. cell_bytes (index_interior 0 s)) shown)
+
+pub key_most : (child : ℕ) (key : ℤ) (pair : Pair) → pair.cell.items ≡ cell_bytes (table_interior child key) → length pair.cell.items ≤ 13
+key_most child key pair is =
+    let whole : length pair.cell.items ≡ 4 + length (varint_bytes (cast_unsigned w64 key)) = ap length is ∙ length-append (four_bytes child) (varint_bytes (cast_unsigned w64 key)) in
+    let size : length (varint_bytes (cast_unsigned w64 key)) ≡ varint_size (cast_unsigned w64 key) = length-varint_bytes (cast_unsigned w64 key) in
+    let nine : varint_size (cast_unsigned w64 key) ≤ 9 = varint_size-most (cast_unsigned w64 key) in
+    omega arith
+
+-- how long the pair of an entry is
+length-entry : (usable : ℕ) (stored : Stored) → IsStoredOn Index usable stored
+    → length (cell_bytes (index_interior 0 stored)) ≡ 4 + (varint_size stored.size + (length stored.local + (if nat_le stored.size (length stored.local) then 0 else 4)))
+length-entry usable stored on =
+    length-append (four_bytes 0) (varint_bytes stored.size ++ stored_bytes stored)
+    ∙ ap (λ n. 4 + n)
+    (length-append (varint_bytes stored.size) (stored_bytes stored)
+    ∙ ap (λ n. n + length (stored_bytes stored)) (length-varint_bytes stored.size)
+    ∙ ap (λ n. varint_size stored.size + n)
+    (length-append stored.local (if stored.first == 0 then [] else four_bytes stored.first)
+    ∙ ap (λ n. length stored.local + n) (by_case (stored.first == 0) ∙ ap (λ b. if b then 0 else 4) on.whole)))
+  where
+    by_case : (b : Bool) → length (if b then [] else four_bytes stored.first) ≡ (if b then 0 else 4)
+    by_case true = refl
+    by_case false = refl
+
+pub pair_len : (usable : ℕ) (payload rest : List ℕ) (k n : ℕ) (pair : Pair) → k ≡ local_len Index usable (length payload) → k ≤ length payload
+    → length payload ≤ max_payload → rest ≡ drop k payload → (length rest ≡ 0 → n ≡ 0) → (1 ≤ length rest → 2 ≤ n)
+    → pair.cell.items ≡ cell_bytes (index_interior 0 (record { size = length payload; local = take k payload; first = n }))
+    → length pair.cell.items ≡ 4 + cell_len Index usable (record { rowid = None; payload = payload })
+pair_len usable payload rest k n pair local most few all none some is =
+    let left : length rest ≡ length payload - k = ap length all ∙ length-drop k payload in
+    let stored : Stored = stored_as Index usable payload n in
+    let shown : record { size = length payload; local = take k payload; first = n } ≡ stored =
+    stored_is Index usable payload k n local (λ whole. none (omega arith)) in
+    let on : IsStoredOn Index usable stored = stored_on Index usable payload k n local most few (λ part. some (omega arith)) in
+    ap length is ∙ ap (λ s. length (cell_bytes (index_interior 0 s))) shown ∙ length-entry usable stored on
+    ∙ ap (λ j. 4 + (varint_size (length payload) + (j + (if nat_le (length payload) j then 0 else 4)))) on.local
+    ∙ ap (λ m. 4 + (varint_size (length payload) + m)) (zero (local_len Index usable (length payload) + (if nat_le (length payload) (local_len Index usable (length payload)) then 0 else 4)))
+  where
+    zero : (m : ℕ) → m ≡ 0 + m
+    zero m = omega arith

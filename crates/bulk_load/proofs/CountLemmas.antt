@@ -1,5 +1,5 @@
 -- What the open pages hold, and what is kept back of it.
-use Rattle.std.proofs.Common.{◌≡◌, ◌≤◌, ◌+◌, ◌-◌, inl, inr, max, ℕ, suc, List, [], ◌∷◌, ◌++◌, length, replicate, refl, ap, ◌∙◌, arith, length-append}
+use Rattle.std.proofs.Common.{◌≡◌, ◌≤◌, ◌+◌, ◌-◌, ◌⊎◌, inl, inr, max, ℕ, suc, List, [], ◌∷◌, ◌++◌, length, replicate, refl, ap, ◌∙◌, arith, length-append}
 use Rattle.std.proofs.lemmas.List.{length-replicate}
 use Rattle.btree_page.specs.declared.kind.Kind.{Kind}
 use Rattle.btree_page.specs.declared.kind.Kind.TheVariants.{IndexInterior, IndexLeaf, TableInterior, TableLeaf}
@@ -58,3 +58,17 @@ held_none (level ∷ levels) none = absurd (no_length (length levels) none)
   where
     no_length : (n : ℕ) → suc n ≡ 0 → ⊥
     no_length n h = omega arith
+
+-- a page that was closed for want of room was not closed for the last that waits
+pub closed_can : (page new : Draft) (first : Pair) (rest : List Pair) → CanEnd page (first ∷ rest) → length new.cells ≡ 0
+    → (rest ≡ [] → (length page.cells ≡ 0) ⊎ (length first.cell.items + 2 ≤ room_of page) → ⊥) → CanEnd new rest × (1 ≤ length rest)
+closed_can page new first [] can emptied never = absurd (never refl can)
+closed_can page new first (p ∷ []) can emptied never = (inl emptied, omega arith)
+closed_can page new first (p ∷ (q ∷ more)) can emptied never = absurd can
+
+-- two wait at most
+pub can_few : (page : Draft) (waiting : List Pair) → CanEnd page waiting → length waiting ≤ 2
+can_few page [] can = omega arith
+can_few page (p ∷ []) can = omega arith
+can_few page (p ∷ (q ∷ [])) can = omega arith
+can_few page (p ∷ (q ∷ (r ∷ more))) can = absurd can

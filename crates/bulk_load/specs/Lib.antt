@@ -1,7 +1,11 @@
+pub mod Bound
 pub mod Cells
 pub mod Chain
 pub mod Close
 pub mod Count
+pub mod Depth
+pub mod Few
+pub mod Found
 pub mod Headed
 pub mod Leaf
 pub mod Level
@@ -11,3 +15,4 @@ pub mod MemOut
 pub mod Out
 pub mod Own
 pub mod Settle
+pub mod Volume

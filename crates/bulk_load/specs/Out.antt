@@ -1,5 +1,5 @@
 -- Where pages are put: what its calls change, and why they fail.
-use Rattle.std.specs.Prelude.{ℕ, ◌≡◌, ◌+◌, ◌≤◌, ◌==◌, ◌&&◌, Bool, true, false, List, nat_le, nat_lt}
+use Rattle.std.specs.Prelude.{ℕ, ◌≡◌, ◌+◌, ◌≤◌, ◌⊎◌, ◌==◌, ◌&&◌, Bool, true, false, List, nat_le, nat_lt}
 use Rattle.db_format.specs.Pages.{Pages, is_page}
 use Rattle.db_format.specs.Source.{Rose}
 use Rattle.btree_model.specs.Range.{is_in_range}
@@ -67,6 +67,18 @@ pub record Follows {S : Type 0} (pages : S → Pages) (limit : S → ℕ) (fault
   pub puts_first : first ≡ true → (pages new).accepts 1 ≡ true
   pub told : (start : ℕ) → well start old → well start new
 
+-- no page was taken: all numbers were given
+abbrev pub is_refusal : OutError → Bool
+is_refusal (TooManyPages limit) = true
+is_refusal DiskFault = false
+is_refusal EntropyFault = false
+
+abbrev pub is_load_refusal : LoadError → Bool
+is_load_refusal (Out why) = is_refusal why
+is_load_refusal RowidOrder = false
+is_load_refusal OutOfMemory = false
+is_load_refusal TooDeep = false
+
 -- why no page was taken or put: all numbers were given, or a count of failures rose
 abbrev pub HasCause : {S : Type 0} → (S → Pages) → (S → ℕ) → (S → Faults) → S → S → OutError → Type 0
 HasCause pages limit faults old new (TooManyPages at_most) = (at_most ≡ limit old) × (limit old ≤ (pages new).count)
@@ -80,9 +92,13 @@ pub record IsPutAs (old new : Pages) (n : ℕ) (bytes : List ℕ) : Type 0 where
   pub low : 2 ≤ n
   pub here : new.page n ≡ bytes
 
--- the same for a tree that is loaded: want of memory is free, and the order of rowids is told apart
+-- the same for an entry that is pushed: want of memory is free, and the order of rowids is told apart
 abbrev pub HasLoadCause : {S : Type 0} → (S → Pages) → (S → ℕ) → (S → Faults) → S → S → LoadError → Type 0
 HasLoadCause pages limit faults old new RowidOrder = ⊥
 HasLoadCause pages limit faults old new (Out why) = HasCause pages limit faults old new why
 HasLoadCause pages limit faults old new OutOfMemory = Unit {0}
-HasLoadCause pages limit faults old new TooDeep = Unit {0}
+HasLoadCause pages limit faults old new TooDeep = ⊥
+
+-- and for the end of a tree, which alone may find it too deep
+abbrev pub HasEndCause : {S : Type 0} → (S → Pages) → (S → ℕ) → (S → Faults) → S → S → LoadError → Type 0
+HasEndCause pages limit faults old new why = (why ≡ TooDeep) ⊎ HasLoadCause pages limit faults old new why

@@ -1,5 +1,5 @@
 -- The pages of one loader, among those of others.
-use Rattle.std.specs.Prelude.{ℕ, ◌≡◌, ◌&&◌, Bool, true}
+use Rattle.std.specs.Prelude.{ℕ, ◌≡◌, ◌&&◌, Bool, true, nat_le, nat_lt}
 use Rattle.db_format.specs.Pages.{Pages, Test}
 use Rattle.bulk_load.specs.Out.{is_new}
 
@@ -11,3 +11,7 @@ only own pages = record { count = pages.count; usable = pages.usable; page = pag
 pub record Covers (first : Bool) (own : Test) (old new : Pages) : Type 0 where
   pub taken : (k : ℕ) → is_new old new k ≡ true → own k ≡ true
   pub one : first ≡ true → own 1 ≡ true
+
+-- the numbers that were taken between two counts
+abbrev pub between : ℕ → ℕ → Test
+between a b n = nat_lt a n && nat_le n b

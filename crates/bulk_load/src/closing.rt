@@ -1,5 +1,5 @@
 // A page that is full is put.
-ghost use Rattle.std.specs.Prelude.{◌≡◌, ℕ, suc, ℤ, ◌+◌, List, [], ◌∷◌, ◌++◌, Option, IfOk, IfErr, OnOk, false, OnErr, ◌≤◌};
+ghost use Rattle.std.specs.Prelude.{◌≡◌, ℕ, suc, ℤ, ◌+◌, List, [], ◌∷◌, ◌++◌, Option, IfOk, IfErr, OnOk, true, false, OnErr, ◌≤◌};
 ghost use Rattle.btree_page.specs.Cell.{Cell};
 ghost use Rattle.btree_page.specs.Kind.{family_of};
 ghost use Rattle.btree_page.specs.Step.{steps, child};
@@ -10,7 +10,7 @@ ghost use Rattle.page_build.specs.Written.{right_child};
 ghost use Rattle.bulk_load.specs.Close.{HasCells};
 ghost use Rattle.db_format.specs.Pages.{Test};
 ghost use Rattle.bulk_load.specs.Own.{Covers, only};
-ghost use Rattle.bulk_load.specs.Out.{Follows, HasCause, Keeps};
+ghost use Rattle.bulk_load.specs.Out.{Follows, HasCause, Keeps, is_refusal};
 
 use crate::out::{OutError, PageOut};
 use crate::putting::put_next;
@@ -28,6 +28,7 @@ pub fn close<P: PageOut>(page: &mut PageBuilder, out: &mut P, right: u32) -> Res
         → IfOk result (λ m. Stands (only own (P.pages out.new)) (family_of page.old.kind) last (front ++ (record { height = suc h; leads = child m } ∷ back)) pushed) }
     ensures one { OnOk result ((P.pages out.new).count ≡ (P.pages out.old).count + 1) }
     ensures refused { OnErr result ((P.pages out.new).count ≤ (P.pages out.old).count + 1) }
+    ensures asked { IfErr result (λ why. is_refusal why ≡ true → (P.pages out.new).count ≡ (P.pages out.old).count) }
     ensures keeps { Keeps P.pages P.limit P.faults P.well false out.old out.new }
     ensures follows { OnOk result (Follows P.pages P.limit P.faults P.well false out.old out.new) }
     ensures cause { IfErr result (HasCause P.pages P.limit P.faults out.old out.new) }

@@ -1,5 +1,5 @@
 // The end of a tree: its levels end one by one, from the lowest up.
-ghost use Rattle.std.specs.Prelude.{◌≡◌, ℕ, suc, ℤ, ◌+◌, ◌≤◌, true, false, List, [], ◌++◌, Option, Some, map, IfOk, IfErr, OnOk, ◌⊎◌, length};
+ghost use Rattle.std.specs.Prelude.{◌≡◌, ℕ, suc, ℤ, ◌+◌, ◌*◌, ◌^◌, ◌≤◌, Err, true, false, List, [], ◌++◌, Option, Some, map, IfOk, IfErr, OnOk, ◌⊎◌, length};
 ghost use Rattle.std.specs.Option.{option_map};
 ghost use Rattle.btree_page.specs.Kind.{family_of};
 ghost use Rattle.btree_page.specs.Step.{Step, steps};
@@ -13,8 +13,10 @@ ghost use Rattle.bulk_load.specs.Levels.{AreReady, HoldLevels, opened};
 ghost use Rattle.db_format.specs.Pages.{Test};
 ghost use Rattle.bulk_load.specs.Count.{AreBack, CanEnd, held, load};
 ghost use Rattle.bulk_load.specs.Own.{Covers, only};
-ghost use Rattle.bulk_load.specs.Out.{Follows, HasLoadCause, Keeps};
+ghost use Rattle.bulk_load.specs.Out.{Follows, HasEndCause, Keeps, is_load_refusal};
 ghost use Rattle.bulk_load.specs.Settle.{up_kind};
+ghost use Rattle.bulk_load.specs.Depth.{AreLevelsShort, MayEnd, closed_below};
+ghost use Rattle.bulk_load.specs.Volume.{price, sizes, volumes};
 
 use crate::closing::close;
 use crate::error::LoadError;
@@ -52,9 +54,16 @@ pub fn end_levels<P: PageOut>(
     ensures one { at_one ≡ true → IfOk result (λ root. root ≡ 1) }
     ensures count { CanEnd level.old.page level.old.waiting.items → AreBack above.old.items → (1 ≤ load level.old) ⊎ (length above.old.items ≡ 0)
         → (P.pages out.new).count ≤ (P.pages out.old).count + (load level.old + held above.old.items + 1) }
+    // three pages for each level at most, and what the levels pay
+    ensures spent { CanEnd level.old.page level.old.waiting.items → AreBack above.old.items
+        → price (P.pages out.old).usable (P.pages out.new).count ≤ price (P.pages out.old).usable ((P.pages out.old).count + (3 * left + 3)) + (6 * sizes level.old.waiting.items + volumes above.old.items) }
+    ensures asked { length level.old.waiting.items ≡ 0 → length above.old.items ≡ 0
+        → IfErr result (λ error. is_load_refusal error ≡ true → (P.pages out.new).count ≡ (P.pages out.old).count) }
+    ensures deep { MayEnd (P.pages out.old).usable level.old → AreLevelsShort (P.pages out.old).usable above.old.items → AreBack above.old.items
+        → result ≡ Err LoadError.TooDeep → 3 ^ (left + 1) ≤ load level.old + 3 * closed_below above.old.items }
     ensures keeps { Keeps P.pages P.limit P.faults P.well at_one out.old out.new }
     ensures follows { OnOk result (Follows P.pages P.limit P.faults P.well at_one out.old out.new) }
-    ensures cause { IfErr result (HasLoadCause P.pages P.limit P.faults out.old out.new) }
+    ensures cause { IfErr result (HasEndCause P.pages P.limit P.faults out.old out.new) }
     ensures fresh { P.only_fresh out.old out.new }
 {
     drain(level, above, out, kind)?;

@@ -14,6 +14,7 @@ ghost use Rattle.std.specs.Option.{option_to_list};
 ghost use Rattle.db_format.specs.Pages.{Test};
 ghost use Rattle.bulk_load.specs.Own.{Covers, only};
 ghost use Rattle.bulk_load.specs.Out.{Follows, HasCause, Keeps};
+ghost use Rattle.bulk_load.specs.Volume.{filled, price};
 
 use crate::closing::close;
 use crate::out::{OutError, PageOut};
@@ -21,7 +22,7 @@ use page_build::PageBuilder;
 
 /// Makes room on the open leaf of a table for a cell of `len` bytes, of which an empty leaf has room for one. A leaf that was put is
 /// answered; the last rowid stands behind it.
-#[tactic(auto, using(crate::proofs::PutLemmas::keeps_after, crate::proofs::PutLemmas::keeps_same, crate::proofs::PutLemmas::follows_same))]
+#[tactic(auto, using(crate::proofs::VolumeLemmas::filled_none, crate::proofs::PutLemmas::keeps_after, crate::proofs::PutLemmas::keeps_same, crate::proofs::PutLemmas::follows_same))]
 pub fn make_room<P: PageOut>(
     leaf: &mut PageBuilder,
     out: &mut P,
@@ -31,6 +32,7 @@ pub fn make_room<P: PageOut>(
     requires plain { leaf.old.header ≡ 0 }
     requires kind { leaf.old.kind ≡ TableLeaf }
     requires fits { max 4 len + 10 ≤ leaf.old.usable }
+    requires large { 480 ≤ leaf.old.usable }
     ensures shape { SameShape leaf.old leaf.new }
     ensures fits { OnOk result (max 4 len + 2 ≤ room_of leaf.new) }
     ensures room { (start : ℕ) → P.well start out.old → (own : Test) → Covers false own (P.pages out.old) (P.pages out.new)
@@ -39,7 +41,11 @@ pub fn make_room<P: PageOut>(
         → Stands (only own (P.pages out.old)) Table (Some k) (front ++ at_height 0 (steps cells None)) pushed
         → IfOk result (HasRoom (only own (P.pages out.new)) leaf.new (P.pages out.old).usable k cells front pushed) }
     ensures count { IfOk result (λ closed. (P.pages out.new).count + (2 * length leaf.new.cells + length (option_to_list closed)) ≤ (P.pages out.old).count + 2 * length leaf.old.cells) }
+    ensures one { IfOk result (λ closed. (P.pages out.new).count ≡ (P.pages out.old).count + length (option_to_list closed)) }
     ensures refused { OnErr result ((P.pages out.new).count ≤ (P.pages out.old).count + 1) }
+    // a leaf that is put, and the key behind it, are paid by half of what the leaf and the cell together have
+    ensures paid { IfOk result (λ closed. price (P.pages out.old).usable (P.pages out.new).count + (3 * filled leaf.new + 90 * length (option_to_list closed))
+        ≤ price (P.pages out.old).usable (P.pages out.old).count + (3 * filled leaf.old + 3 * (max 4 len + 2))) }
     ensures keeps { Keeps P.pages P.limit P.faults P.well false out.old out.new }
     ensures follows { OnOk result (Follows P.pages P.limit P.faults P.well false out.old out.new) }
     ensures cause { IfErr result (HasCause P.pages P.limit P.faults out.old out.new) }

@@ -1,5 +1,5 @@
 // The open page of one level, and what waits to be put on it.
-ghost use Rattle.std.specs.Prelude.{◌≡◌, ℕ, suc, ℤ, ◌+◌, ◌≤◌, List, [], ◌∷◌, ◌++◌, length, drop, Option, None, IfOk, IfErr, OnOk, vec_len, false, OnErr};
+ghost use Rattle.std.specs.Prelude.{◌≡◌, ℕ, suc, ℤ, ◌+◌, ◌*◌, ◌≤◌, List, [], ◌∷◌, ◌++◌, length, drop, Option, None, IfOk, IfErr, OnOk, vec_len, false, OnErr};
 ghost use Rattle.std.specs.Option.{option_to_list};
 ghost use Rattle.db_format.specs.Pages.{IsUsable, Test};
 ghost use Rattle.btree_page.specs.Kind.{family_of};
@@ -13,6 +13,8 @@ ghost use Rattle.bulk_load.specs.Count.{IsBack, IsBegun, load};
 ghost use Rattle.bulk_load.specs.Own.{Covers, only};
 ghost use Rattle.bulk_load.specs.Out.{Follows, HasLoadCause, Keeps};
 ghost use Rattle.bulk_load.specs.Settle.{IsNamed, IsPair, on};
+ghost use Rattle.bulk_load.specs.Depth.{AreShort};
+ghost use Rattle.bulk_load.specs.Volume.{level_volume, price, sizes};
 
 use crate::error::LoadError;
 use crate::out::PageOut;
@@ -50,7 +52,7 @@ impl Level {
     }
 
     /// One child more. Where the page is full, it is put, and answered as a child of the level above.
-    #[tactic(auto, using(crate::proofs::PutLemmas::keeps_after, crate::proofs::PutLemmas::keeps_same, crate::proofs::PutLemmas::follows_same))]
+    #[tactic(auto, using(crate::proofs::VolumeLemmas::sizes_pushed, crate::proofs::PutLemmas::keeps_after, crate::proofs::PutLemmas::keeps_same, crate::proofs::PutLemmas::follows_same))]
     pub fn enter<P: PageOut>(&mut self, out: &mut P, pair: Pair) -> Result<Option<Pair>, LoadError>
         requires ready { IsReady self.old (P.pages out.old).usable }
         requires named { IsNamed (P.pages out.old).usable pair }
@@ -65,7 +67,12 @@ impl Level {
             → IfOk result (IsEntered (only own (P.pages out.new)) self.new (P.pages out.old).usable self.old.page.kind h front back last pushed) }
         ensures back { IsBegun self.old.page self.old.waiting.items → OnOk result (IsBack self.new.page self.new.waiting.items) }
         ensures count { IfOk result (λ up. (P.pages out.new).count + (load self.new + length (option_to_list up)) ≤ (P.pages out.old).count + (load self.old + 1)) }
+        ensures one { IfOk result (λ up. (P.pages out.new).count ≡ (P.pages out.old).count + length (option_to_list up)) }
         ensures refused { OnErr result ((P.pages out.new).count ≤ (P.pages out.old).count + 1) }
+        ensures short { AreShort (P.pages out.old).usable self.old.page.cells → OnOk result (AreShort (P.pages out.old).usable self.new.page.cells) }
+        ensures deep { AreShort (P.pages out.old).usable self.old.page.cells → IfOk result (λ up. load self.new + 3 * length (option_to_list up) ≤ load self.old + 1) }
+        ensures paid { IfOk result (λ up. price (P.pages out.old).usable (P.pages out.new).count + (level_volume self.new + 6 * sizes (option_to_list up))
+            ≤ price (P.pages out.old).usable (P.pages out.old).count + (level_volume self.old + 6 * (length pair.cell.items + 2))) }
         ensures keeps { Keeps P.pages P.limit P.faults P.well false out.old out.new }
         ensures follows { OnOk result (Follows P.pages P.limit P.faults P.well false out.old out.new) }
         ensures cause { IfErr result (HasLoadCause P.pages P.limit P.faults out.old out.new) }

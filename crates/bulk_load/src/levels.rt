@@ -13,6 +13,8 @@ ghost use Rattle.bulk_load.specs.Count.{AreBack, CanEnd, IsBack, held, load};
 ghost use Rattle.bulk_load.specs.Own.{Covers, only};
 ghost use Rattle.bulk_load.specs.Out.{Follows, HasLoadCause, Keeps};
 ghost use Rattle.bulk_load.specs.Settle.{IsNamed, IsPair, two, up_kind};
+ghost use Rattle.bulk_load.specs.Depth.{AreLevelsShort, AreShort, MayEnd, closed_below};
+ghost use Rattle.bulk_load.specs.Volume.{level_volume, price, sizes, volumes};
 
 use crate::error::LoadError;
 use crate::level::Level;
@@ -30,6 +32,8 @@ fn over(alloc: Global, usable: usize, kind: Kind, pair: Pair) -> Result<Level, L
         → IfOk result (λ level. (level.page.kind ≡ kind) × HoldsLevel level usable (child pair.child ∷ s ∷ [])) }
     ensures back { IfOk result (λ level. IsBack level.page level.waiting.items) }
     ensures one { IfOk result (λ level. load level ≡ 1) }
+    ensures short { IfOk result (λ level. AreShort usable level.page.cells) }
+    ensures size { IfOk result (λ level. level_volume level ≡ 6 * (length pair.cell.items + 2)) }
     ensures cause { IfErr result (λ error. error ≡ LoadError.OutOfMemory) }
 {
     let mut level = Level::new(alloc, usable, kind)?;
@@ -92,6 +96,12 @@ pub fn climb<P: PageOut>(
     ensures back { AreBack levels.old.items → OnOk result (AreBack levels.new.items) }
     ensures count { OnOk result ((P.pages out.new).count + held levels.new.items ≤ (P.pages out.old).count + (held levels.old.items + 1)) }
     ensures refused { OnErr result ((P.pages out.new).count ≤ (P.pages out.old).count + (held levels.old.items + 2)) }
+    ensures short { AreLevelsShort (P.pages out.old).usable levels.old.items → OnOk result (AreLevelsShort (P.pages out.old).usable levels.new.items) }
+    ensures deep { AreLevelsShort (P.pages out.old).usable levels.old.items → OnOk result (closed_below levels.new.items ≤ closed_below levels.old.items + 1) }
+    ensures paid { OnOk result (price (P.pages out.old).usable (P.pages out.new).count + volumes levels.new.items
+        ≤ price (P.pages out.old).usable (P.pages out.old).count + (volumes levels.old.items + 6 * (length pair.cell.items + 2))) }
+    ensures spent { OnErr result (price (P.pages out.old).usable (P.pages out.new).count
+        ≤ price (P.pages out.old).usable ((P.pages out.old).count + 1) + (volumes levels.old.items + 6 * (length pair.cell.items + 2))) }
     ensures keeps { Keeps P.pages P.limit P.faults P.well false out.old out.new }
     ensures follows { OnOk result (Follows P.pages P.limit P.faults P.well false out.old out.new) }
     ensures cause { IfErr result (HasLoadCause P.pages P.limit P.faults out.old out.new) }
@@ -146,6 +156,15 @@ pub fn drain<P: PageOut>(
     ensures filled { CanEnd level.old.page level.old.waiting.items → 1 ≤ load level.old → OnOk result (1 ≤ length level.new.page.cells) }
     ensures count { OnOk result ((P.pages out.new).count + (load level.new + held above.new.items) ≤ (P.pages out.old).count + (load level.old + held above.old.items)) }
     ensures refused { OnErr result ((P.pages out.new).count ≤ (P.pages out.old).count + (load level.old + held above.old.items + 1)) }
+    ensures short { AreLevelsShort (P.pages out.old).usable above.old.items → OnOk result (AreLevelsShort (P.pages out.old).usable above.new.items) }
+    ensures deep { MayEnd (P.pages out.old).usable level.old → AreLevelsShort (P.pages out.old).usable above.old.items
+        → OnOk result (load level.new + 3 * closed_below above.new.items ≤ load level.old + 3 * closed_below above.old.items) }
+    ensures idle { length level.old.waiting.items ≡ 0 → ((P.pages out.new).count ≡ (P.pages out.old).count) × (above.new.items ≡ above.old.items) }
+    // a page for each that waited, and what the levels above pay
+    ensures spent { price (P.pages out.old).usable (P.pages out.new).count
+        ≤ price (P.pages out.old).usable ((P.pages out.old).count + length level.old.waiting.items + 1) + (6 * sizes level.old.waiting.items + volumes above.old.items) }
+    ensures paid { OnOk result (price (P.pages out.old).usable (P.pages out.new).count + volumes above.new.items
+        ≤ price (P.pages out.old).usable ((P.pages out.old).count + length level.old.waiting.items) + (6 * sizes level.old.waiting.items + volumes above.old.items)) }
     ensures keeps { Keeps P.pages P.limit P.faults P.well false out.old out.new }
     ensures follows { OnOk result (Follows P.pages P.limit P.faults P.well false out.old out.new) }
     ensures cause { IfErr result (HasLoadCause P.pages P.limit P.faults out.old out.new) }

@@ -1,5 +1,5 @@
 // A loader: the open leaf and the levels above it.
-ghost use Rattle.std.specs.Prelude.{◌≡◌, ◌↔◌, ℕ, ℤ, ◌+◌, ◌≤◌, true, false, List, [], ◌∷◌, ◌++◌, length, max, Option, Some, None, map, Err, IfOk, IfErr, OnOk, OnErr, ◌-◌};
+ghost use Rattle.std.specs.Prelude.{◌≡◌, ◌↔◌, ℕ, ℤ, ◌+◌, ◌*◌, ◌^◌, ◌≤◌, true, false, List, [], ◌∷◌, ◌++◌, length, max, Option, Some, None, map, Err, IfOk, IfErr, OnOk, OnErr, ◌-◌};
 ghost use Rattle.std.specs.Option.{option_map};
 ghost use Rattle.db_format.specs.Pages.{IsUsable, Pages, Test};
 ghost use Rattle.btree_page.specs.declared.kind.Family.TheVariants.{Table, Index};
@@ -13,9 +13,13 @@ ghost use Rattle.page_build.specs.Draft.{room_of};
 ghost use Rattle.bulk_load.specs.Chain.{IsPutChain};
 ghost use Rattle.bulk_load.specs.Count.{AreBack, KeepsBack, overflow_pages, pages_for, weight};
 ghost use Rattle.bulk_load.specs.Own.{Covers, only};
-ghost use Rattle.bulk_load.specs.Out.{Follows, HasCause, HasLoadCause, Keeps};
+ghost use Rattle.bulk_load.specs.Out.{Follows, HasCause, HasEndCause, HasLoadCause, Keeps, is_load_refusal};
 ghost use Rattle.bulk_load.specs.Cells.{row_len};
 ghost use Rattle.bulk_load.specs.Settle.{up_kind};
+ghost use Rattle.bulk_load.specs.Bound.{entry_weight};
+ghost use Rattle.bulk_load.specs.Few.{TookFew, load_pages};
+ghost use Rattle.bulk_load.specs.Depth.{AreLevelsShort, KeepsShort, closed_below};
+ghost use Rattle.bulk_load.specs.Volume.{price, volume};
 
 use crate::cells::{entry_pair, key_pair, row_len, write_row};
 use crate::chain::put_chain;
@@ -25,7 +29,7 @@ use crate::leaf::make_room;
 use crate::level::Level;
 use crate::levels::climb;
 use crate::out::{OutError, PageOut};
-use btree_page::{Kind, local_len};
+use btree_page::{Family, Kind, local_len};
 use std::alloc::Global;
 
 /// A tree that is being written. It holds one open page a level, the last two children or entries that go on it, one page of an
@@ -92,6 +96,7 @@ impl Loader {
 
     /// A loader of an empty table. The usable size is that of its pages, in bytes. With `at_one` its root goes to page 1, whose first
     /// 100 bytes are left as zeros.
+    #[tactic(auto, using(crate::proofs::FewLemmas::took_none))]
     pub fn table(alloc: Global, usable: usize, at_one: bool) -> Result<Loader, LoadError>
         requires { IsUsable usable }
         ensures ready { IfOk result (λ loader. IsLoader loader usable) }
@@ -100,6 +105,10 @@ impl Loader {
         ensures last { IfOk result (λ loader. loader.last ≡ None) }
         ensures back { IfOk result (λ loader. KeepsBack loader) }
         ensures light { IfOk result (λ loader. weight loader ≡ 0) }
+        ensures void { IfOk result (λ loader. volume loader ≡ 0) }
+        ensures short { IfOk result (KeepsShort usable) }
+        ensures flat { IfOk result (λ loader. closed_below loader.levels.items ≡ 0) }
+        ensures none { (from : ℕ) → IfOk result (TookFew Table usable from [] from) }
         ensures empty { (pages : Pages) → pages.usable ≡ usable → IfOk result (λ loader. Loaded pages loader []) }
         ensures cause { IfErr result (λ error. error ≡ LoadError.OutOfMemory) }
     {
@@ -107,6 +116,7 @@ impl Loader {
     }
 
     /// A loader of an empty index.
+    #[tactic(auto, using(crate::proofs::FewLemmas::took_none))]
     pub fn index(alloc: Global, usable: usize) -> Result<Loader, LoadError>
         requires { IsUsable usable }
         ensures ready { IfOk result (λ loader. IsLoader loader usable) }
@@ -115,6 +125,10 @@ impl Loader {
         ensures last { IfOk result (λ loader. loader.last ≡ None) }
         ensures back { IfOk result (λ loader. KeepsBack loader) }
         ensures light { IfOk result (λ loader. weight loader ≡ 0) }
+        ensures void { IfOk result (λ loader. volume loader ≡ 0) }
+        ensures short { IfOk result (KeepsShort usable) }
+        ensures flat { IfOk result (λ loader. closed_below loader.levels.items ≡ 0) }
+        ensures none { (from : ℕ) → IfOk result (TookFew Index usable from [] from) }
         ensures empty { (pages : Pages) → pages.usable ≡ usable → IfOk result (λ loader. Loaded pages loader []) }
         ensures cause { IfErr result (λ error. error ≡ LoadError.OutOfMemory) }
     {
@@ -131,6 +145,9 @@ impl Loader {
         ensures last { IfOk result (λ loader. loader.last ≡ None) }
         ensures back { IfOk result (λ loader. KeepsBack loader) }
         ensures light { IfOk result (λ loader. weight loader ≡ 0) }
+        ensures void { IfOk result (λ loader. volume loader ≡ 0) }
+        ensures short { IfOk result (KeepsShort usable) }
+        ensures flat { IfOk result (λ loader. closed_below loader.levels.items ≡ 0) }
         ensures empty { (pages : Pages) → pages.usable ≡ usable → IfOk result (λ loader. Loaded pages loader []) }
         ensures cause { IfErr result (λ error. error ≡ LoadError.OutOfMemory) }
     {
@@ -146,6 +163,16 @@ impl Loader {
             last: None,
             at_one,
         })
+    }
+
+    /// Whether an entry with this rowid, or without one, is one for its tree.
+    pub fn is_for(&self, rowid: Option<i64>) -> bool
+        ensures { result ≡ is_for (family_of_loader self.now) rowid }
+    {
+        match self.leaf.page.kind().family() {
+            Family::Table => rowid.is_some(),
+            Family::Index => rowid.is_none(),
+        }
     }
 
     /// One entry more, behind all others: a row with its rowid, or an entry of an index without one. Its payload has at most 2^30 bytes.
@@ -175,6 +202,23 @@ impl Loader {
         ensures back { KeepsBack self.old → OnOk result (KeepsBack self.new) }
         ensures count { OnOk result ((P.pages out.new).count + weight self.new ≤ (P.pages out.old).count + (weight self.old + 2 + overflow_pages (family_of_loader self.old) (P.pages out.old).usable (length payload.now))) }
         ensures refused { OnErr result ((P.pages out.new).count ≤ (P.pages out.old).count + (weight self.old + overflow_pages (family_of_loader self.old) (P.pages out.old).usable (length payload.now) + 2)) }
+        // the same by bytes: three for each that an entry counts, with what the loader holds
+        ensures paid { OnOk result (price (P.pages out.old).usable (P.pages out.new).count + volume self.new
+            ≤ price (P.pages out.old).usable ((P.pages out.old).count + overflow_pages (family_of_loader self.old) (P.pages out.old).usable (length payload.now))
+            + (volume self.old + 6 * entry_weight (family_of_loader self.old) (P.pages out.old).usable (record { rowid = rowid; payload = payload.now }))) }
+        ensures spent { OnErr result (price (P.pages out.old).usable (P.pages out.new).count
+            ≤ price (P.pages out.old).usable ((P.pages out.old).count + overflow_pages (family_of_loader self.old) (P.pages out.old).usable (length payload.now) + 1)
+            + (volume self.old + 6 * entry_weight (family_of_loader self.old) (P.pages out.old).usable (record { rowid = rowid; payload = payload.now }))) }
+        // and a level more wants three times as many pages
+        ensures short { KeepsShort (P.pages out.old).usable self.old → OnOk result (KeepsShort (P.pages out.old).usable self.new) }
+        ensures deep { KeepsShort (P.pages out.old).usable self.old
+            → OnOk result (closed_below self.new.levels.items + (P.pages out.old).count ≤ closed_below self.old.levels.items + (P.pages out.new).count) }
+        // all pushes added up: no more than the pages of a tree of these entries, also where one more was asked for
+        ensures pushed { (from : ℕ) (entries : List Entry) → TookFew (family_of_loader self.old) (P.pages out.old).usable from entries (P.pages out.old).count self.old
+            → OnOk result (TookFew (family_of_loader self.old) (P.pages out.old).usable from (entries ++ record { rowid = rowid; payload = payload.now } ∷ []) (P.pages out.new).count self.new) }
+        ensures few { (from : ℕ) (entries : List Entry) → TookFew (family_of_loader self.old) (P.pages out.old).usable from entries (P.pages out.old).count self.old
+            → OnErr result ((P.pages out.new).count + 1 ≤ from + load_pages (family_of_loader self.old) (P.pages out.old).usable (entries ++ record { rowid = rowid; payload = payload.now } ∷ [])) }
+        ensures flat { result ≡ Err LoadError.TooDeep → ⊥ }
         // what other answers there are, and what all of them leave
         ensures cause { (why : OutError) → result ≡ Err (LoadError.Out why) → HasCause P.pages P.limit P.faults out.old out.new why }
         ensures keeps { Keeps P.pages P.limit P.faults P.well false out.old out.new }
@@ -203,8 +247,17 @@ impl Loader {
             → IfOk result (λ root. option_map (map entry_of) (tree (only own (P.pages out.new)) (family_of_loader self) root) ≡ Some pushed) }
         // and whatever the answer, it takes one more at most beside what the loader holds
         ensures count { KeepsBack self → (P.pages out.new).count ≤ (P.pages out.old).count + (weight self + 1) }
+        // the same by bytes: three pages more for each level, and page 1
+        ensures spent { KeepsBack self → price (P.pages out.old).usable (P.pages out.new).count ≤ price (P.pages out.old).usable ((P.pages out.old).count + 57) + volume self }
+        // all pushes and the end added up: no more than the pages of a tree of these entries
+        ensures few { (from : ℕ) (entries : List Entry) → TookFew (family_of_loader self) (P.pages out.old).usable from entries (P.pages out.old).count self
+            → (P.pages out.new).count ≤ from + load_pages (family_of_loader self) (P.pages out.old).usable entries }
+        ensures asked { (from : ℕ) (entries : List Entry) → TookFew (family_of_loader self) (P.pages out.old).usable from entries (P.pages out.old).count self
+            → IfErr result (λ error. is_load_refusal error ≡ true → (P.pages out.new).count + 1 ≤ from + load_pages (family_of_loader self) (P.pages out.old).usable entries) }
+        // a tree that is too deep has as many pages
+        ensures deep { KeepsBack self → KeepsShort (P.pages out.old).usable self → result ≡ Err LoadError.TooDeep → 2 ^ 28 ≤ closed_below self.levels.items }
         ensures one { self.at_one ≡ true → IfOk result (λ root. root ≡ 1) }
-        ensures cause { IfErr result (HasLoadCause P.pages P.limit P.faults out.old out.new) }
+        ensures cause { IfErr result (HasEndCause P.pages P.limit P.faults out.old out.new) }
         ensures keeps { Keeps P.pages P.limit P.faults P.well self.at_one out.old out.new }
         ensures follows { OnOk result (Follows P.pages P.limit P.faults P.well self.at_one out.old out.new) }
         ensures fresh { P.only_fresh out.old out.new }
@@ -224,7 +277,7 @@ impl Loader {
     }
 
     // One entry more of an index.
-    #[tactic(auto, using(crate::proofs::PutLemmas::keeps_after, crate::proofs::PutLemmas::follows_all))]
+    #[tactic(auto, using(crate::proofs::VolumeLemmas::volume_index, crate::proofs::PutLemmas::keeps_after, crate::proofs::PutLemmas::follows_all))]
     fn push_entry<P: PageOut>(&mut self, out: &mut P, payload: &[u8]) -> Result<(), LoadError>
         requires ready { IsLoader self.old (P.pages out.old).usable }
         requires kind { self.old.leaf.page.kind ≡ IndexLeaf }
@@ -240,6 +293,15 @@ impl Loader {
         ensures back { KeepsBack self.old → OnOk result (KeepsBack self.new) }
         ensures count { OnOk result ((P.pages out.new).count + weight self.new ≤ (P.pages out.old).count + (weight self.old + 2 + overflow_pages Index (P.pages out.old).usable (length payload.now))) }
         ensures refused { OnErr result ((P.pages out.new).count ≤ (P.pages out.old).count + (weight self.old + overflow_pages Index (P.pages out.old).usable (length payload.now) + 2)) }
+        ensures paid { OnOk result (price (P.pages out.old).usable (P.pages out.new).count + volume self.new
+            ≤ price (P.pages out.old).usable ((P.pages out.old).count + overflow_pages Index (P.pages out.old).usable (length payload.now))
+            + (volume self.old + 6 * entry_weight Index (P.pages out.old).usable (record { rowid = None; payload = payload.now }))) }
+        ensures spent { OnErr result (price (P.pages out.old).usable (P.pages out.new).count
+            ≤ price (P.pages out.old).usable ((P.pages out.old).count + overflow_pages Index (P.pages out.old).usable (length payload.now) + 1)
+            + (volume self.old + 6 * entry_weight Index (P.pages out.old).usable (record { rowid = None; payload = payload.now }))) }
+        ensures short { KeepsShort (P.pages out.old).usable self.old → OnOk result (KeepsShort (P.pages out.old).usable self.new) }
+        ensures deep { KeepsShort (P.pages out.old).usable self.old
+            → OnOk result (closed_below self.new.levels.items + (P.pages out.old).count ≤ closed_below self.old.levels.items + (P.pages out.new).count) }
         ensures keeps { Keeps P.pages P.limit P.faults P.well false out.old out.new }
         ensures follows { OnOk result (Follows P.pages P.limit P.faults P.well false out.old out.new) }
         ensures fresh { P.only_fresh out.old out.new }
@@ -258,7 +320,7 @@ impl Loader {
     }
 
     // One row more of a table: room first, then its chain, then its cell, so that no page is put between a chain and its cell.
-    #[tactic(auto, using(crate::proofs::PutLemmas::keeps_after, crate::proofs::PutLemmas::follows_all))]
+    #[tactic(auto, using(crate::proofs::VolumeLemmas::price_more, crate::proofs::PutLemmas::keeps_after, crate::proofs::PutLemmas::follows_all))]
     fn push_row<P: PageOut>(
         &mut self,
         out: &mut P,
@@ -280,6 +342,15 @@ impl Loader {
         ensures back { KeepsBack self.old → OnOk result (KeepsBack self.new) }
         ensures count { OnOk result ((P.pages out.new).count + weight self.new ≤ (P.pages out.old).count + (weight self.old + 2 + overflow_pages Table (P.pages out.old).usable (length payload.now))) }
         ensures refused { OnErr result ((P.pages out.new).count ≤ (P.pages out.old).count + (weight self.old + overflow_pages Table (P.pages out.old).usable (length payload.now) + 1)) }
+        ensures paid { OnOk result (price (P.pages out.old).usable (P.pages out.new).count + volume self.new
+            ≤ price (P.pages out.old).usable ((P.pages out.old).count + overflow_pages Table (P.pages out.old).usable (length payload.now))
+            + (volume self.old + 6 * entry_weight Table (P.pages out.old).usable (record { rowid = Some rowid; payload = payload.now }))) }
+        ensures spent { OnErr result (price (P.pages out.old).usable (P.pages out.new).count
+            ≤ price (P.pages out.old).usable ((P.pages out.old).count + overflow_pages Table (P.pages out.old).usable (length payload.now) + 1)
+            + (volume self.old + 6 * entry_weight Table (P.pages out.old).usable (record { rowid = Some rowid; payload = payload.now }))) }
+        ensures short { KeepsShort (P.pages out.old).usable self.old → OnOk result (KeepsShort (P.pages out.old).usable self.new) }
+        ensures deep { KeepsShort (P.pages out.old).usable self.old
+            → OnOk result (closed_below self.new.levels.items + (P.pages out.old).count ≤ closed_below self.old.levels.items + (P.pages out.new).count) }
         ensures keeps { Keeps P.pages P.limit P.faults P.well false out.old out.new }
         ensures follows { OnOk result (Follows P.pages P.limit P.faults P.well false out.old out.new) }
         ensures fresh { P.only_fresh out.old out.new }
@@ -293,7 +364,7 @@ impl Loader {
     }
 
     // Makes room on the open leaf of a table for a cell of `len` bytes.
-    #[tactic(auto, using(crate::proofs::CellLemmas::key_named, crate::proofs::PutLemmas::keeps_after, crate::proofs::PutLemmas::keeps_same, crate::proofs::PutLemmas::follows_same, crate::proofs::PutLemmas::follows_all))]
+    #[tactic(auto, using(crate::proofs::CellLemmas::key_named, crate::proofs::CellLemmas::key_most, crate::proofs::VolumeLemmas::volume_table, crate::proofs::PutLemmas::keeps_after, crate::proofs::PutLemmas::keeps_same, crate::proofs::PutLemmas::follows_same, crate::proofs::PutLemmas::follows_all))]
     fn leaf_for<P: PageOut>(&mut self, out: &mut P, len: usize) -> Result<(), LoadError>
         requires ready { IsLoader self.old (P.pages out.old).usable }
         requires kind { self.old.leaf.page.kind ≡ TableLeaf }
@@ -311,6 +382,13 @@ impl Loader {
         ensures waits { OnOk result (self.new.leaf.waiting.items ≡ self.old.leaf.waiting.items) }
         ensures count { OnOk result ((P.pages out.new).count + weight self.new ≤ (P.pages out.old).count + weight self.old) }
         ensures refused { OnErr result ((P.pages out.new).count ≤ (P.pages out.old).count + (weight self.old + 1)) }
+        ensures paid { OnOk result (price (P.pages out.old).usable (P.pages out.new).count + volume self.new
+            ≤ price (P.pages out.old).usable (P.pages out.old).count + (volume self.old + 3 * (max 4 len + 2))) }
+        ensures spent { OnErr result (price (P.pages out.old).usable (P.pages out.new).count
+            ≤ price (P.pages out.old).usable ((P.pages out.old).count + 1) + (volume self.old + 3 * (max 4 len + 2))) }
+        ensures short { AreLevelsShort (P.pages out.old).usable self.old.levels.items → OnOk result (AreLevelsShort (P.pages out.old).usable self.new.levels.items) }
+        ensures deep { AreLevelsShort (P.pages out.old).usable self.old.levels.items
+            → OnOk result (closed_below self.new.levels.items + (P.pages out.old).count ≤ closed_below self.old.levels.items + (P.pages out.new).count) }
         ensures keeps { Keeps P.pages P.limit P.faults P.well false out.old out.new }
         ensures follows { OnOk result (Follows P.pages P.limit P.faults P.well false out.old out.new) }
         ensures fresh { P.only_fresh out.old out.new }
@@ -330,7 +408,7 @@ impl Loader {
     }
 
     // Puts the chain of a row, and adds its cell to the open leaf.
-    #[tactic(auto, using(crate::proofs::PutLemmas::keeps_after, crate::proofs::PutLemmas::follows_all))]
+    #[tactic(auto, using(crate::proofs::VolumeLemmas::volume_table, crate::proofs::PutLemmas::keeps_after, crate::proofs::PutLemmas::follows_all))]
     fn add_row<P: PageOut>(
         &mut self,
         out: &mut P,
@@ -358,6 +436,9 @@ impl Loader {
         ensures filled { OnOk result (1 ≤ length self.new.leaf.page.cells) }
         ensures count { OnOk result ((P.pages out.new).count + weight self.new ≤ (P.pages out.old).count + (weight self.old + 2 + overflow_pages Table (P.pages out.old).usable (length payload.now))) }
         ensures refused { OnErr result ((P.pages out.new).count ≤ (P.pages out.old).count + (weight self.old + overflow_pages Table (P.pages out.old).usable (length payload.now))) }
+        ensures taken { OnOk result ((P.pages out.new).count ≡ (P.pages out.old).count + overflow_pages Table (P.pages out.old).usable (length payload.now)) }
+        ensures paid { OnOk result (volume self.new ≡ volume self.old + 3 * (max 4 (row_len (length payload.now) rowid local) + 2)) }
+        ensures few { OnErr result ((P.pages out.new).count ≤ (P.pages out.old).count + overflow_pages Table (P.pages out.old).usable (length payload.now)) }
         ensures keeps { Keeps P.pages P.limit P.faults P.well false out.old out.new }
         ensures follows { OnOk result (Follows P.pages P.limit P.faults P.well false out.old out.new) }
         ensures fresh { P.only_fresh out.old out.new }

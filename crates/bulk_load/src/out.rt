@@ -1,7 +1,7 @@
 // Where pages are put.
 ghost use Rattle.std.specs.Prelude.{◌≡◌, ◌≤◌, ◌+◌, ◌==◌, ℕ, false, true, length, IfOk, IfErr, OnOk, OnErr};
 ghost use Rattle.db_format.specs.Pages.{IsUsable, Pages};
-ghost use Rattle.bulk_load.specs.Out.{Faults, HasCause, IsTaken, MarksAt, SameBut, SameNumbers};
+ghost use Rattle.bulk_load.specs.Out.{Faults, HasCause, IsTaken, MarksAt, SameBut, SameNumbers, is_refusal};
 
 /// Why a page was not taken or put.
 #[derive(Clone, Copy, Debug, PartialEq, Eq)]
@@ -60,6 +60,7 @@ pub trait PageOut {
         ensures page { (start : ℕ) → well start self.old → OnOk result ((pages self.new).page n ≡ plain.now) }
         ensures well { (start : ℕ) → well start self.old → OnOk result (well start self.new) }
         ensures cause { IfErr result (HasCause pages limit faults self.old self.new) }
+        ensures taken { IfErr result (λ why. is_refusal why ≡ false) }
         // what stays, whatever the answer
         ensures marks { MarksAt (pages self.old) (pages self.new) n }
         ensures told { (start : ℕ) → well start self.old → SameBut (pages self.old) (pages self.new) n }

@@ -14,6 +14,8 @@ ghost use Rattle.bulk_load.specs.Count.{one_if};
 ghost use Rattle.bulk_load.specs.Own.{Covers, only};
 ghost use Rattle.bulk_load.specs.Out.{Follows, HasCause, Keeps};
 ghost use Rattle.bulk_load.specs.Settle.{IsNamed, IsPair, IsSettled, on, skip_of};
+ghost use Rattle.bulk_load.specs.Depth.{AreShort};
+ghost use Rattle.bulk_load.specs.Volume.{filled, price};
 
 use crate::closing::close;
 use crate::out::{OutError, PageOut};
@@ -62,7 +64,7 @@ fn has_room(page: &PageBuilder, len: usize, more: usize) -> bool
 /// Puts a pair on an open page, if there is room for it and for `more` bytes. Else its child is the page's last one,
 /// the page is put, and what stands behind the child now stands behind this page: true. A leaf has no child: the
 /// entry alone goes on it, or stands behind it.
-#[tactic(auto, using(crate::proofs::LevelLemmas::renamed, crate::proofs::PutLemmas::keeps_after, crate::proofs::PutLemmas::keeps_same, crate::proofs::PutLemmas::follows_same))]
+#[tactic(auto, using(crate::proofs::LevelLemmas::renamed, crate::proofs::VolumeLemmas::filled_pair, crate::proofs::PutLemmas::keeps_after, crate::proofs::PutLemmas::keeps_same, crate::proofs::PutLemmas::follows_same))]
 pub fn settle<P: PageOut>(
     page: &mut PageBuilder,
     out: &mut P,
@@ -88,7 +90,15 @@ pub fn settle<P: PageOut>(
     ensures emptied { IfOk result (λ closed. closed ≡ true → length page.new.cells ≡ 0) }
     // one more is held, on the page or above it; and a page that is closed takes as much away as it adds
     ensures count { IfOk result (λ closed. (P.pages out.new).count + (length page.new.cells + one_if closed) ≤ (P.pages out.old).count + (length page.old.cells + 1)) }
+    ensures one { IfOk result (λ closed. (P.pages out.new).count ≡ (P.pages out.old).count + one_if closed) }
     ensures refused { OnErr result ((P.pages out.new).count ≤ (P.pages out.old).count + 1) }
+    // a page that is closed has two cells at least
+    ensures short { AreShort (P.pages out.old).usable page.old.cells → OnOk result (AreShort (P.pages out.old).usable page.new.cells) }
+    ensures wide { AreShort (P.pages out.old).usable page.old.cells → IfOk result (λ closed. closed ≡ true → 2 ≤ length page.old.cells) }
+    // in bytes: what the page held pays for it, where no room was asked for more
+    ensures size { OnOk result (length pair.new.cell.items ≡ length pair.old.cell.items) }
+    ensures paid { more ≡ 0 → IfOk result (λ closed. price (P.pages out.old).usable (P.pages out.new).count + 6 * (filled page.new + one_if closed * (length pair.old.cell.items + 2))
+        ≤ price (P.pages out.old).usable (P.pages out.old).count + 6 * (filled page.old + (length pair.old.cell.items + 2))) }
     ensures keeps { Keeps P.pages P.limit P.faults P.well false out.old out.new }
     ensures follows { OnOk result (Follows P.pages P.limit P.faults P.well false out.old out.new) }
     ensures cause { IfErr result (HasCause P.pages P.limit P.faults out.old out.new) }

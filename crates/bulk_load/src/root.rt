@@ -12,7 +12,7 @@ ghost use Rattle.page_build.specs.Written.{right_child};
 ghost use Rattle.bulk_load.specs.Close.{HasCells, IsRoot};
 ghost use Rattle.db_format.specs.Pages.{Test};
 ghost use Rattle.bulk_load.specs.Own.{Covers, only};
-ghost use Rattle.bulk_load.specs.Out.{Follows, HasCause, HasLoadCause, Keeps};
+ghost use Rattle.bulk_load.specs.Out.{Follows, HasCause, HasLoadCause, Keeps, is_load_refusal, is_refusal};
 ghost use Rattle.bulk_load.specs.Settle.{up_kind};
 
 use crate::closing::close;
@@ -32,6 +32,7 @@ fn put_first<P: PageOut>(page: &mut PageBuilder, out: &mut P, right: u32) -> Res
         → HasCells page.old (P.pages out.old).usable cells
         → OnOk result (IsRoot (only own (P.pages out.old)) (only own (P.pages out.new)) 1 (record { kind = page.old.kind; cells = cells; right = right_child page.old.kind right })) }
     ensures count { (P.pages out.new).count ≡ (P.pages out.old).count }
+    ensures asked { IfErr result (λ why. is_refusal why ≡ false) }
     ensures keeps { Keeps P.pages P.limit P.faults P.well true out.old out.new }
     ensures follows { OnOk result (Follows P.pages P.limit P.faults P.well true out.old out.new) }
     ensures cause { IfErr result (HasCause P.pages P.limit P.faults out.old out.new) }
@@ -62,6 +63,7 @@ fn put_at_one<P: PageOut>(
         → Stands (only own (P.pages out.old)) (family_of kind) last (at_height h (steps cells (right_child page.old.kind right))) pushed
         → OnOk result (option_map (map entry_of) (tree (only own (P.pages out.new)) (family_of kind) 1) ≡ Some pushed) }
     ensures count { (P.pages out.new).count ≤ (P.pages out.old).count + 1 }
+    ensures asked { IfErr result (λ error. is_load_refusal error ≡ true → (P.pages out.new).count ≡ (P.pages out.old).count) }
     ensures keeps { Keeps P.pages P.limit P.faults P.well true out.old out.new }
     ensures follows { OnOk result (Follows P.pages P.limit P.faults P.well true out.old out.new) }
     ensures cause { IfErr result (HasLoadCause P.pages P.limit P.faults out.old out.new) }
@@ -110,6 +112,7 @@ pub fn put_root<P: PageOut>(
         → IfOk result (λ root. option_map (map entry_of) (tree (only own (P.pages out.new)) (family_of kind) root) ≡ Some pushed) }
     ensures one { at_one ≡ true → IfOk result (λ root. root ≡ 1) }
     ensures count { (P.pages out.new).count ≤ (P.pages out.old).count + 1 }
+    ensures asked { IfErr result (λ error. is_load_refusal error ≡ true → (P.pages out.new).count ≡ (P.pages out.old).count) }
     ensures keeps { Keeps P.pages P.limit P.faults P.well at_one out.old out.new }
     ensures follows { OnOk result (Follows P.pages P.limit P.faults P.well at_one out.old out.new) }
     ensures cause { IfErr result (HasLoadCause P.pages P.limit P.faults out.old out.new) }

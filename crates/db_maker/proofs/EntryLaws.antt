@@ -1,5 +1,5 @@
 -- The entries of a made database as records.
-use Rattle.std.proofs.Common.{◌≡◌, ◌≤◌, ◌<◌, ℕ, zero, suc, ◌+◌, ◌*◌, ◌^◌, ◌%◌, pos, Bool, true, List, [], ◌++◌, Some, map, length, refl, ap, ◌∙◌, arith, length-append}
+use Rattle.std.proofs.Common.{◌≡◌, ◌≤◌, ◌<◌, ℕ, zero, suc, ◌+◌, ◌*◌, ◌^◌, ◌%◌, pos, true, List, [], ◌++◌, Some, map, length, refl, ap, ◌∙◌, arith, length-append}
 use Rattle.std.specs.Prelude.{is_some}
 use Rattle.std.specs.Cmp.Derive.{both_true}
 use Rattle.std.specs.List.{list_all, range_with_len}
@@ -11,10 +11,10 @@ use Rattle.db_format.specs.Value.{Datum}
 use Rattle.db_format.specs.Value.Datum.{int}
 use Rattle.db_format.proofs.RelationLemmas.{columns-IsRecordOf}
 use Rattle.db_format.proofs.RowLemmas.{IsRecordOf-record_bytes}
-use Rattle.btree_model.specs.Content.{Entry}
+use Rattle.bulk_load.specs.Found.{is_record}
 use Rattle.db_maker.specs.declared.part.Part.{Part}
 use Rattle.db_maker.specs.declared.part.Part.TheVariants.{Items, Names, Codes}
-use Rattle.db_maker.specs.Parts.{entries_in, entry_in, part_values, schema_entries, view_values}
+use Rattle.db_maker.specs.Parts.{entries_in, entry_in, part_values, view_values}
 use Rattle.db_maker.specs.Rows.{code_name, code_values, data_byte, data_bytes, data_len, item_name, item_values, name_values}
 use Rattle.db_maker.proofs.RowLaws.{number_short, record_short, types_short}
 
@@ -23,9 +23,6 @@ pub values_read : (values : List Datum) → AreStorable values → length values
 values_read values storable few =
     let short : length (types_written values) ≤ 9 * length values = types_short values in
     columns-IsRecordOf (record_bytes values) values (IsRecordOf-record_bytes values storable (omega arith))
-
-abbrev pub readable : Entry → Bool
-readable e = is_some (columns e.payload)
 
 data_short : (i : ℕ) → 12 + 2 * length (data_bytes i) < 2 ^ 64
 data_short i =
@@ -36,7 +33,7 @@ data_short i =
 data_small : (i : ℕ) → i % 10 * 500 < 2 ^ 63
 data_small i = let few : i % 10 < 10 = omega arith in omega arith
 
-entry_read : (part : Part) (i : ℕ) → i < 2 ^ 63 → readable (entry_in part i) ≡ true
+entry_read : (part : Part) (i : ℕ) → i < 2 ^ 63 → is_record (entry_in part i) ≡ true
 entry_read Items i small = ap is_some (values_read (item_values i) (tt, (omega arith, (data_short i, (data_small i, tt)))) (omega arith))
 entry_read Names i small = ap is_some (values_read (name_values i) (omega arith, (small, tt)) (omega arith))
 entry_read Codes i small = ap is_some (values_read (code_values i) (omega arith, (small, tt)) (omega arith))
@@ -68,11 +65,11 @@ entry_short Codes i small =
     let whole : length (record_bytes (code_values i)) ≤ 9 + 9 * 2 + length (body_written (code_values i)) = record_short (code_values i) in
     omega arith
 
-all_read : (part : Part) (from len : ℕ) → from + len ≤ 2 ^ 63 → list_all readable (map (entry_in part) (range_with_len from len)) ≡ true
+all_read : (part : Part) (from len : ℕ) → from + len ≤ 2 ^ 63 → list_all is_record (map (entry_in part) (range_with_len from len)) ≡ true
 all_read part from zero small = refl
 all_read part from (suc len) small = both_true (entry_read part from (omega arith)) (all_read part (from + 1) len (omega arith))
 
-pub entries_read : (part : Part) (rows : ℕ) → rows < 2 ^ 32 → list_all readable (entries_in part rows) ≡ true
+pub entries_read : (part : Part) (rows : ℕ) → rows < 2 ^ 32 → list_all is_record (entries_in part rows) ≡ true
 entries_read part rows small = all_read part 1 rows (omega arith)
 
 -- ---- the schema
@@ -84,8 +81,3 @@ row_read Codes root small = values_read (part_values Codes root) (omega arith, (
 
 pub view_read : columns (record_bytes view_values) ≡ Some view_values
 view_read = values_read view_values (omega arith, (omega arith, (omega arith, (omega arith, (omega arith, tt))))) (omega arith)
-
-pub schema_read : (items names codes_root : ℕ) → items < 2 ^ 63 → names < 2 ^ 63 → codes_root < 2 ^ 63 → list_all readable (schema_entries items names codes_root) ≡ true
-schema_read items names codes_root a b c =
-    both_true (ap is_some (row_read Items items a)) (both_true (ap is_some (row_read Names names b))
-    (both_true (ap is_some (row_read Codes codes_root c)) (both_true (ap is_some view_read) refl)))

@@ -1,9 +1,7 @@
 pub mod DatabaseLaws
 pub mod EntryLaws
-pub mod HeaderLaws
 pub mod LoadLaws
 pub mod MakingLaws
-pub mod PartLaws
+pub mod PageLaws
 pub mod RowLaws
 pub mod SchemaLaws
-pub mod TreeLaws

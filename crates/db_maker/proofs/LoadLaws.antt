@@ -9,6 +9,7 @@ use Rattle.db_format.specs.Pages.{Pages, Test}
 use Rattle.load_model.specs.Stands.{is_at_most, last_after}
 use Rattle.bulk_load.specs.Loader.{IsLoader, Loaded, family_of_loader}
 use Rattle.bulk_load.specs.Out.{Faults, Follows}
+use Rattle.bulk_load.specs.Few.{TookFew}
 use Rattle.bulk_load.specs.Own.{Covers, only}
 use Rattle.bulk_load.specs.declared.loader.Loader.{Loader}
 use Rattle.db_maker.specs.declared.part.Part.{Part}
@@ -92,3 +93,5 @@ pub record IsPushed {S : Type 0} (pages : S → Pages) (limit : S → ℕ) (faul
   pub last : after.last ≡ last_of part count
   pub follows : Follows pages limit faults well false old new
   pub fresh : only_fresh old new
+  pub few : TookFew (family_in part) (pages old).usable (pages old).count [] (pages old).count before
+      → TookFew (family_in part) (pages old).usable (pages old).count (entries_in part count) (pages new).count after

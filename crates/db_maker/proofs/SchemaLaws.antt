@@ -1,131 +1,93 @@
--- The rows of a schema, by its entries alone: the page on which a row stands changes nothing.
-use Rattle.std.proofs.Common.{◌≡◌, ◌≤◌, ◌<◌, ℕ, zero, suc, ◌^◌, pos, true, List, [], ◌∷◌, ◌++◌, Option, Some, None, map, if◌then◌else◌, refl, ap, ◌∙◌, arith}
-use Rattle.std.specs.List.{flat_map}
-use Rattle.db_format.specs.declared.defect.Defect.TheVariants.{RootFault}
-use Rattle.db_format.specs.Pages.{Pages, Test, nothing}
-use Rattle.db_format.specs.Record.{columns}
-use Rattle.db_format.specs.Row.{record_bytes}
-use Rattle.db_format.specs.Value.{Datum}
+-- The pages of the schema of a made database.
+use Rattle.std.proofs.Common.{subst, sym, ◌≡◌, ◌≤◌, ◌<◌, ◌+◌, ◌-◌, ◌*◌, ◌%◌, pos, ◌/◌, ◌^◌, ℕ, Bool, true, List, [], ◌∷◌, ◌++◌, length, refl, ap, ◌∙◌, arith, rules, length-append, if◌then◌else◌}
+use Rattle.std.specs.Prelude.{Err, IfErr, Ok, OnErr, Result, codes, nat_le, sum}
+use Rattle.std.specs.Result.{IsErrAnd}
+use Rattle.std.proofs.Math.Nat.{min-le_left}
+use Rattle.btree_page.specs.Payload.{local_len}
+use Rattle.btree_page.specs.declared.kind.Family.TheVariants.{Table}
+use Rattle.bulk_load.specs.Bound.{tree_pages, weights}
+use Rattle.bulk_load.specs.Count.{overflow_pages, pages_for}
+use Rattle.bulk_load.specs.Few.{TookFew, load_pages}
+use Rattle.bulk_load.specs.declared.loader.Loader.{Loader}
+use Rattle.btree_model.specs.Content.{Entry}
+use Rattle.db_format.specs.Row.{bytes_of, record_bytes}
 use Rattle.db_format.specs.Value.Datum.{int}
-use Rattle.btree_page.specs.declared.kind.Family.TheVariants.{Table, Index}
-use Rattle.btree_model.specs.Content.{Entry, alone, entry_of, item_of, item_with, with_tree, without_fourth}
-use Rattle.btree_model.specs.Finding.{Row, entries, fault}
-use Rattle.btree_model.specs.Range.{is_in_range}
-use Rattle.btree_model.specs.Schema.{at_page, numbers_of, root_fault, root_of, root_of_value, roots, roots_of_row, rowid_or_0, schema_fault, schema_faults}
-use Rattle.btree_model.specs.Tree.{root_family, tree_walk}
+use Rattle.db_maker.specs.Pages.{schema_pages}
+use Rattle.db_maker.specs.Parts.{part_values, schema_entries, schema_values, view_values}
 use Rattle.db_maker.specs.declared.part.Part.{Part}
 use Rattle.db_maker.specs.declared.part.Part.TheVariants.{Items, Names, Codes}
-use Rattle.db_maker.specs.Made.{made_item}
-use Rattle.db_maker.specs.Parts.{entries_in, family_in, part_values, schema_entries, schema_entry, view_values}
-use Rattle.db_maker.proofs.EntryLaws.{row_read, view_read}
-use Rattle.db_maker.proofs.PartLaws.{root_is_of}
-use Rattle.db_maker.proofs.TreeLaws.{IsFound}
+use Rattle.db_maker.proofs.RowLaws.{number_short, record_short}
 
--- ---- by entries
+row_short : (kind name table sql : List ℕ) (root : ℕ) → root < 2 ^ 63
+    → length (record_bytes (schema_values kind name table root sql)) ≤ 62 + (length kind + (length name + (length table + length sql)))
+row_short kind name table sql root small =
+    let number : List ℕ = bytes_of (int (pos root)) in
+    let whole : length (record_bytes (schema_values kind name table root sql)) ≤ 9 + 9 * 5 + length (kind ++ (name ++ (table ++ (number ++ (sql ++ []))))) =
+    record_short (schema_values kind name table root sql) in
+    let most : length number ≤ 8 = number_short root small in
+    omega (
+      arith,
+      whole,
+      most,
+      length-append kind (name ++ (table ++ (number ++ (sql ++ [])))),
+      length-append name (table ++ (number ++ (sql ++ []))),
+      length-append table (number ++ (sql ++ [])),
+      length-append number (sql ++ []),
+      length-append sql [],
+    )
 
--- an entry as a row of any page
-abbrev row_of : Entry → Row
-row_of e = record { rowid = e.rowid; payload = e.payload; page = 0 }
+no_pages : (size : ℕ) → 1 ≤ size → pages_for size 0 ≡ 0
+no_pages size some =
+    let whole : 0 / size ≡ 0 = omega arith in
+    let rest : 0 % size ≡ 0 = omega arith in
+    rw whole (rw rest refl)
 
-faults_by_entry : (pages : Pages) (rows : List Row)
-    → schema_faults pages rows ≡ flat_map (λ (e : Entry). schema_fault pages (rowid_or_0 e.rowid) (columns e.payload)) (map entry_of rows)
-faults_by_entry pages [] = refl
-faults_by_entry pages (row ∷ rows) = ap (λ l. schema_fault pages (rowid_or_0 row.rowid) (columns row.payload) ++ l) (faults_by_entry pages rows)
+local_whole : (len most other : ℕ) → len ≤ most → (if nat_le len most then len else other) ≡ len
+local_whole len most other few =
+    let within : nat_le len most ≡ true = search (rules, few) in
+    ap (λ (b : Bool). if b then len else other) within
 
-roots_by_entry : (rows : List Row) → roots rows ≡ flat_map (λ (e : Entry). roots_of_row (columns e.payload)) (map entry_of rows)
-roots_by_entry [] = refl
-roots_by_entry (row ∷ rows) = ap (λ l. roots_of_row (columns row.payload) ++ l) (roots_by_entry rows)
+-- a payload that fits stays in its cell
+fits_whole : (usable len : ℕ) → 480 ≤ usable → len ≤ 445 → overflow_pages Table usable len ≡ 0
+fits_whole usable len large few = whole (local_len Table usable len) (local_whole len (usable - 35) _ (omega arith))
+  where
+    whole : (local : ℕ) → local ≡ len → pages_for (usable - 4) (len - local) ≡ 0
+    whole local is = let none : len - local ≡ 0 = omega arith in ap (pages_for (usable - 4)) none ∙ no_pages (usable - 4) (omega arith)
 
-item_by : (pages : Pages) (row : Row) (values : Option (List Datum)) → item_of pages row values ≡ item_of pages (row_of (entry_of row)) values
-item_by pages row None = refl
-item_by pages row (Some values) = refl
+part_short : (part : Part) (root : ℕ) → root < 2 ^ 63 → length (record_bytes (part_values part root)) ≤ 445
+part_short Items root small =
+    omega (arith, row_short (codes "table") (codes "items") (codes "items") (codes "CREATE TABLE items(id INTEGER PRIMARY KEY, name TEXT, data BLOB, size INTEGER)") root small)
+part_short Names root small = omega (arith, row_short (codes "index") (codes "items_name") (codes "items") (codes "CREATE INDEX items_name ON items(name)") root small)
+part_short Codes root small =
+    omega (arith, row_short (codes "table") (codes "codes") (codes "codes") (codes "CREATE TABLE codes(code TEXT PRIMARY KEY, item INTEGER) WITHOUT ROWID") root small)
 
-items_by_entry : (pages : Pages) (rows : List Row)
-    → map (λ (row : Row). item_of pages row (columns row.payload)) rows ≡ map (λ (e : Entry). item_of pages (row_of e) (columns e.payload)) (map entry_of rows)
-items_by_entry pages [] = refl
-items_by_entry pages (row ∷ rows) =
-    ap (λ i. i ∷ map (λ (row : Row). item_of pages row (columns row.payload)) rows) (item_by pages row (columns row.payload))
-    ∙ ap (λ l. item_of pages (row_of (entry_of row)) (columns row.payload) ∷ l) (items_by_entry pages rows)
+view_short : length (record_bytes view_values) ≤ 445
+view_short = omega (arith, row_short (codes "view") (codes "names") (codes "names") (codes "CREATE VIEW names AS SELECT name FROM items") 0 (omega arith))
 
--- ---- the row of a tree
+-- its four rows want no overflow page
+pub schema_few : (usable items names codes_root : ℕ) → 480 ≤ usable → items < 2 ^ 63 → names < 2 ^ 63 → codes_root < 2 ^ 63
+    → load_pages Table usable (schema_entries items names codes_root) ≤ schema_pages
+schema_few usable items names codes_root large one two three =
+    counted (overflow_pages Table usable (length (record_bytes (part_values Items items)))) (overflow_pages Table usable (length (record_bytes (part_values Names names))))
+    (overflow_pages Table usable (length (record_bytes (part_values Codes codes_root)))) (overflow_pages Table usable (length (record_bytes view_values)))
+    (tree_pages Table usable (schema_entries items names codes_root))
+    (fits_whole usable _ large (part_short Items items one)) (fits_whole usable _ large (part_short Names names two))
+    (fits_whole usable _ large (part_short Codes codes_root three)) (fits_whole usable _ large view_short)
+    (min-le_left 9 (3 * weights Table usable (schema_entries items names codes_root) / usable + 64))
+  where
+    counted : (a b d e tree : ℕ) → a ≡ 0 → b ≡ 0 → d ≡ 0 → e ≡ 0 → tree ≤ 9 → tree + sum (a ∷ b ∷ d ∷ e ∷ []) ≤ 9
+    counted a b d e tree p q r s most = omega arith
 
-root_is : (n : ℕ) → 2 ≤ n → root_of_value (int (pos n)) ≡ at_page (pos n)
-root_is zero low = absurd (omega arith)
-root_is (suc n) low = refl
+-- what was taken, where the usable size is written otherwise
+pub took_at : (one other from to : ℕ) (entries : List Entry) (loader : Loader) → one ≡ other → TookFew Table one from entries to loader → TookFew Table other from entries to loader
+took_at one other from to entries loader same = subst (λ (u : ℕ). TookFew Table u from entries to loader) same
 
-part_root : (part : Part) (root : ℕ) → 2 ≤ root → root_of (part_values part root) ≡ at_page (pos root)
-part_root Items root low = root_is root low
-part_root Names root low = root_is root low
-part_root Codes root low = root_is root low
+-- what holds whatever was answered
+pub always_err : {A E Q : Type 0} (r : Result A E) → Q → OnErr r Q
+always_err (Ok x) q = tt
+always_err (Err e) q = q
 
-part_rest : (part : Part) (root : ℕ) → without_fourth (part_values part root) ≡ without_fourth (part_values part 0)
-part_rest Items root = refl
-part_rest Names root = refl
-part_rest Codes root = refl
-
--- a root page that a row names
-pub record IsRoot (pages : Pages) (root : ℕ) : Type 0 where
-  pub low : 2 ≤ root
-  pub small : root < 2 ^ 63
-  pub range : is_in_range pages root ≡ true
-
-module _ (pages : Pages) (rowid : ℕ) (part : Part) (root : ℕ) (named : IsRoot pages root) where
-  values_are : columns (record_bytes (part_values part root)) ≡ Some (part_values part root)
-  values_are = row_read part root named.small
-
-  part_fault : schema_fault pages (pos rowid) (columns (record_bytes (part_values part root))) ≡ []
-  part_fault =
-      ap (schema_fault pages (pos rowid)) values_are ∙ ap (root_fault pages (pos rowid)) (part_root part root named.low)
-      ∙ ap (λ b. if b then [] else fault (RootFault (pos rowid)) ∷ []) named.range
-
-  part_number : roots_of_row (columns (record_bytes (part_values part root))) ≡ root ∷ []
-  part_number = ap roots_of_row values_are ∙ ap numbers_of (part_root part root named.low)
-
-  part_item : (rows : ℕ) → root_family root (pages.page root) ≡ family_in part
-      → map entry_of (entries (tree_walk pages (family_in part) nothing root)) ≡ entries_in part rows
-      → item_of pages (row_of (schema_entry rowid (part_values part root))) (columns (record_bytes (part_values part root))) ≡ made_item rowid part rows
-  part_item rows family gives =
-      ap (item_of pages (row_of (schema_entry rowid (part_values part root)))) values_are
-      ∙ ap (item_with pages (pos rowid) (record_bytes (part_values part root)) (part_values part root)) (part_root part root named.low)
-      ∙ ap (λ f. with_tree (pos rowid) (without_fourth (part_values part root)) f (map entry_of (entries (tree_walk pages f nothing root)))) family
-      ∙ ap (λ l. with_tree (pos rowid) (without_fourth (part_values part root)) (family_in part) l) gives
-      ∙ ap (λ l. with_tree (pos rowid) l (family_in part) (entries_in part rows)) (part_rest part root)
-
-view_item : (pages : Pages) → item_of pages (row_of (schema_entry 4 view_values)) (columns (record_bytes view_values)) ≡ alone (pos 4) (record_bytes view_values)
-view_item pages = ap (item_of pages (row_of (schema_entry 4 view_values))) view_read
-
--- ---- the whole schema
-
-pub cons_same : {A : Type 0} {x y : A} {xs ys : List A} → x ≡ y → xs ≡ ys → x ∷ xs ≡ y ∷ ys
-cons_same {A} {x} {y} {xs} {ys} p q = ap (λ z. z ∷ xs) p ∙ ap (λ l. y ∷ l) q
-
-four : {A : Type 0} (a b c d : List A) (x y z w : List A) → a ≡ x → b ≡ y → c ≡ z → d ≡ w → a ++ (b ++ (c ++ (d ++ []))) ≡ x ++ (y ++ (z ++ (w ++ [])))
-four a b c d x y z w p q r s =
-    ap (λ l. l ++ (b ++ (c ++ (d ++ [])))) p ∙ ap (λ l. x ++ (l ++ (c ++ (d ++ [])))) q ∙ ap (λ l. x ++ (y ++ (l ++ (d ++ [])))) r
-    ∙ ap (λ l. x ++ (y ++ (z ++ (l ++ [])))) s
-
-module _ (pages : Pages) (listed : List Row) (items names codes_root : ℕ) (a : IsRoot pages items) (b : IsRoot pages names) (c : IsRoot pages codes_root)
-    (is : map entry_of listed ≡ schema_entries items names codes_root) where
-  pub no_schema_faults : schema_faults pages listed ≡ []
-  no_schema_faults =
-      faults_by_entry pages listed ∙ ap (flat_map (λ (e : Entry). schema_fault pages (rowid_or_0 e.rowid) (columns e.payload))) is
-      ∙ four _ _ _ _ [] [] [] [] (part_fault pages 1 Items items a) (part_fault pages 2 Names names b) (part_fault pages 3 Codes codes_root c)
-      (ap (schema_fault pages (pos 4)) view_read)
-
-  pub roots_are : roots listed ≡ items ∷ names ∷ codes_root ∷ []
-  roots_are =
-      roots_by_entry listed ∙ ap (flat_map (λ (e : Entry). roots_of_row (columns e.payload))) is
-      ∙ four _ _ _ _ (items ∷ []) (names ∷ []) (codes_root ∷ []) [] (part_number pages 1 Items items a) (part_number pages 2 Names names b)
-      (part_number pages 3 Codes codes_root c) (ap roots_of_row view_read)
-
-  -- and the content, where the trees list these entries
-  pub items_are : (own_a own_b own_c : Test) (rows : ℕ) → IsFound pages own_a Table items (entries_in Items rows) → IsFound pages own_b Index names (entries_in Names rows)
-      → IsFound pages own_c Index codes_root (entries_in Codes rows)
-      → map (λ (row : Row). item_of pages row (columns row.payload)) listed
-      ≡ made_item 1 Items rows ∷ made_item 2 Names rows ∷ made_item 3 Codes rows ∷ alone (pos 4) (record_bytes view_values) ∷ []
-  items_are own_a own_b own_c rows f g h =
-      items_by_entry pages listed ∙ ap (map (λ (e : Entry). item_of pages (row_of e) (columns e.payload))) is
-      ∙ cons_same (part_item pages 1 Items items a rows (root_is_of pages own_a Table items (entries_in Items rows) f) f.gives)
-      (cons_same (part_item pages 2 Names names b rows (root_is_of pages own_b Index names (entries_in Names rows) g) g.gives)
-      (cons_same (part_item pages 3 Codes codes_root c rows (root_is_of pages own_c Index codes_root (entries_in Codes rows) h) h.gives)
-      (cons_same (view_item pages) refl)))
+-- what is told of an error is told of the answer that hands it on
+pub err_to : {B E : Type 0} (P : E → Type 0) (last : Result B E) (why : E) → IsErrAnd last (λ e. e ≡ why) → P why → IfErr last P
+err_to P (Ok b) why same told = tt
+err_to P (Err e) why same told = subst P (sym same) told

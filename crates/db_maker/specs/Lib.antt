@@ -1,3 +1,4 @@
 pub mod Made
+pub mod Pages
 pub mod Parts
 pub mod Rows

@@ -1,13 +1,16 @@
 // A tree of rows, made and pushed one after another.
-ghost use Rattle.std.specs.Prelude.{◌≡◌, ◌≤◌, ℕ, false, List, [], ◌∷◌, ◌++◌, None, IfOk, IfErr, OnOk};
+ghost use Rattle.std.specs.Prelude.{◌≡◌, ◌≤◌, ◌+◌, ℕ, true, false, List, [], ◌∷◌, ◌++◌, None, IfOk, IfErr, OnOk, OnErr};
 ghost use Rattle.db_format.specs.Pages.{IsUsable, Pages, Test};
 ghost use Rattle.btree_model.specs.Content.{Entry};
 ghost use Rattle.load_model.specs.Stands.{last_after};
-ghost use Rattle.bulk_load.specs.Out.{Follows, HasLoadCause, Keeps};
+ghost use Rattle.bulk_load.specs.Out.{Follows, HasEndCause, HasLoadCause, Keeps};
 ghost use Rattle.bulk_load.specs.Own.{Covers, only};
 ghost use Rattle.bulk_load.specs.Loader.{IsLoader, Loaded, family_of_loader, is_late};
 ghost use Rattle.db_maker.specs.Made.{HasPart};
 ghost use Rattle.db_maker.specs.Parts.{entries_in, entry_in, family_in};
+ghost use Rattle.bulk_load.specs.Few.{TookFew, load_pages};
+ghost use Rattle.bulk_load.specs.Out.{is_load_refusal};
+ghost use Rattle.db_maker.specs.Pages.{part_pages};
 
 use crate::part::Part;
 use crate::rows::{payload, rowid};
@@ -24,7 +27,9 @@ pub(crate) fn load_part<P: PageOut>(
 ) -> Result<u32, LoadError>
     ensures tree { (start : ℕ) → P.well start out.old → (own : Test) → Covers false own (P.pages out.old) (P.pages out.new)
         → IfOk result (λ root. HasPart (only own (P.pages out.new)) part root rows) }
-    ensures cause { IfErr result (HasLoadCause P.pages P.limit P.faults out.old out.new) }
+    ensures cause { IfErr result (HasEndCause P.pages P.limit P.faults out.old out.new) }
+    ensures few { (P.pages out.new).count ≤ (P.pages out.old).count + part_pages (P.pages out.old).usable part rows }
+    ensures asked { IfErr result (λ error. is_load_refusal error ≡ true → (P.pages out.new).count + 1 ≤ (P.pages out.old).count + part_pages (P.pages out.old).usable part rows) }
     ensures keeps { Keeps P.pages P.limit P.faults P.well false out.old out.new }
     ensures follows { OnOk result (Follows P.pages P.limit P.faults P.well false out.old out.new) }
     ensures fresh { P.only_fresh out.old out.new }
@@ -42,6 +47,7 @@ fn new_loader(alloc: Global, usable: usize, part: Part) -> Result<Loader, LoadEr
     ensures at_one { IfOk result (λ loader. loader.at_one ≡ false) }
     ensures last { IfOk result (λ loader. loader.last ≡ None) }
     ensures empty { (pages : Pages) → pages.usable ≡ usable → IfOk result (λ loader. Loaded pages loader []) }
+    ensures none { (from : ℕ) → IfOk result (TookFew (family_in part) usable from [] from) }
     ensures cause { IfErr result (λ error. error ≡ LoadError.OutOfMemory) }
 {
     match part {
@@ -67,6 +73,10 @@ fn push_rows<P: PageOut>(
     ensures family { OnOk result (family_of_loader loader.new ≡ family_in part) }
     ensures at_one { OnOk result (loader.new.at_one ≡ loader.old.at_one) }
     ensures cause { IfErr result (HasLoadCause P.pages P.limit P.faults out.old out.new) }
+    ensures pushed { TookFew (family_in part) (P.pages out.old).usable (P.pages out.old).count [] (P.pages out.old).count loader.old
+        → OnOk result (TookFew (family_in part) (P.pages out.old).usable (P.pages out.old).count (entries_in part rows) (P.pages out.new).count loader.new) }
+    ensures few { TookFew (family_in part) (P.pages out.old).usable (P.pages out.old).count [] (P.pages out.old).count loader.old
+        → OnErr result ((P.pages out.new).count + 1 ≤ (P.pages out.old).count + part_pages (P.pages out.old).usable part rows) }
     ensures keeps { Keeps P.pages P.limit P.faults P.well false out.old out.new }
     ensures follows { OnOk result (Follows P.pages P.limit P.faults P.well false out.old out.new) }
     ensures fresh { P.only_fresh out.old out.new }
@@ -96,6 +106,10 @@ fn push_row<P: PageOut>(
     ensures at_one { OnOk result (loader.new.at_one ≡ loader.old.at_one) }
     ensures last { OnOk result (loader.new.last ≡ last_after loader.old.last (entry_in part i).rowid) }
     ensures cause { IfErr result (HasLoadCause P.pages P.limit P.faults out.old out.new) }
+    ensures pushed { (from : ℕ) (entries : List Entry) → TookFew (family_in part) (P.pages out.old).usable from entries (P.pages out.old).count loader.old
+        → OnOk result (TookFew (family_in part) (P.pages out.old).usable from (entries ++ entry_in part i ∷ []) (P.pages out.new).count loader.new) }
+    ensures few { (from : ℕ) (entries : List Entry) → TookFew (family_in part) (P.pages out.old).usable from entries (P.pages out.old).count loader.old
+        → OnErr result ((P.pages out.new).count + 1 ≤ from + load_pages (family_in part) (P.pages out.old).usable (entries ++ entry_in part i ∷ [])) }
     ensures keeps { Keeps P.pages P.limit P.faults P.well false out.old out.new }
     ensures follows { OnOk result (Follows P.pages P.limit P.faults P.well false out.old out.new) }
     ensures fresh { P.only_fresh out.old out.new }

@@ -1,7 +1,8 @@
 // A whole database.
-ghost use Rattle.std.specs.Prelude.{◌≡◌, ◌≤◌, ℕ, false, true, IfOk, IfErr, OnOk};
-ghost use Rattle.bulk_load.specs.Out.{AreAllPut, Follows, HasLoadCause, Keeps};
+ghost use Rattle.std.specs.Prelude.{◌≡◌, ◌≤◌, ◌+◌, ℕ, false, true, IfOk, IfErr, OnOk};
+ghost use Rattle.bulk_load.specs.Out.{AreAllPut, Follows, HasEndCause, Keeps, is_load_refusal};
 ghost use Rattle.db_maker.specs.Made.{IsMade};
+ghost use Rattle.db_maker.specs.Pages.{filled_pages};
 ghost use Rattle.db_maker.specs.Rows.{total_len};
 
 use crate::loading::load_part;
@@ -26,7 +27,10 @@ pub fn fill<P: PageOut>(alloc: Global, out: &mut P, n: u32) -> Result<Made, Load
     requires free { (P.pages out.old).accepts 1 ≡ false }
     ensures made { (start : ℕ) → P.well start out.old → OnOk result (IsMade (P.pages out.new) n) }
     ensures told { IfOk result (λ made. (made.rows ≡ n) × (made.bytes ≡ total_len n)) }
-    ensures cause { IfErr result (HasLoadCause P.pages P.limit P.faults out.old out.new) }
+    ensures cause { IfErr result (HasEndCause P.pages P.limit P.faults out.old out.new) }
+    // no more pages are taken than such a database has at most beside page 1, also where one more was asked for
+    ensures few { (P.pages out.new).count ≤ (P.pages out.old).count + filled_pages (P.pages out.old).usable n }
+    ensures asked { IfErr result (λ error. is_load_refusal error ≡ true → (P.pages out.new).count + 1 ≤ (P.pages out.old).count + filled_pages (P.pages out.old).usable n) }
     // where no number had been taken before, no page is missing
     ensures whole { (P.pages out.old).count ≡ 1 → OnOk result (AreAllPut (P.pages out.new)) }
     ensures keeps { Keeps P.pages P.limit P.faults P.well true out.old out.new }

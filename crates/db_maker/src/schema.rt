@@ -1,14 +1,16 @@
 // The schema of a made database.
-ghost use Rattle.std.specs.Prelude.{◌≡◌, ◌≤◌, ◌+◌, ℕ, false, true, List, [], ◌∷◌, ◌++◌, pos, Some, length, IfOk, IfErr, OnOk};
+ghost use Rattle.std.specs.Prelude.{◌≡◌, ◌≤◌, ◌+◌, ℕ, false, true, List, [], ◌∷◌, ◌++◌, pos, Some, length, IfOk, IfErr, OnOk, OnErr};
 ghost use Rattle.btree_page.specs.declared.kind.Family.TheVariants.{Table};
 ghost use Rattle.btree_page.specs.Payload.{max_payload};
 ghost use Rattle.btree_model.specs.Content.{Entry};
 ghost use Rattle.db_format.specs.Row.{record_bytes};
 ghost use Rattle.db_format.specs.Pages.{Test};
-ghost use Rattle.bulk_load.specs.Out.{Follows, HasLoadCause, Keeps};
+ghost use Rattle.bulk_load.specs.Few.{TookFew, load_pages};
+ghost use Rattle.bulk_load.specs.Out.{Follows, HasEndCause, HasLoadCause, Keeps, is_load_refusal};
 ghost use Rattle.bulk_load.specs.Own.{Covers, only};
 ghost use Rattle.bulk_load.specs.Loader.{IsLoader, Loaded, family_of_loader, is_late};
-ghost use Rattle.db_maker.specs.Made.{HasTree};
+ghost use Rattle.bulk_load.specs.Found.{HasTree};
+ghost use Rattle.db_maker.specs.Pages.{schema_pages};
 ghost use Rattle.db_maker.specs.Parts.{part_values, schema_entries, schema_entry, schema_values, view_values};
 
 use crate::part::Part;
@@ -36,7 +38,9 @@ pub(crate) fn load_schema<P: PageOut>(
     requires free { (P.pages out.old).accepts 1 ≡ false }
     ensures tree { (start : ℕ) → P.well start out.old → (own : Test) → Covers true own (P.pages out.old) (P.pages out.new)
         → OnOk result (HasTree (only own (P.pages out.new)) Table 1 (schema_entries items names codes)) }
-    ensures cause { IfErr result (HasLoadCause P.pages P.limit P.faults out.old out.new) }
+    ensures cause { IfErr result (HasEndCause P.pages P.limit P.faults out.old out.new) }
+    ensures few { (P.pages out.new).count ≤ (P.pages out.old).count + schema_pages }
+    ensures asked { IfErr result (λ error. is_load_refusal error ≡ true → (P.pages out.new).count + 1 ≤ (P.pages out.old).count + schema_pages) }
     ensures keeps { Keeps P.pages P.limit P.faults P.well true out.old out.new }
     ensures follows { OnOk result (Follows P.pages P.limit P.faults P.well true out.old out.new) }
     ensures fresh { P.only_fresh out.old out.new }
@@ -65,6 +69,10 @@ fn push_schema<P: PageOut>(
     ensures family { OnOk result (family_of_loader loader.new ≡ Table) }
     ensures at_one { OnOk result (loader.new.at_one ≡ loader.old.at_one) }
     ensures cause { IfErr result (HasLoadCause P.pages P.limit P.faults out.old out.new) }
+    ensures pushed { TookFew Table (P.pages out.old).usable (P.pages out.old).count [] (P.pages out.old).count loader.old
+        → OnOk result (TookFew Table (P.pages out.old).usable (P.pages out.old).count (schema_entries items names codes) (P.pages out.new).count loader.new) }
+    ensures few { TookFew Table (P.pages out.old).usable (P.pages out.old).count [] (P.pages out.old).count loader.old
+        → OnErr result ((P.pages out.new).count + 1 ≤ (P.pages out.old).count + load_pages Table (P.pages out.old).usable (schema_entries items names codes)) }
     ensures keeps { Keeps P.pages P.limit P.faults P.well false out.old out.new }
     ensures follows { OnOk result (Follows P.pages P.limit P.faults P.well false out.old out.new) }
     ensures fresh { P.only_fresh out.old out.new }
@@ -97,6 +105,10 @@ fn push_part<P: PageOut>(
     ensures at_one { OnOk result (loader.new.at_one ≡ loader.old.at_one) }
     ensures last { OnOk result (loader.new.last ≡ Some rowid) }
     ensures cause { IfErr result (HasLoadCause P.pages P.limit P.faults out.old out.new) }
+    ensures pushed { (from : ℕ) (entries : List Entry) → TookFew Table (P.pages out.old).usable from entries (P.pages out.old).count loader.old
+        → OnOk result (TookFew Table (P.pages out.old).usable from (entries ++ record { rowid = Some rowid; payload = record_bytes (part_values part root) } ∷ []) (P.pages out.new).count loader.new) }
+    ensures few { (from : ℕ) (entries : List Entry) → TookFew Table (P.pages out.old).usable from entries (P.pages out.old).count loader.old
+        → OnErr result ((P.pages out.new).count + 1 ≤ from + load_pages Table (P.pages out.old).usable (entries ++ record { rowid = Some rowid; payload = record_bytes (part_values part root) } ∷ [])) }
     ensures keeps { Keeps P.pages P.limit P.faults P.well false out.old out.new }
     ensures follows { OnOk result (Follows P.pages P.limit P.faults P.well false out.old out.new) }
     ensures fresh { P.only_fresh out.old out.new }
@@ -121,6 +133,10 @@ fn push_view<P: PageOut>(alloc: Global, loader: &mut Loader, out: &mut P) -> Res
     ensures family { OnOk result (family_of_loader loader.new ≡ Table) }
     ensures at_one { OnOk result (loader.new.at_one ≡ loader.old.at_one) }
     ensures cause { IfErr result (HasLoadCause P.pages P.limit P.faults out.old out.new) }
+    ensures pushed { (from : ℕ) (entries : List Entry) → TookFew Table (P.pages out.old).usable from entries (P.pages out.old).count loader.old
+        → OnOk result (TookFew Table (P.pages out.old).usable from (entries ++ schema_entry 4 view_values ∷ []) (P.pages out.new).count loader.new) }
+    ensures few { (from : ℕ) (entries : List Entry) → TookFew Table (P.pages out.old).usable from entries (P.pages out.old).count loader.old
+        → OnErr result ((P.pages out.new).count + 1 ≤ from + load_pages Table (P.pages out.old).usable (entries ++ schema_entry 4 view_values ∷ [])) }
     ensures keeps { Keeps P.pages P.limit P.faults P.well false out.old out.new }
     ensures follows { OnOk result (Follows P.pages P.limit P.faults P.well false out.old out.new) }
     ensures fresh { P.only_fresh out.old out.new }
@@ -207,6 +223,10 @@ fn push<P: PageOut>(
     ensures at_one { OnOk result (loader.new.at_one ≡ loader.old.at_one) }
     ensures last { OnOk result (loader.new.last ≡ Some rowid) }
     ensures cause { IfErr result (HasLoadCause P.pages P.limit P.faults out.old out.new) }
+    ensures pushed { (from : ℕ) (entries : List Entry) → TookFew Table (P.pages out.old).usable from entries (P.pages out.old).count loader.old
+        → OnOk result (TookFew Table (P.pages out.old).usable from (entries ++ record { rowid = Some rowid; payload = row.now } ∷ []) (P.pages out.new).count loader.new) }
+    ensures few { (from : ℕ) (entries : List Entry) → TookFew Table (P.pages out.old).usable from entries (P.pages out.old).count loader.old
+        → OnErr result ((P.pages out.new).count + 1 ≤ from + load_pages Table (P.pages out.old).usable (entries ++ record { rowid = Some rowid; payload = row.now } ∷ [])) }
     ensures keeps { Keeps P.pages P.limit P.faults P.well false out.old out.new }
     ensures follows { OnOk result (Follows P.pages P.limit P.faults P.well false out.old out.new) }
     ensures fresh { P.only_fresh out.old out.new }

@@ -1,4 +1,4 @@
-use Rattle.std.proofs.Common.{◌≡◌, ◌≤◌, ◌+◌, ◌-◌, inl, inr, length, List, ℕ, suc, Bool, true, false, [], ◌∷◌, ◌++◌, ap, sym, subst, ◌∙◌, arith}
+use Rattle.std.proofs.Common.{◌≡◌, ◌≤◌, ◌+◌, ◌-◌, ◌*◌, ◌^◌, inl, inr, length, List, ℕ, suc, Bool, true, false, [], ◌∷◌, ◌++◌, ap, sym, subst, ◌∙◌, arith}
 use Rattle.std.proofs.lemmas.Bool.{cases_lt}
 use Rattle.std.proofs.lemmas.Result.{on_ok_weaker}
 use Rattle.db_format.specs.Pages.{Pages}
@@ -15,7 +15,11 @@ use Rattle.bulk_load.specs.Levels.{HoldLevels, IsDrained, opened}
 use Rattle.bulk_load.specs.Settle.{up_kind}
 use Rattle.bulk_load.specs.Own.{Covers, only}
 use Rattle.bulk_load.specs.Count.{AreBack, held, load}
-use Rattle.bulk_load.proofs.CountLemmas.{back_can, back_some, held_none}
+use Rattle.bulk_load.specs.Depth.{AreLevelsShort, closed_below}
+use Rattle.bulk_load.specs.Volume.{level_volume, price, sizes, volumes}
+use Rattle.bulk_load.proofs.CountLemmas.{back_can, back_some, can_few, held_none}
+use Rattle.bulk_load.proofs.DepthLemmas.{power_more}
+use Rattle.bulk_load.proofs.VolumeLemmas.{price_le, price_then}
 use Rattle.bulk_load.proofs.EndLemmas.{IsNextLevel, end_is, last_page, next_level}
 use Rattle.bulk_load.proofs.PutLemmas.{covers_before, covers_behind, follows_all, keeps_after}
 use Rattle.bulk_load.proofs.SettleLemmas.{up_interior}
@@ -116,3 +120,86 @@ returns-clause-count g t c can back some =
     ] in
     let rest_counted = c.end_levels.ensures.count (back_can next.page next.waiting.items backs.0) backs.1 (inl more) in
     omega (arith, rest_counted)
+
+pub returns-in_default-clause-spent : goal.returns-in_default-clause-spent
+returns-in_default-clause-spent g t c can back =
+    let p = g.P.PageOut.pages in
+    let usable : ℕ = (p c.args.out.now).usable in
+    let held : ℕ = 6 * sizes c.args.level.now.waiting.items + volumes c.args.above.now.items in
+    let few : length c.args.level.now.waiting.items ≤ 2 = can_few c.args.level.now.page c.args.level.now.waiting.items can in
+    let one : (p c.put_root.new.out).count ≤ (p c.drain.new.out).count + 1 = c.put_root.ensures.count in
+    let here : price usable (p c.drain.new.out).count + volumes c.drain.new.above.items ≤ price usable ((p c.args.out.now).count + length c.args.level.now.waiting.items) + held =
+    c.in_ok-drain.ensures.paid in
+    let most : price usable (p c.put_root.new.out).count ≤ price usable ((p c.drain.new.out).count + 1) = price_le usable (p c.put_root.new.out).count ((p c.drain.new.out).count + 1) one in
+    price_then usable (p c.args.out.now).count (p c.drain.new.out).count (p c.put_root.new.out).count (length c.args.level.now.waiting.items) 1 (3 * c.args.left + 3)
+    (volumes c.drain.new.above.items) held here (omega arith) (omega arith)
+
+pub returns-then-left-eq0-clause-spent : goal.returns-then-left-eq0-clause-spent
+returns-then-left-eq0-clause-spent g t c can back =
+    let p = g.P.PageOut.pages in
+    let usable : ℕ = (p c.args.out.now).usable in
+    let held : ℕ = 6 * sizes c.args.level.now.waiting.items + volumes c.args.above.now.items in
+    let few : length c.args.level.now.waiting.items ≤ 2 = can_few c.args.level.now.page c.args.level.now.waiting.items can in
+    let here : price usable (p c.drain.new.out).count + volumes c.drain.new.above.items ≤ price usable ((p c.args.out.now).count + length c.args.level.now.waiting.items) + held =
+    c.in_ok-drain.ensures.paid in
+    let most : price usable (p c.drain.new.out).count ≤ price usable ((p c.drain.new.out).count + 1) = price_le usable (p c.drain.new.out).count ((p c.drain.new.out).count + 1) (omega arith) in
+    price_then usable (p c.args.out.now).count (p c.drain.new.out).count (p c.drain.new.out).count (length c.args.level.now.waiting.items) 1 (3 * c.args.left + 3)
+    (volumes c.drain.new.above.items) held here (omega arith) (omega arith)
+
+pub returns-in-Err-clause-spent : goal.returns-in-Err-clause-spent
+returns-in-Err-clause-spent g t c can back =
+    let p = g.P.PageOut.pages in
+    let usable : ℕ = (p c.args.out.now).usable in
+    let held : ℕ = 6 * sizes c.args.level.now.waiting.items + volumes c.args.above.now.items in
+    let few : length c.args.level.now.waiting.items ≤ 2 = can_few c.args.level.now.page c.args.level.now.waiting.items can in
+    let one : (p c.close.new.out).count ≤ (p c.drain.new.out).count + 1 = c.in-Err.ensures.refused in
+    let here : price usable (p c.drain.new.out).count + volumes c.drain.new.above.items ≤ price usable ((p c.args.out.now).count + length c.args.level.now.waiting.items) + held =
+    c.in_ok-drain.ensures.paid in
+    let most : price usable (p c.close.new.out).count ≤ price usable ((p c.drain.new.out).count + 1) = price_le usable (p c.close.new.out).count ((p c.drain.new.out).count + 1) one in
+    price_then usable (p c.args.out.now).count (p c.drain.new.out).count (p c.close.new.out).count (length c.args.level.now.waiting.items) 1 (3 * c.args.left + 3)
+    (volumes c.drain.new.above.items) held here (omega arith) (omega arith)
+
+pub returns-clause-spent : goal.returns-clause-spent
+returns-clause-spent g t c can back =
+    let p = g.P.PageOut.pages in
+    let usable : ℕ = (p c.args.out.now).usable in
+    let held : ℕ = 6 * sizes c.args.level.now.waiting.items + volumes c.args.above.now.items in
+    let next : Level = c.in-Some.next in
+    let rest : List Level = c.take_lowest.new.levels.items in
+    let parts : c.drain.new.above.items ≡ next ∷ rest = c.in-Some.ensures in
+    let backs : AreBack (next ∷ rest) = subst AreBack parts (c.in_ok-drain.ensures.back back) in
+    let left_over : ℕ = 6 * sizes next.waiting.items + volumes rest in
+    let same : volumes c.drain.new.above.items ≡ level_volume next + volumes rest = ap volumes parts in
+    let few : length c.args.level.now.waiting.items ≤ 2 = can_few c.args.level.now.page c.args.level.now.waiting.items can in
+    let drained : price usable (p c.drain.new.out).count + volumes c.drain.new.above.items ≤ price usable ((p c.args.out.now).count + length c.args.level.now.waiting.items) + held =
+    c.in_ok-drain.ensures.paid in
+    let here : price usable (p c.drain.new.out).count + left_over ≤ price usable ((p c.args.out.now).count + length c.args.level.now.waiting.items) + held = omega arith in
+    let size : (p c.close.new.out).usable ≡ usable = c.in-Ok.ensures.keeps.size ∙ c.in_ok-drain.ensures.keeps.size in
+    let one : (p c.close.new.out).count ≡ (p c.drain.new.out).count + 1 = c.in-Ok.ensures.one in
+    let many : ℕ = 3 * (c.args.left - 1) + 3 in
+    let ended : price (p c.close.new.out).usable (p c.end_levels.new.out).count ≤ price (p c.close.new.out).usable ((p c.close.new.out).count + many) + left_over =
+    c.end_levels.ensures.spent (back_can next.page next.waiting.items backs.0) backs.1 in
+    let at : (p c.close.new.out).count + many ≡ (p c.drain.new.out).count + (many + 1) = omega arith in
+    let later : price usable (p c.end_levels.new.out).count ≤ price usable ((p c.drain.new.out).count + (many + 1)) + left_over =
+    subst (λ n. price usable (p c.end_levels.new.out).count ≤ price usable n + left_over) at
+    (subst (λ u. price u (p c.end_levels.new.out).count ≤ price u ((p c.close.new.out).count + many) + left_over) size ended) in
+    price_then usable (p c.args.out.now).count (p c.drain.new.out).count (p c.end_levels.new.out).count (length c.args.level.now.waiting.items) (many + 1) (3 * c.args.left + 3)
+    left_over held here later (omega (arith, c.if-left-eq0.false))
+
+pub returns-clause-deep : goal.returns-clause-deep
+returns-clause-deep g t c may short back found =
+    let p = g.P.PageOut.pages in
+    let usable : ℕ = (p c.args.out.now).usable in
+    let next : Level = c.in-Some.next in
+    let rest : List Level = c.take_lowest.new.levels.items in
+    let parts : c.drain.new.above.items ≡ next ∷ rest = c.in-Some.ensures in
+    let backs : AreBack (next ∷ rest) = subst AreBack parts (c.in_ok-drain.ensures.back back) in
+    let size : (p c.close.new.out).usable ≡ usable = c.in-Ok.ensures.keeps.size ∙ c.in_ok-drain.ensures.keeps.size in
+    let shorts : AreLevelsShort (p c.close.new.out).usable (next ∷ rest) = subst (λ u. AreLevelsShort u (next ∷ rest)) (sym size) (subst (AreLevelsShort usable) parts (c.in_ok-drain.ensures.short short)) in
+    let drained : load c.drain.new.level + 3 * closed_below c.drain.new.above.items ≤ load c.args.level.now + 3 * closed_below c.args.above.now.items = c.in_ok-drain.ensures.deep may short in
+    let below : closed_below c.drain.new.above.items ≡ load next + 3 * closed_below rest = ap closed_below parts in
+    let later : 3 ^ (c.args.left - 1 + 1) ≤ load next + 3 * closed_below rest = c.end_levels.ensures.deep (inr shorts.0) shorts.1 backs.1 found in
+    let less : c.args.left - 1 + 1 ≡ c.args.left = omega (arith, c.if-left-eq0.false) in
+    let left : 3 ^ c.args.left ≤ load next + 3 * closed_below rest = subst (λ n. 3 ^ n ≤ load next + 3 * closed_below rest) less later in
+    let more : 3 ^ (c.args.left + 1) ≡ 3 * 3 ^ c.args.left = power_more c.args.left in
+    omega arith

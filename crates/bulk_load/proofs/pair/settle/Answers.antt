@@ -1,4 +1,4 @@
-use Rattle.std.proofs.Common.{◌≡◌, ℕ, suc, List, [], ◌∷◌, ◌++◌, ◌+◌, ◌-◌, ◌≤◌, max, length, take, drop, ap, sym, subst, ◌∙◌, arith, length-drop}
+use Rattle.std.proofs.Common.{◌≡◌, ◌<◌, ◌*◌, rules, ℕ, suc, List, [], ◌∷◌, ◌++◌, ◌+◌, ◌-◌, ◌≤◌, max, length, take, drop, ap, sym, subst, ◌∙◌, arith, length-drop}
 use Rattle.std.proofs.lemmas.Slice.{between_to_end}
 use Rattle.db_format.specs.Pages.{Pages}
 use Rattle.btree_page.specs.Kind.{family_of}
@@ -10,7 +10,9 @@ use Rattle.page_build.specs.Written.{right_child, IsWritten}
 use Rattle.bulk_load.specs.Close.{HasCells}
 use Rattle.bulk_load.specs.Settle.{two, cell_on, skip_of}
 use Rattle.bulk_load.specs.Own.{only}
+use Rattle.bulk_load.specs.Volume.{filled}
 use Rattle.bulk_load.proofs.CountLemmas.{room_after}
+use Rattle.bulk_load.proofs.DepthLemmas.{short_pair, wide_page}
 use Rattle.bulk_load.proofs.SettleLemmas.{cells_more, cells_none, on_page, as_last, closed_then, may_between, pair_up}
 use Rattle.bulk_load.proofs.pair.settle.Goals as goal
 
@@ -63,3 +65,18 @@ returns-then-has_room-clause-left g c same =
     let size : c.len.result - skip ≡ length cell = omega arith in
     subst (λ d. c.args.more ≤ room_of d) (sym c.add.ensures)
     (room_after c.args.page.now cell c.args.more (subst (λ n. max 4 n + 2 + c.args.more ≤ room_of c.args.page.now) size (c.has_room.ensures.0 c.if-has_room.true)))
+
+pub returns-then-has_room-clause-short : goal.returns-then-has_room-clause-short
+returns-then-has_room-clause-short g c short =
+    let skip : ℕ = c.skipped-skip.result in
+    let items : List ℕ = c.args.pair.now.cell.items in
+    let bytes : List ℕ = c.deref.result.now in
+    let cell : List ℕ = take (length bytes - skip) (drop skip bytes) in
+    let all : cell ≡ drop skip items = between_to_end bytes skip (length bytes) (omega arith) ∙ ap (drop skip) c.deref.ensures.value in
+    short_pair (g.P.PageOut.pages c.args.out.now).usable c.args.page.now c.add.new.self cell (length items) skip short c.add.ensures (ap length all ∙ length-drop skip items)
+    c.requires.named.least c.requires.named.short
+
+pub returns-clause-wide : goal.returns-clause-wide
+returns-clause-wide g c short closed =
+    let full : (g.P.PageOut.pages c.args.out.now).usable < 3 * filled c.args.page.now + 12 = search rules in
+    wide_page (g.P.PageOut.pages c.args.out.now).usable c.args.page.now (search rules) short full

@@ -1,7 +1,7 @@
 use Rattle.std.proofs.Common.{◌≡◌, false, IfOk, sym, subst, ◌∙◌}
 use Rattle.bulk_load.specs.Own.{Covers, only}
 use Rattle.bulk_load.proofs.PutLemmas.{covers_before, covers_behind}
-use Rattle.db_maker.specs.Made.{HasTree}
+use Rattle.bulk_load.specs.Found.{HasTree}
 use Rattle.db_maker.specs.Parts.{entries_in}
 use Rattle.db_maker.proofs.loading.load_part.Goals as goal
 

@@ -1,4 +1,11 @@
-use Rattle.std.proofs.Common.{false, []}
+use Rattle.std.proofs.Common.{◌≡◌, ◌≤◌, ◌+◌, ℕ, false, [], ◌∷◌, sym, subst, ◌∙◌, arith, rules}
+use Rattle.btree_model.specs.Content.{Entry}
+use Rattle.btree_page.specs.declared.kind.Family.TheVariants.{Table}
+use Rattle.bulk_load.specs.Few.{TookFew, load_pages}
+use Rattle.bulk_load.proofs.FewLemmas.{load_pages-more}
+use Rattle.db_maker.specs.Parts.{part_values, schema_entries, schema_entry, view_values}
+use Rattle.db_maker.specs.declared.part.Part.TheVariants.{Items, Names, Codes}
+use Rattle.db_maker.proofs.SchemaLaws.{always_err, took_at}
 use Rattle.bulk_load.specs.Own.{Covers}
 use Rattle.bulk_load.proofs.PutLemmas.{covers_before, covers_behind, follows_all}
 use Rattle.db_maker.proofs.schema.push_schema.Goals as goal
@@ -41,3 +48,100 @@ returns-clause-fresh g c =
     p.joins c.args.out.now c.push_part.new.out c.push_view.new.out c.in_ok-push_part.ensures.fresh
     (p.joins c.push_part.new.out c.push_part-2.new.out c.push_view.new.out c.in_ok-push_part-2.ensures.fresh
     (p.joins c.push_part-2.new.out c.push_part-3.new.out c.push_view.new.out c.in_ok-push_part-3.ensures.fresh c.in_ok-push_view.ensures.fresh))
+
+pub returns-in_err-push_part-clause-few : goal.returns-in_err-push_part-clause-few
+returns-in_err-push_part-clause-few g c none =
+    let p = g.P.PageOut.pages in
+    let usable : ℕ = (p c.args.out.now).usable in
+    let from : ℕ = (p c.args.out.now).count in
+    let entry_1 : Entry = schema_entry 1 (part_values Items c.args.items) in
+    let entry_2 : Entry = schema_entry 2 (part_values Names c.args.names) in
+    let entry_3 : Entry = schema_entry 3 (part_values Codes c.args.codes) in
+    let entry_4 : Entry = schema_entry 4 view_values in
+    let told = c.push_part.ensures.few from [] none in
+    let here : (p c.push_part.new.out).count + 1 ≤ from + load_pages Table usable (entry_1 ∷ []) = search (rules, told) in
+    let more : load_pages Table usable (entry_1 ∷ []) ≤ load_pages Table usable (schema_entries c.args.items c.args.names c.args.codes) = load_pages-more Table usable (entry_1 ∷ []) (entry_2 ∷ entry_3 ∷ entry_4 ∷ []) (omega (arith, c.requires.ready.usable_is.least)) in
+    let all : (p c.push_part.new.out).count + 1 ≤ from + load_pages Table usable (schema_entries c.args.items c.args.names c.args.codes) = omega (arith, here, more) in
+    always_err _ all
+
+pub returns-in_err-push_part-2-clause-few : goal.returns-in_err-push_part-2-clause-few
+returns-in_err-push_part-2-clause-few g c none =
+    let p = g.P.PageOut.pages in
+    let usable : ℕ = (p c.args.out.now).usable in
+    let from : ℕ = (p c.args.out.now).count in
+    let entry_1 : Entry = schema_entry 1 (part_values Items c.args.items) in
+    let entry_2 : Entry = schema_entry 2 (part_values Names c.args.names) in
+    let entry_3 : Entry = schema_entry 3 (part_values Codes c.args.codes) in
+    let entry_4 : Entry = schema_entry 4 view_values in
+    let took_1 : TookFew Table usable from (entry_1 ∷ []) (p c.push_part.new.out).count c.push_part.new.loader = c.in_ok-push_part.ensures.pushed from [] none in
+    let size_1 : (p c.push_part.new.out).usable ≡ usable = c.in_ok-push_part.ensures.follows.keeps.size in
+    let told = c.push_part-2.ensures.few from (entry_1 ∷ []) (took_at usable (p c.push_part.new.out).usable from (p c.push_part.new.out).count (entry_1 ∷ []) c.push_part.new.loader (sym size_1) took_1) in
+    let there : (p c.push_part-2.new.out).count + 1 ≤ from + load_pages Table (p c.push_part.new.out).usable (entry_1 ∷ entry_2 ∷ []) = search (rules, told) in
+    let here : (p c.push_part-2.new.out).count + 1 ≤ from + load_pages Table usable (entry_1 ∷ entry_2 ∷ []) = subst (λ (u : ℕ). (p c.push_part-2.new.out).count + 1 ≤ from + load_pages Table u (entry_1 ∷ entry_2 ∷ [])) size_1 there in
+    let more : load_pages Table usable (entry_1 ∷ entry_2 ∷ []) ≤ load_pages Table usable (schema_entries c.args.items c.args.names c.args.codes) = load_pages-more Table usable (entry_1 ∷ entry_2 ∷ []) (entry_3 ∷ entry_4 ∷ []) (omega (arith, c.requires.ready.usable_is.least)) in
+    let all : (p c.push_part-2.new.out).count + 1 ≤ from + load_pages Table usable (schema_entries c.args.items c.args.names c.args.codes) = omega (arith, here, more) in
+    always_err _ all
+
+pub returns-in_err-push_part-3-clause-few : goal.returns-in_err-push_part-3-clause-few
+returns-in_err-push_part-3-clause-few g c none =
+    let p = g.P.PageOut.pages in
+    let usable : ℕ = (p c.args.out.now).usable in
+    let from : ℕ = (p c.args.out.now).count in
+    let entry_1 : Entry = schema_entry 1 (part_values Items c.args.items) in
+    let entry_2 : Entry = schema_entry 2 (part_values Names c.args.names) in
+    let entry_3 : Entry = schema_entry 3 (part_values Codes c.args.codes) in
+    let entry_4 : Entry = schema_entry 4 view_values in
+    let took_1 : TookFew Table usable from (entry_1 ∷ []) (p c.push_part.new.out).count c.push_part.new.loader = c.in_ok-push_part.ensures.pushed from [] none in
+    let size_1 : (p c.push_part.new.out).usable ≡ usable = c.in_ok-push_part.ensures.follows.keeps.size in
+    let took_2 : TookFew Table usable from (entry_1 ∷ entry_2 ∷ []) (p c.push_part-2.new.out).count c.push_part-2.new.loader =
+    took_at (p c.push_part.new.out).usable usable from (p c.push_part-2.new.out).count (entry_1 ∷ entry_2 ∷ []) c.push_part-2.new.loader size_1 (c.in_ok-push_part-2.ensures.pushed from (entry_1 ∷ []) (took_at usable (p c.push_part.new.out).usable from (p c.push_part.new.out).count (entry_1 ∷ []) c.push_part.new.loader (sym size_1) took_1)) in
+    let size_2 : (p c.push_part-2.new.out).usable ≡ usable = c.in_ok-push_part-2.ensures.follows.keeps.size ∙ size_1 in
+    let told = c.push_part-3.ensures.few from (entry_1 ∷ entry_2 ∷ []) (took_at usable (p c.push_part-2.new.out).usable from (p c.push_part-2.new.out).count (entry_1 ∷ entry_2 ∷ []) c.push_part-2.new.loader (sym size_2) took_2) in
+    let there : (p c.push_part-3.new.out).count + 1 ≤ from + load_pages Table (p c.push_part-2.new.out).usable (entry_1 ∷ entry_2 ∷ entry_3 ∷ []) = search (rules, told) in
+    let here : (p c.push_part-3.new.out).count + 1 ≤ from + load_pages Table usable (entry_1 ∷ entry_2 ∷ entry_3 ∷ []) = subst (λ (u : ℕ). (p c.push_part-3.new.out).count + 1 ≤ from + load_pages Table u (entry_1 ∷ entry_2 ∷ entry_3 ∷ [])) size_2 there in
+    let more : load_pages Table usable (entry_1 ∷ entry_2 ∷ entry_3 ∷ []) ≤ load_pages Table usable (schema_entries c.args.items c.args.names c.args.codes) = load_pages-more Table usable (entry_1 ∷ entry_2 ∷ entry_3 ∷ []) (entry_4 ∷ []) (omega (arith, c.requires.ready.usable_is.least)) in
+    let all : (p c.push_part-3.new.out).count + 1 ≤ from + load_pages Table usable (schema_entries c.args.items c.args.names c.args.codes) = omega (arith, here, more) in
+    always_err _ all
+
+pub returns-in_err-push_view-clause-few : goal.returns-in_err-push_view-clause-few
+returns-in_err-push_view-clause-few g c none =
+    let p = g.P.PageOut.pages in
+    let usable : ℕ = (p c.args.out.now).usable in
+    let from : ℕ = (p c.args.out.now).count in
+    let entry_1 : Entry = schema_entry 1 (part_values Items c.args.items) in
+    let entry_2 : Entry = schema_entry 2 (part_values Names c.args.names) in
+    let entry_3 : Entry = schema_entry 3 (part_values Codes c.args.codes) in
+    let entry_4 : Entry = schema_entry 4 view_values in
+    let took_1 : TookFew Table usable from (entry_1 ∷ []) (p c.push_part.new.out).count c.push_part.new.loader = c.in_ok-push_part.ensures.pushed from [] none in
+    let size_1 : (p c.push_part.new.out).usable ≡ usable = c.in_ok-push_part.ensures.follows.keeps.size in
+    let took_2 : TookFew Table usable from (entry_1 ∷ entry_2 ∷ []) (p c.push_part-2.new.out).count c.push_part-2.new.loader =
+    took_at (p c.push_part.new.out).usable usable from (p c.push_part-2.new.out).count (entry_1 ∷ entry_2 ∷ []) c.push_part-2.new.loader size_1 (c.in_ok-push_part-2.ensures.pushed from (entry_1 ∷ []) (took_at usable (p c.push_part.new.out).usable from (p c.push_part.new.out).count (entry_1 ∷ []) c.push_part.new.loader (sym size_1) took_1)) in
+    let size_2 : (p c.push_part-2.new.out).usable ≡ usable = c.in_ok-push_part-2.ensures.follows.keeps.size ∙ size_1 in
+    let took_3 : TookFew Table usable from (entry_1 ∷ entry_2 ∷ entry_3 ∷ []) (p c.push_part-3.new.out).count c.push_part-3.new.loader =
+    took_at (p c.push_part-2.new.out).usable usable from (p c.push_part-3.new.out).count (entry_1 ∷ entry_2 ∷ entry_3 ∷ []) c.push_part-3.new.loader size_2 (c.in_ok-push_part-3.ensures.pushed from (entry_1 ∷ entry_2 ∷ []) (took_at usable (p c.push_part-2.new.out).usable from (p c.push_part-2.new.out).count (entry_1 ∷ entry_2 ∷ []) c.push_part-2.new.loader (sym size_2) took_2)) in
+    let size_3 : (p c.push_part-3.new.out).usable ≡ usable = c.in_ok-push_part-3.ensures.follows.keeps.size ∙ size_2 in
+    let told = c.push_view.ensures.few from (entry_1 ∷ entry_2 ∷ entry_3 ∷ []) (took_at usable (p c.push_part-3.new.out).usable from (p c.push_part-3.new.out).count (entry_1 ∷ entry_2 ∷ entry_3 ∷ []) c.push_part-3.new.loader (sym size_3) took_3) in
+    let there : (p c.push_view.new.out).count + 1 ≤ from + load_pages Table (p c.push_part-3.new.out).usable (entry_1 ∷ entry_2 ∷ entry_3 ∷ entry_4 ∷ []) = search (rules, told) in
+    let here : (p c.push_view.new.out).count + 1 ≤ from + load_pages Table usable (entry_1 ∷ entry_2 ∷ entry_3 ∷ entry_4 ∷ []) = subst (λ (u : ℕ). (p c.push_view.new.out).count + 1 ≤ from + load_pages Table u (entry_1 ∷ entry_2 ∷ entry_3 ∷ entry_4 ∷ [])) size_3 there in
+    always_err _ here
+
+pub returns-clause-pushed : goal.returns-clause-pushed
+returns-clause-pushed g c none =
+    let p = g.P.PageOut.pages in
+    let usable : ℕ = (p c.args.out.now).usable in
+    let from : ℕ = (p c.args.out.now).count in
+    let entry_1 : Entry = schema_entry 1 (part_values Items c.args.items) in
+    let entry_2 : Entry = schema_entry 2 (part_values Names c.args.names) in
+    let entry_3 : Entry = schema_entry 3 (part_values Codes c.args.codes) in
+    let entry_4 : Entry = schema_entry 4 view_values in
+    let took_1 : TookFew Table usable from (entry_1 ∷ []) (p c.push_part.new.out).count c.push_part.new.loader = c.in_ok-push_part.ensures.pushed from [] none in
+    let size_1 : (p c.push_part.new.out).usable ≡ usable = c.in_ok-push_part.ensures.follows.keeps.size in
+    let took_2 : TookFew Table usable from (entry_1 ∷ entry_2 ∷ []) (p c.push_part-2.new.out).count c.push_part-2.new.loader =
+    took_at (p c.push_part.new.out).usable usable from (p c.push_part-2.new.out).count (entry_1 ∷ entry_2 ∷ []) c.push_part-2.new.loader size_1 (c.in_ok-push_part-2.ensures.pushed from (entry_1 ∷ []) (took_at usable (p c.push_part.new.out).usable from (p c.push_part.new.out).count (entry_1 ∷ []) c.push_part.new.loader (sym size_1) took_1)) in
+    let size_2 : (p c.push_part-2.new.out).usable ≡ usable = c.in_ok-push_part-2.ensures.follows.keeps.size ∙ size_1 in
+    let took_3 : TookFew Table usable from (entry_1 ∷ entry_2 ∷ entry_3 ∷ []) (p c.push_part-3.new.out).count c.push_part-3.new.loader =
+    took_at (p c.push_part-2.new.out).usable usable from (p c.push_part-3.new.out).count (entry_1 ∷ entry_2 ∷ entry_3 ∷ []) c.push_part-3.new.loader size_2 (c.in_ok-push_part-3.ensures.pushed from (entry_1 ∷ entry_2 ∷ []) (took_at usable (p c.push_part-2.new.out).usable from (p c.push_part-2.new.out).count (entry_1 ∷ entry_2 ∷ []) c.push_part-2.new.loader (sym size_2) took_2)) in
+    let size_3 : (p c.push_part-3.new.out).usable ≡ usable = c.in_ok-push_part-3.ensures.follows.keeps.size ∙ size_2 in
+    let took_4 : TookFew Table usable from (entry_1 ∷ entry_2 ∷ entry_3 ∷ entry_4 ∷ []) (p c.push_view.new.out).count c.push_view.new.loader =
+    took_at (p c.push_part-3.new.out).usable usable from (p c.push_view.new.out).count (entry_1 ∷ entry_2 ∷ entry_3 ∷ entry_4 ∷ []) c.push_view.new.loader size_3 (c.in_ok-push_view.ensures.pushed from (entry_1 ∷ entry_2 ∷ entry_3 ∷ []) (took_at usable (p c.push_part-3.new.out).usable from (p c.push_part-3.new.out).count (entry_1 ∷ entry_2 ∷ entry_3 ∷ []) c.push_part-3.new.loader (sym size_3) took_3)) in
+    took_4

@@ -7,11 +7,13 @@ use Rattle.btree_page.specs.declared.kind.Kind.TheVariants.{TableLeaf}
 use Rattle.btree_model.specs.Content.{Entry}
 use Rattle.page_build.specs.Draft.{with_cell}
 use Rattle.bulk_load.specs.declared.level.Level.{Level}
+use Rattle.bulk_load.specs.Cells.{row_len}
 use Rattle.bulk_load.specs.Chain.{IsPutChain}
 use Rattle.bulk_load.specs.Loader.{LoadedAs}
 use Rattle.bulk_load.specs.Own.{only}
 use Rattle.bulk_load.proofs.CellLemmas.{IsRow, row_is}
 use Rattle.bulk_load.proofs.RowLemmas.{own_kind, row_added, rows_loaded, rows_of}
+use Rattle.bulk_load.proofs.VolumeLemmas.{row_volume}
 use Rattle.bulk_load.proofs.loader.Loader.add_row.Goals as goal
 
 pub add-requires : goal.add-requires
@@ -54,3 +56,19 @@ returns-clause-loaded g c start well own covers pushed loaded =
     (row_added old mid leaf after levels last r pushed payload raw first c.requires.ready.usable_is.least
     (subst (λ j. IsPutChain old mid first (drop j payload)) c.requires.local chain) (rw (sym c.requires.local) c.requires.some) c.requires.above row.written
     is_add (ap (λ d. d.kind) is_add) refl (rows_of old leaf levels last pushed before))))
+
+pub returns-clause-paid : goal.returns-clause-paid
+returns-clause-paid g c =
+    let old : Pages = g.P.PageOut.pages c.args.out.now in
+    let payload : List ℕ = c.args.payload.now in
+    let k : ℕ = c.args.local in
+    let rest : List ℕ = take (length payload - k) (drop k payload) in
+    let all : rest ≡ drop k payload = between_to_end payload k (length payload) (omega arith) in
+    let raw : List ℕ = c.write_row.new.cell.items in
+    let row : IsRow old.usable payload raw k c.in_ok-first.first c.args.rowid =
+    row_is old.usable payload raw rest k c.in_ok-first.first c.args.rowid _ c.requires.local c.requires.some c.requires.short c.ranges.rowid
+    (to_z-of_z w64 c.args.rowid c.ranges.rowid) all c.in_ok-first.ensures.none c.in_ok-first.ensures.some c.in_ok-write_row.ensures.ok in
+    let leaf : Level = c.args.self.now.leaf in
+    let after : Level = record { page = c.add.new.self; waiting = c.args.self.now.leaf.waiting } in
+    row_volume leaf after c.args.self.now.levels.items raw (row_len (length payload) c.args.rowid k) c.requires.kind
+    (c.add.ensures ∙ ap (with_cell leaf.page) c.deref.ensures.value) row.long

@@ -1,4 +1,4 @@
-use Rattle.std.proofs.Common.{ℤ, List, Some, refl, ap, sym, subst, ◌∙◌}
+use Rattle.std.proofs.Common.{false, ℤ, List, Some, refl, ap, sym, subst, ◌∙◌}
 use Rattle.std.specs.Int.{w64}
 use Rattle.std.proofs.lemmas.Int.{to_z-of_z}
 use Rattle.db_format.specs.Pages.{Pages}
@@ -11,7 +11,7 @@ use Rattle.bulk_load.specs.declared.pair.Pair.{Pair}
 use Rattle.bulk_load.specs.Loader.{LoadedAs}
 use Rattle.bulk_load.specs.Settle.{IsPair}
 use Rattle.bulk_load.specs.Own.{only}
-use Rattle.bulk_load.proofs.PutLemmas.{covers_before, covers_behind}
+use Rattle.bulk_load.proofs.PutLemmas.{covers_before, covers_behind, follows_all, keeps_after}
 use Rattle.bulk_load.proofs.CellLemmas.{key_is}
 use Rattle.bulk_load.proofs.RowLemmas.{own_kind, room_none, room_some, rows_loaded, rows_of}
 use Rattle.bulk_load.proofs.loader.Loader.leaf_for.Goals as goal
@@ -56,3 +56,18 @@ returns-in_ok-climb-in-Ok-Some-clause-loaded g c start well own covers pushed l 
     c.in-Ok-Some.ensures.shape.kind refl c.in-Ok-Some.ensures.keeps.size (c.in_ok-climb-in-Ok-Some.ensures.keeps.size ∙ c.in-Ok-Some.ensures.keeps.size)
     c.in_ok-pair-in-Ok-Some.ensures.child is_pair
     (c.in_ok-climb-in-Ok-Some.ensures.climbed start (c.in-Ok-Some.ensures.follows.told start well) own (covers_behind _ own _ _ _ c.in-Ok-Some.ensures.keeps.count covers)))))
+
+pub returns-in_err-climb-in-Ok-Some-clause-keeps : goal.returns-in_err-climb-in-Ok-Some-clause-keeps
+returns-in_err-climb-in-Ok-Some-clause-keeps g c =
+    let p = g.P.PageOut in
+    keeps_after p.pages p.limit p.faults p.well false c.args.out.now c.make_room.new.out c.climb.new.out c.in-Ok-Some.ensures.follows c.climb.ensures.keeps
+
+pub returns-in_ok-climb-in-Ok-Some-clause-keeps : goal.returns-in_ok-climb-in-Ok-Some-clause-keeps
+returns-in_ok-climb-in-Ok-Some-clause-keeps g c =
+    let p = g.P.PageOut in
+    keeps_after p.pages p.limit p.faults p.well false c.args.out.now c.make_room.new.out c.climb.new.out c.in-Ok-Some.ensures.follows c.in_ok-climb-in-Ok-Some.ensures.keeps
+
+pub returns-in_ok-climb-in-Ok-Some-clause-follows : goal.returns-in_ok-climb-in-Ok-Some-clause-follows
+returns-in_ok-climb-in-Ok-Some-clause-follows g c =
+    let p = g.P.PageOut in
+    follows_all p.pages p.limit p.faults p.well false c.args.out.now c.make_room.new.out c.climb.new.out c.in-Ok-Some.ensures.follows c.in_ok-climb-in-Ok-Some.ensures.follows

@@ -1,4 +1,4 @@
-use Rattle.std.proofs.Common.{◌≡◌, ◌-◌, ◌≤◌, ◌+◌, ℤ, [], ◌∷◌, ◌++◌, Some, length, false, arith, subst}
+use Rattle.std.proofs.Common.{rules, ℕ, ◌≡◌, ◌-◌, ◌≤◌, ◌+◌, ℤ, [], ◌∷◌, ◌++◌, Some, length, false, arith, subst}
 use Rattle.std.specs.Int.{w64, cast_signed, cast_unsigned}
 use Rattle.std.proofs.lemmas.Int.{to_z-of_z}
 use Rattle.bulk_load.specs.Cells.{row_len}
@@ -6,6 +6,10 @@ use Rattle.bulk_load.specs.Loader.{Loaded}
 use Rattle.bulk_load.specs.Own.{only}
 use Rattle.bulk_load.proofs.CellLemmas.{row_len-most}
 use Rattle.bulk_load.proofs.PutLemmas.{covers_before, covers_behind, follows_all, keeps_after}
+use Rattle.btree_page.specs.declared.kind.Family.TheVariants.{Table}
+use Rattle.bulk_load.specs.Count.{overflow_pages}
+use Rattle.bulk_load.specs.Volume.{price}
+use Rattle.bulk_load.proofs.VolumeLemmas.{price_le, price_more}
 use Rattle.bulk_load.proofs.loader.Loader.push_row.Goals as goal
 
 pub leaf_for-requires-clause-fits : goal.leaf_for-requires-clause-fits
@@ -39,3 +43,18 @@ returns-clause-loaded g c start well own covers pushed loaded =
     (to_z-of_z w64 c.args.rowid c.ranges.rowid)
     (c.in_ok-add_row.ensures.loaded start (c.in_ok-leaf_for.ensures.follows.told start well) own (covers_behind _ own _ _ _ c.in_ok-leaf_for.ensures.keeps.count covers) pushed
     (c.in_ok-leaf_for.ensures.loaded start well own (covers_before _ own _ _ _ c.in_ok-add_row.ensures.keeps.count covers) pushed loaded))
+
+pub returns-in_err-add_row-clause-spent : goal.returns-in_err-add_row-clause-spent
+returns-in_err-add_row-clause-spent g c =
+    let p = g.P.PageOut.pages in
+    let usable : ℕ = (p c.args.out.now).usable in
+    let old : ℕ = (p c.args.out.now).count in
+    let mid : ℕ = (p c.leaf_for.new.out).count in
+    let new : ℕ = (p c.add_row.new.out).count in
+    let chain : ℕ = overflow_pages Table usable (length c.args.payload.now) in
+    let few : new ≤ mid + chain = search rules in
+    let most : price usable new ≤ price usable (mid + chain) = price_le usable new (mid + chain) few in
+    let here : price usable (mid + chain) ≡ price usable mid + price usable chain = price_more usable mid chain in
+    let there : price usable (old + chain + 1) ≡ price usable (old + chain) + price usable 1 = price_more usable (old + chain) 1 in
+    let then : price usable (old + chain) ≡ price usable old + price usable chain = price_more usable old chain in
+    search rules

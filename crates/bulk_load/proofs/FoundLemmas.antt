@@ -1,5 +1,5 @@
 -- A tree of a loader's own pages, among other pages and beside a header.
-use Rattle.std.proofs.Common.{◌≡◌, ℕ, ◌≤◌, Bool, true, false, List, [], ◌∷◌, ◌++◌, ◌&&◌, ◌==◌, Some, None, map, if◌then◌else◌, length, drop, refl, ap, ◌∙◌, arith}
+use Rattle.std.proofs.Common.{◌≡◌, ℕ, ◌≤◌, Bool, true, false, List, [], ◌∷◌, ◌&&◌, ◌==◌, Some, None, map, if◌then◌else◌, length, refl, ap, ◌∙◌, arith}
 use Rattle.std.specs.Prelude.{nat_le, unwrap_or}
 use Rattle.std.specs.List.{list_all}
 use Rattle.std.specs.Option.{option_map}
@@ -14,11 +14,11 @@ use Rattle.btree_model.specs.Tree.{tree_walk, max_path}
 use Rattle.btree_model.proofs.AcceptedLemmas.{are_accepted, walk_accepted}
 use Rattle.btree_model.proofs.ContextLemmas.{and_left, and_right}
 use Rattle.btree_model.proofs.KeptLemmas.{AreSame, IsSamePage, walk_kept}
+use Rattle.bulk_load.specs.Found.{HasTree, Within}
 use Rattle.bulk_load.specs.Headed.{IsHeaded}
 use Rattle.bulk_load.specs.Out.{Faults, Keeps}
 use Rattle.bulk_load.specs.Own.{only}
 use Rattle.bulk_load.proofs.HeadedLemmas.{tree_headed}
-use Rattle.db_maker.specs.Made.{HasTree}
 
 -- ---- the walk over other pages, the same where they were accepted
 
@@ -80,10 +80,6 @@ found_same old new own family root listed same f = record {
   gives = ap (λ walked. map entry_of (entries walked)) same ∙ f.gives;
   within = ap (λ walked. list_all own (places walked)) same ∙ f.within;
 }
-
--- the pages of a test are pages of the database other than page 1
-abbrev pub Within : Pages → Test → Type 0
-Within pages own = (n : ℕ) → own n ≡ true → is_in_range pages n ≡ true
 
 page_in : (count n : ℕ) → (nat_le 2 n && nat_le n count) ≡ true → (nat_le 1 n && nat_le n count) ≡ true
 page_in count n h = grind arith

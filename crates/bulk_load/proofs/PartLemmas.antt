@@ -24,11 +24,10 @@ use Rattle.btree_model.specs.Tree.{family_or_index, root_family, tree_walk}
 use Rattle.btree_model.proofs.ContextLemmas.{and_left, and_right}
 use Rattle.btree_model.proofs.UnmarkedLemmas.{or_left, tree_walk_stays}
 use Rattle.load_model.proofs.StandsLemmas.{not_met}
+use Rattle.bulk_load.specs.Found.{HasNoFreelist, is_record}
 use Rattle.bulk_load.specs.Headed.{IsHeaded}
 use Rattle.bulk_load.proofs.HeadedLemmas.{IsRead, root_read}
-use Rattle.db_maker.specs.Made.{HasNoFreelist}
-use Rattle.db_maker.proofs.EntryLaws.{readable}
-use Rattle.db_maker.proofs.TreeLaws.{IsFound}
+use Rattle.bulk_load.proofs.FoundLemmas.{IsFound}
 
 -- ---- a tree
 
@@ -36,19 +35,19 @@ no_fault : (n : ℕ) (values : Option (List Datum)) → is_some values ≡ true 
 no_fault n (Some values) has = refl
 no_fault n None has = cc
 
-no_record_faults : (rows : List Row) → list_all readable (map entry_of rows) ≡ true → record_faults rows ≡ []
+no_record_faults : (rows : List Row) → list_all is_record (map entry_of rows) ≡ true → record_faults rows ≡ []
 no_record_faults [] has = refl
 no_record_faults (row ∷ rows) has =
     ap (λ l. l ++ record_faults rows) (no_fault row.page (columns row.payload) (and_left _ _ has)) ∙ no_record_faults rows (and_right _ _ has)
 
 -- a tree whose entries are records, and none of whose pages has a place in an earlier part
 pub part_is : (pages : Pages) (own : Test) (family : Family) (root : ℕ) (listed : List Entry) (taken : Test) → IsFound pages own family root listed
-    → list_all readable listed ≡ true → AreUnmarked taken (places (tree_walk pages family nothing root))
+    → list_all is_record listed ≡ true → AreUnmarked taken (places (tree_walk pages family nothing root))
     → tree_part pages family taken root ≡ tree_walk pages family nothing root
 part_is pages own family root listed taken f records unmarked =
     let found : List Finding = tree_walk pages family nothing root in
     ap (λ walked. walked ++ record_faults (entries walked)) (tree_walk_stays pages family root taken f.sound unmarked)
-    ∙ ap (λ l. found ++ l) (no_record_faults (entries found) (ap (list_all readable) f.gives ∙ records)) ∙ append-nil found
+    ∙ ap (λ l. found ++ l) (no_record_faults (entries found) (ap (list_all is_record) f.gives ∙ records)) ∙ append-nil found
 
 family_same : (family other : Family) → same_family family other ≡ true → other ≡ family
 family_same Table Table same = refl
