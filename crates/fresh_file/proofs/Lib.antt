@@ -1,4 +1,8 @@
-pub mod HeadedLaws
-pub mod PageLaws
+pub mod DrawLaws
 pub mod FreshLaws
+pub mod HeadedLaws
+pub mod OpeningLaws
+pub mod PageLaws
+pub mod PlaceLaws
+pub mod RunLaws
 pub mod SaltLaws

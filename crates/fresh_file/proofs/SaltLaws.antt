@@ -1,7 +1,7 @@
 -- A file whose page 1 is sealed begins with the salt.
 use Rattle.std.proofs.Common.{◌≡◌, ◌≤◌, ◌+◌, ◌-◌, ◌*◌, ℕ, List, ◌++◌, length, take, drop, ap, sym, ◌∙◌, arith, length-append}
 use Rattle.std.proofs.lemmas.List.{length-take, length-take-le, take-append-drop, take-append-le, take-take, take_all}
-use Rattle.page_codec.specs.Page.{FileKeys, salt_of, sealed, stored_page, tag, untagged, with_tag}
+use Rattle.page_codec.specs.Page.{FileKeys, salt_of, sealed, tag, untagged}
 use Rattle.cipher_profile.specs.Profile.{usable}
 use Rattle.fresh_file.specs.Sealed.{IsSealed}
 

@@ -1,6 +1,7 @@
 -- What the state of a new file says of Fresh and of what was drawn.
-use Rattle.std.specs.Prelude.{ℕ, ◌+◌, Bool, List, Option, ◌==◌, if◌then◌else◌}
+use Rattle.std.specs.Prelude.{ℕ, ◌+◌, ◌/◌, ◌^◌, Bool, List, Option, ◌==◌, if◌then◌else◌}
 use Rattle.cipher_profile.specs.Profile.{usable}
+use Rattle.cipher_profile.specs.declared.profile.Profile.{Profile}
 use Rattle.db_format.specs.Pages.{Pages}
 use Rattle.db_format.specs.Seen.{marked}
 use Rattle.fresh_file.specs.declared.state.FreshState.{FreshState}
@@ -19,3 +20,7 @@ pages_of state fresh = record {
 abbrev pub IsWellAs : FreshState → ℕ → Bool → Bool → Option (List ℕ) → List ℕ → Type 0
 IsWellAs state start tells draws_tell fresh drawn =
     IsWell state.codec (marked state.put) (state.taken + 1) start tells draws_tell fresh drawn
+
+-- how many pages a file of this profile may have: those of 2^30 bytes
+abbrev pub most_pages : Profile → ℕ
+most_pages profile = 2 ^ 30 / profile.page_size

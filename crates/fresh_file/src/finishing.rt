@@ -1,12 +1,12 @@
 // The end of a new file: page 1, and the sync.
-ghost use Rattle.std.specs.Prelude.{◌≡◌, ◌+◌, ◌≤◌, ℕ, [], ◌∷◌, true, length, take, IsTrue, IfOk, OnOk, OnErr, Err};
+ghost use Rattle.std.specs.Prelude.{◌≡◌, ◌+◌, ◌≤◌, ℕ, [], ◌∷◌, true, length, take, IsTrue, IfOk, OnOk, OnErr, Ok, Err};
 ghost use Rattle.edge_model.specs.Causes.{Rose};
-ghost use Rattle.db_format.specs.Header.{IsPageSize};
+ghost use Rattle.db_format.specs.Header.{IsPageSize, header_bytes, header_read};
 ghost use Rattle.db_format.specs.Pages.{also};
 ghost use Rattle.db_format.specs.Seen.{marked};
 ghost use Rattle.page_codec.specs.Page.{magic};
 ghost use Rattle.bulk_load.specs.Out.{AreAllPut};
-ghost use Rattle.fresh_file.specs.Fresh.{IsFinished, IsWell, contents, with_head};
+ghost use Rattle.fresh_file.specs.Fresh.{IsFinished, IsWell, contents, sized, with_head};
 ghost use Rattle.fresh_file.specs.Sealed.{plain_page};
 
 use crate::sealing::{CommitFault, seal_page_to};
@@ -29,6 +29,8 @@ impl FreshState {
         ensures count { IfOk result (λ count. count ≡ self.old.taken + 1) }
         ensures file { (start : ℕ) → IsWellAs self.old start T.tells T.draws_tell (T.fresh side.old) (T.drawn side.old)
             → OnOk result (IsFinished self.old.codec header.now (pages_of self.old (T.fresh side.old)) start T.draws_tell (T.fresh side.new) (T.drawn side.new)) }
+        ensures reads_back { header_read (header_bytes (sized header.now (self.old.taken + 1))) header.now.page_size header.now.reserve
+            ≡ Ok (sized header.now (self.old.taken + 1)) }
         ensures synced { OnOk result (IsTrue T.tells → T.synced side.new) }
         ensures kept { T.only_fresh side.old side.new }
         ensures disk_later { T.disk_faults side.old ≤ T.disk_faults side.new }

@@ -118,12 +118,19 @@ impl FreshState {
         FreshOut { state: self, side }
     }
 
-    // The usable size of a page.
-    pub(crate) fn usable(&self) -> usize
+    /// The usable size of a page, in bytes.
+    pub fn usable(&self) -> usize
         ensures value { result ≡ usable self.now.codec.profile }
         ensures range { IsUsable result }
     {
         self.first.len()
+    }
+
+    /// How many pages there may be.
+    pub fn page_limit(&self) -> u32
+        ensures { result ≡ self.now.limit }
+    {
+        self.limit
     }
 
     // The next number.

@@ -1,5 +1,1 @@
-pub mod DrawLaws
-pub mod HeaderLaws
 pub mod MadeLaws
-pub mod PublishLaws
-pub mod RunLaws

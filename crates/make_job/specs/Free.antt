@@ -5,7 +5,7 @@ use Rattle.edge_model.specs.Images.{Each, LeavesOnly}
 use Rattle.edge_model.specs.Moments.{weaker}
 use Rattle.disk_side.specs.OnlyFresh.{IsOld}
 use Rattle.disk_side.specs.Published.{IsNew, IsOldOrPublished, IsPublished}
-use Rattle.make_job.specs.Published.{TakesPlace, LeavesOld, MayTakePlace}
+use Rattle.disk_side.specs.Place.{TakesPlace, LeavesOld, MayTakePlace}
 use Rattle.std.proofs.Common.{inl, inr, ap, ◌∙◌}
 
 -- the image has neither

@@ -1,16 +1,14 @@
 -- A made file: it opens, and holds so many rows.
-use Rattle.std.specs.Prelude.{◌≡◌, ℕ, ◌*◌, ◌≤◌, true, List, [], ◌∷◌, length, take, Ok}
+use Rattle.std.specs.Prelude.{◌≡◌, ℕ, ◌*◌, true, List, [], ◌∷◌, length, Ok}
 use Rattle.btree_model.specs.Content.{Content, HoldsContent}
 use Rattle.cipher_profile.specs.declared.keys.Secret.{Secret}
 use Rattle.cipher_profile.specs.declared.profile.Profile.{Profile}
 use Rattle.db_format.specs.declared.header.Header.{Header}
 use Rattle.db_maker.specs.Made.{made_items}
-use Rattle.page_codec.specs.Page.{FileKeys, accepts, keys_of, salt_of}
-use Rattle.fresh_file.specs.Sealed.{IsSealedWith}
-use Rattle.pager.specs.File.{page_stored, whole_pages}
+use Rattle.page_codec.specs.Page.{FileKeys, accepts, keys_of}
+use Rattle.pager.specs.File.{page_stored}
 use Rattle.pager.specs.Opening.{file_opened}
 use Rattle.pager.specs.Pages.{is_number, opened_pages}
-use Rattle.transaction.specs.Draws.{OwnDraws}
 
 -- the header of a made file of so many pages
 abbrev pub made_header : Profile → ℕ → Header
@@ -47,9 +45,3 @@ pub record IsMadeUnder (keys : FileKeys) (rows : ℕ) (file : List ℕ) : Type 0
 -- the same under the keys that the secret gives for the file
 abbrev pub IsMade : Profile → Secret → ℕ → List ℕ → Type 0
 IsMade profile secret rows file = IsMadeUnder (keys_of profile secret file) rows file
-
--- The salt is the first 16 bytes that were drawn, and each page was sealed with bytes of its own of those after them.
-pub record HasOwnDraws (keys : FileKeys) (file drawn : List ℕ) : Type 0 where
-  pub enough : 16 ≤ length drawn
-  pub salt : salt_of file ≡ take 16 drawn
-  pub pages : OwnDraws keys.profile.reserve 16 drawn (is_number (whole_pages keys.profile file)) (IsSealedWith keys file)

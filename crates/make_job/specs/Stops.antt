@@ -1,9 +1,8 @@
 -- Why no database is made.
-use Rattle.std.specs.Prelude.{ℕ, ◌/◌, ◌^◌, Bool, true, false, is_some, Option, Some, None, if◌then◌else◌}
+use Rattle.std.specs.Prelude.{Bool, true, false, is_some, Option, Some, None, if◌then◌else◌}
 use Rattle.bulk_load.specs.declared.error.LoadError.{LoadError}
 use Rattle.bulk_load.specs.declared.error.LoadError.TheVariants.{RowidOrder, Out, OutOfMemory as LoadMemory, TooDeep}
 use Rattle.bulk_load.specs.declared.out.OutError.TheVariants.{TooManyPages as OutPages, DiskFault as OutDisk, EntropyFault as OutEntropy}
-use Rattle.cipher_profile.specs.declared.profile.Profile.{Profile}
 use Rattle.edge_model.specs.Files.{Files}
 use Rattle.make_job.specs.declared.error.MakeError.{MakeError}
 use Rattle.make_job.specs.declared.error.MakeError.TheVariants.{FileThere, JournalThere, TooManyPages, DiskFault, EntropyFault, OutOfMemory}
@@ -20,10 +19,6 @@ is_refusal (TooManyPages limit) = false
 is_refusal DiskFault = false
 is_refusal EntropyFault = false
 is_refusal OutOfMemory = false
-
--- how many pages a file of this profile may have: those of 2^30 bytes
-abbrev pub most_pages : Profile → ℕ
-most_pages profile = 2 ^ 30 / profile.page_size
 
 -- How a load that failed stops the command. Rows are pushed in their order, and no tree of so few levels is too deep.
 abbrev pub load_error : LoadError → MakeError

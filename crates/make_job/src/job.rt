@@ -1,15 +1,18 @@
 // A database is made where no file is.
-ghost use Rattle.std.specs.Prelude.{◌≡◌, ◌⊎◌, ◌≤◌, ◌++◌, ℕ, true, is_some, None, Some, Err, IfOk, IfErr, OnOk, OnErr, IsTrue, drop, length};
-ghost use Rattle.cipher_profile.specs.Profile.{IsListed};
+ghost use Rattle.std.specs.Prelude.{◌≡◌, ◌⊎◌, ◌≤◌, ◌<◌, ◌++◌, ℕ, true, is_some, None, Some, Err, IfOk, IfErr, OnOk, OnErr, IsTrue, drop, length};
+ghost use Rattle.cipher_profile.specs.Profile.{IsListed, usable};
 ghost use Rattle.edge_model.specs.Causes.{Rose};
 ghost use Rattle.edge_model.specs.Files.{file_at};
 ghost use Rattle.edge_model.specs.OnlyRead.{OnlyRead};
+ghost use Rattle.db_maker.specs.Pages.{made_pages};
 ghost use Rattle.db_maker.specs.Rows.{total_len};
 ghost use Rattle.page_codec.specs.Page.{keys_of};
 ghost use Rattle.pager.specs.File.{main_of};
-ghost use Rattle.make_job.specs.Made.{HasOwnDraws, IsMade};
-ghost use Rattle.make_job.specs.Published.{TakesPlace, LeavesOld, MayTakePlace};
-ghost use Rattle.make_job.specs.Stops.{in_the_way, is_refusal, most_pages};
+ghost use Rattle.fresh_file.specs.Draws.{HasOwnDraws};
+ghost use Rattle.make_job.specs.Made.{IsMade};
+ghost use Rattle.disk_side.specs.Place.{TakesPlace, LeavesOld, MayTakePlace};
+ghost use Rattle.fresh_file.specs.State.{most_pages};
+ghost use Rattle.make_job.specs.Stops.{in_the_way, is_refusal};
 
 use crate::error::MakeError;
 use crate::publishing::publish_rows;
@@ -45,7 +48,7 @@ pub fn make<D: Disk, E: Entropy>(
     ensures there { IfErr result (λ e. is_refusal e ≡ true → IsTrue D.tells → in_the_way (D.reads disk.old) ≡ Some e) }
     ensures undrawn { IfErr result (λ e. is_refusal e ≡ true → entropy.new ≡ entropy.old) }
     // why else it stopped
-    ensures limit { (limit : ℕ) → result ≡ Err (MakeError.TooManyPages limit) → limit ≡ most_pages profile }
+    ensures limit { (limit : ℕ) → result ≡ Err (MakeError.TooManyPages limit) → (limit ≡ most_pages profile) × (most_pages profile < made_pages (usable profile) rows) }
     ensures disk_fault { result ≡ Err MakeError.DiskFault → Rose (D.faults disk.old) (D.faults disk.new) }
     ensures entropy_fault { result ≡ Err MakeError.EntropyFault → Rose (E.faults entropy.old) (E.faults entropy.new) }
     ensures disk_later { D.faults disk.old ≤ D.faults disk.new }

@@ -1,13 +1,17 @@
 // A database is written beside, and takes Main's place.
-ghost use Rattle.std.specs.Prelude.{◌≡◌, ◌⊎◌, ◌≤◌, ℕ, false, None, Some, Err, IfOk, IfErr, OnOk, IsTrue, length};
+ghost use Rattle.std.specs.Prelude.{◌≡◌, ◌⊎◌, ◌≤◌, ◌<◌, ℕ, false, None, Some, Err, IfOk, IfErr, OnOk, IsTrue, length};
 ghost use Rattle.std.specs.Io.{StartsWith};
 ghost use Rattle.edge_model.specs.Causes.{Rose};
 ghost use Rattle.edge_model.specs.Files.{File};
+ghost use Rattle.cipher_profile.specs.Profile.{usable};
+ghost use Rattle.db_maker.specs.Pages.{made_pages};
 ghost use Rattle.db_maker.specs.Rows.{total_len};
 ghost use Rattle.pager.specs.File.{main_of};
-ghost use Rattle.make_job.specs.Published.{TakesPlace, LeavesOld, MayTakePlace};
-ghost use Rattle.make_job.specs.Stops.{in_the_way, is_refusal, most_pages};
-ghost use Rattle.make_job.specs.Written.{AreOwnDraws, IsBeside, IsMadeWith};
+ghost use Rattle.disk_side.specs.Place.{TakesPlace, LeavesOld, MayTakePlace};
+ghost use Rattle.fresh_file.specs.State.{most_pages};
+ghost use Rattle.make_job.specs.Stops.{in_the_way, is_refusal};
+ghost use Rattle.fresh_file.specs.Draws.{AreOwnDraws};
+ghost use Rattle.make_job.specs.Written.{IsBeside, IsMadeWith};
 
 use crate::error::MakeError;
 use crate::writing::write_rows;
@@ -35,7 +39,7 @@ pub(crate) fn publish_rows<D: Disk, E: Entropy>(
         ⊎ MayTakePlace D.images D.moment D.since (IsMadeWith codec rows) disk.old disk.new }
     ensures only_old { IfErr result (λ e. (e ≡ MakeError.DiskFault → ⊥) → IsTrue D.tells → LeavesOld D.reads D.images D.moment D.since disk.old disk.new) }
     ensures no_refusal { IfErr result (λ e. is_refusal e ≡ false) }
-    ensures limit { (limit : ℕ) → result ≡ Err (MakeError.TooManyPages limit) → limit ≡ most_pages codec.profile }
+    ensures limit { (limit : ℕ) → result ≡ Err (MakeError.TooManyPages limit) → (limit ≡ most_pages codec.profile) × (most_pages codec.profile < made_pages (usable codec.profile) rows) }
     ensures disk_fault { result ≡ Err MakeError.DiskFault → Rose (D.faults disk.old) (D.faults disk.new) }
     ensures entropy_fault { result ≡ Err MakeError.EntropyFault → Rose (E.faults entropy.old) (E.faults entropy.new) }
     ensures disk_later { D.faults disk.old ≤ D.faults disk.new }
@@ -63,7 +67,7 @@ fn write_beside<D: Disk, E: Entropy>(
     ensures grown { IsTrue E.tells → StartsWith (E.drawn entropy.new) (E.drawn entropy.old) }
     ensures old { IsTrue D.tells → LeavesOld D.reads D.images D.moment D.since disk.old disk.new }
     ensures no_refusal { IfErr result (λ e. is_refusal e ≡ false) }
-    ensures limit { (limit : ℕ) → result ≡ Err (MakeError.TooManyPages limit) → limit ≡ most_pages codec.profile }
+    ensures limit { (limit : ℕ) → result ≡ Err (MakeError.TooManyPages limit) → (limit ≡ most_pages codec.profile) × (most_pages codec.profile < made_pages (usable codec.profile) rows) }
     ensures disk_fault { result ≡ Err MakeError.DiskFault → Rose (D.faults disk.old) (D.faults disk.new) }
     ensures entropy_fault { result ≡ Err MakeError.EntropyFault → Rose (E.faults entropy.old) (E.faults entropy.new) }
     ensures disk_later { D.faults disk.old ≤ D.faults disk.new }

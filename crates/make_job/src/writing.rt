@@ -1,14 +1,16 @@
 // A database is written into Fresh.
-ghost use Rattle.std.specs.Prelude.{◌≡◌, ◌≤◌, ℕ, List, false, Some, Err, IfOk, IfErr, OnOk, IsTrue, length};
-ghost use Rattle.cipher_profile.specs.Profile.{IsListed};
+ghost use Rattle.std.specs.Prelude.{◌≡◌, ◌≤◌, ◌<◌, ℕ, List, false, Some, Err, IfOk, IfErr, OnOk, IsTrue, length};
+ghost use Rattle.cipher_profile.specs.Profile.{IsListed, usable};
 ghost use Rattle.edge_model.specs.Causes.{Rose};
 ghost use Rattle.bulk_load.specs.Out.{AreAllPut};
 ghost use Rattle.db_maker.specs.Made.{IsMade};
+ghost use Rattle.db_maker.specs.Pages.{made_pages};
 ghost use Rattle.db_maker.specs.Rows.{total_len};
-ghost use Rattle.fresh_file.specs.State.{IsWellAs, pages_of};
+ghost use Rattle.fresh_file.specs.State.{IsWellAs, most_pages, pages_of};
 ghost use Rattle.make_job.specs.Made.{made_header};
-ghost use Rattle.make_job.specs.Stops.{is_refusal, load_error, most_pages};
-ghost use Rattle.make_job.specs.Written.{AreOwnDraws, IsWritten};
+ghost use Rattle.make_job.specs.Stops.{is_refusal, load_error};
+ghost use Rattle.fresh_file.specs.Draws.{AreOwnDraws};
+ghost use Rattle.make_job.specs.Written.{IsWritten};
 
 use crate::error::MakeError;
 use bulk_load::{LoadError, OutError};
@@ -34,7 +36,7 @@ pub(crate) fn write_rows<T: Side>(
         → AreOwnDraws codec file (length (T.drawn side.old)) (T.drawn side.new)) }
     ensures kept { T.only_fresh side.old side.new }
     ensures no_refusal { IfErr result (λ e. is_refusal e ≡ false) }
-    ensures limit { (limit : ℕ) → result ≡ Err (MakeError.TooManyPages limit) → limit ≡ most_pages codec.profile }
+    ensures limit { (limit : ℕ) → result ≡ Err (MakeError.TooManyPages limit) → (limit ≡ most_pages codec.profile) × (most_pages codec.profile < made_pages (usable codec.profile) rows) }
     ensures disk_fault { result ≡ Err MakeError.DiskFault → Rose (T.disk_faults side.old) (T.disk_faults side.new) }
     ensures entropy_fault { result ≡ Err MakeError.EntropyFault → Rose (T.draw_faults side.old) (T.draw_faults side.new) }
     ensures disk_later { T.disk_faults side.old ≤ T.disk_faults side.new }
@@ -71,7 +73,7 @@ fn fill_state<T: Side>(
     ensures same { (state.new.codec ≡ state.old.codec) × (state.new.limit ≡ state.old.limit) }
     ensures kept { T.only_fresh side.old side.new }
     ensures no_refusal { IfErr result (λ e. is_refusal e ≡ false) }
-    ensures limit { (limit : ℕ) → result ≡ Err (MakeError.TooManyPages limit) → limit ≡ state.old.limit }
+    ensures limit { (limit : ℕ) → result ≡ Err (MakeError.TooManyPages limit) → (limit ≡ state.old.limit) × (limit < made_pages (usable state.old.codec.profile) rows) }
     ensures disk_fault { result ≡ Err MakeError.DiskFault → Rose (T.disk_faults side.old) (T.disk_faults side.new) }
     ensures entropy_fault { result ≡ Err MakeError.EntropyFault → Rose (T.draw_faults side.old) (T.draw_faults side.new) }
     ensures disk_later { T.disk_faults side.old ≤ T.disk_faults side.new }

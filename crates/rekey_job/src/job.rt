@@ -30,7 +30,6 @@ use std::alloc::Global;
 
 /// Seals every page of a file under another codec, in one transaction, after the whole database was checked. All memory is taken before
 /// the first write, and does not grow with the file but by marks of its pages. The disk and the entropy come back in any case.
-#[tactic(none)]
 pub fn rekey<'d, D: Disk, E: Entropy>(
     alloc: Global,
     pager: Pager<'d, D, E>,
@@ -85,7 +84,6 @@ pub fn rekey<'d, D: Disk, E: Entropy>(
 }
 
 // The file is clean, and these are the leaves of its freelist.
-#[tactic(none)]
 fn rekey_clean<'d, D: Disk, E: Entropy>(
     alloc: Global,
     pager: Pager<'d, D, E>,

@@ -2,9 +2,10 @@ use Rattle.std.proofs.Common.{rules, length, drop, ap, subst}
 use Rattle.edge_model.specs.Files.{Files}
 use Rattle.page_codec.specs.Page.{FileKeys}
 use Rattle.pager.specs.File.{main_of}
-use Rattle.make_job.specs.Made.{HasOwnDraws}
-use Rattle.make_job.proofs.DrawLaws.{drawn_with, keys_are, made_as, salt_is}
-use Rattle.make_job.proofs.RunLaws.{either_then, err_then, old_then, read_leaves, takes_then}
+use Rattle.fresh_file.specs.Draws.{HasOwnDraws}
+use Rattle.fresh_file.proofs.DrawLaws.{drawn_with, keys_are, salt_is, told_as}
+use Rattle.fresh_file.proofs.RunLaws.{either_then, err_then, old_then, read_leaves, takes_then}
+use Rattle.make_job.specs.Made.{IsMadeUnder}
 use Rattle.make_job.proofs.job.make.Goals as goal
 
 pub returns-in_err-made-clause-any_moment : goal.returns-in_err-made-clause-any_moment
@@ -15,7 +16,7 @@ returns-in_err-made-clause-any_moment g c told =
     let mid = c.look_for_files.new.disk in
     let first = read_leaves d.reads d.images d.moment d.since met.only_now met.counts_now old mid (c.look_for_files.ensures.read told) in
     either_then d.reads d.images d.moment d.since met.only_now met.counts_now old mid c.publish_rows.new.disk first _ _
-    (made_as c.args.profile c.args.secret.now c.in_ok-salt.salt c.args.rows c.new-codec.result (search rules)) (c.publish_rows.ensures.any_moment told)
+    (told_as c.args.profile c.args.secret.now c.in_ok-salt.salt (λ k file. IsMadeUnder k c.args.rows file) c.new-codec.result (search rules)) (c.publish_rows.ensures.any_moment told)
 
 pub returns-in_err-made-clause-only_old : goal.returns-in_err-made-clause-only_old
 returns-in_err-made-clause-only_old g c =
@@ -37,7 +38,7 @@ returns-clause-made g c told =
     let new = c.publish_rows.new.disk in
     let first = read_leaves d.reads d.images d.moment d.since g.met.D.Disk.only_now g.met.D.Disk.counts_now old mid (c.look_for_files.ensures.read told) in
     takes_then d.reads d.images d.moment d.since g.met.D.Disk.only_now g.met.D.Disk.counts_now old mid new first _ _
-    (made_as c.args.profile c.args.secret.now c.in_ok-salt.salt c.args.rows c.new-codec.result (search rules)) (c.in_ok-made.ensures.made told)
+    (told_as c.args.profile c.args.secret.now c.in_ok-salt.salt (λ k file. IsMadeUnder k c.args.rows file) c.new-codec.result (search rules)) (c.in_ok-made.ensures.made told)
 
 pub returns-clause-own_draws : goal.returns-clause-own_draws
 returns-clause-own_draws g c told tell =
@@ -47,7 +48,7 @@ returns-clause-own_draws g c told tell =
     let there = c.in_ok-made.ensures.made told in
     let keys = c.new-codec.result in
     let main = main_of (d.reads new) in
-    let begins = salt_is keys c.args.rows main there.may.file.bytes (ap (λ (files : Files). main_of files) there.reads_so) there.may.is in
+    let begins = salt_is keys (IsMadeUnder keys c.args.rows) main there.may.file.bytes (ap (λ (files : Files). main_of files) there.reads_so) there.may.is in
     subst (λ (k : FileKeys). HasOwnDraws k main (drop (length (drawn c.args.entropy.now)) (drawn c.publish_rows.new.entropy)))
     (keys_are c.args.profile c.args.secret.now c.in_ok-salt.salt main keys (search rules) begins)
     (drawn_with keys main c.in_ok-salt.salt (drawn c.args.entropy.now) (drawn c.draw_salt.new.entropy) (drawn c.publish_rows.new.entropy) (search rules)
@@ -61,4 +62,4 @@ returns-clause-any_moment g c told =
     let mid = c.look_for_files.new.disk in
     let first = read_leaves d.reads d.images d.moment d.since met.only_now met.counts_now old mid (c.look_for_files.ensures.read told) in
     either_then d.reads d.images d.moment d.since met.only_now met.counts_now old mid c.publish_rows.new.disk first _ _
-    (made_as c.args.profile c.args.secret.now c.in_ok-salt.salt c.args.rows c.new-codec.result (search rules)) (c.publish_rows.ensures.any_moment told)
+    (told_as c.args.profile c.args.secret.now c.in_ok-salt.salt (λ k file. IsMadeUnder k c.args.rows file) c.new-codec.result (search rules)) (c.publish_rows.ensures.any_moment told)

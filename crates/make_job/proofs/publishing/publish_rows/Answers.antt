@@ -1,6 +1,8 @@
 use Rattle.std.proofs.Common.{inr, ℕ, List, length, sym, subst}
-use Rattle.make_job.specs.Written.{AreOwnDraws}
-use Rattle.make_job.proofs.PublishLaws.{takes_place, main_is, may_take}
+use Rattle.fresh_file.specs.Draws.{AreOwnDraws}
+use Rattle.fresh_file.proofs.PlaceLaws.{takes_place, main_is, may_take}
+use Rattle.make_job.proofs.MadeLaws.{no_journal}
+use Rattle.make_job.specs.Written.{IsMadeWith}
 use Rattle.make_job.proofs.publishing.publish_rows.Goals as goal
 
 pub publish-requires : goal.publish-requires
@@ -10,8 +12,8 @@ pub returns-in-Ok-clause-made : goal.returns-in-Ok-clause-made
 returns-in-Ok-clause-made g c told =
     let disk = g.D.Disk in
     let made = c.in_ok-made.ensures in
-    takes_place disk.reads disk.images disk.moment disk.since g.met.D.Disk.only_now g.met.D.Disk.counts_now c.args.codec c.args.rows c.args.disk.now c.write_beside.new.disk c.publish.new.disk
-    (made.beside told) (made.old told) (c.requires.free told) (c.in-Ok.ensures.reads told) (c.in-Ok.ensures.done told) (c.in-Ok.ensures.any_moment told)
+    takes_place disk.reads disk.images disk.moment disk.since g.met.D.Disk.only_now g.met.D.Disk.counts_now (IsMadeWith c.args.codec c.args.rows) c.args.disk.now c.write_beside.new.disk c.publish.new.disk
+    (made.beside told) (made.old told) (no_journal (disk.reads c.args.disk.now) (c.requires.free told)) (c.in-Ok.ensures.reads told) (c.in-Ok.ensures.done told) (c.in-Ok.ensures.any_moment told)
 
 pub returns-in-Ok-clause-own_draws : goal.returns-in-Ok-clause-own_draws
 returns-in-Ok-clause-own_draws g c told tell =
@@ -19,7 +21,7 @@ returns-in-Ok-clause-own_draws g c told tell =
     let made = c.in_ok-made.ensures in
     let written = made.beside told in
     subst (λ (file : List ℕ). AreOwnDraws c.args.codec file (length (g.E.Entropy.drawn c.args.entropy.now)) (g.E.Entropy.drawn c.write_beside.new.entropy))
-    (sym (main_is disk.reads disk.images disk.moment disk.since g.met.D.Disk.only_now g.met.D.Disk.counts_now c.args.codec c.args.rows c.args.disk.now c.write_beside.new.disk c.publish.new.disk
+    (sym (main_is disk.reads disk.images disk.moment disk.since g.met.D.Disk.only_now g.met.D.Disk.counts_now (IsMadeWith c.args.codec c.args.rows) c.args.disk.now c.write_beside.new.disk c.publish.new.disk
     written (made.old told) (c.in-Ok.ensures.reads told)))
     (made.own_draws told tell written.file written.is)
 
@@ -27,12 +29,12 @@ pub returns-in-Ok-clause-any_moment : goal.returns-in-Ok-clause-any_moment
 returns-in-Ok-clause-any_moment g c told =
     let disk = g.D.Disk in
     let made = c.in_ok-made.ensures in
-    inr (may_take disk.reads disk.images disk.moment disk.since g.met.D.Disk.only_now g.met.D.Disk.counts_now c.args.codec c.args.rows c.args.disk.now c.write_beside.new.disk c.publish.new.disk
+    inr (may_take disk.reads disk.images disk.moment disk.since g.met.D.Disk.only_now g.met.D.Disk.counts_now (IsMadeWith c.args.codec c.args.rows) c.args.disk.now c.write_beside.new.disk c.publish.new.disk
     (made.beside told) (made.old told) (c.in-Ok.ensures.any_moment told))
 
 pub returns-in-Err-clause-any_moment : goal.returns-in-Err-clause-any_moment
 returns-in-Err-clause-any_moment g c told =
     let disk = g.D.Disk in
     let made = c.in_ok-made.ensures in
-    inr (may_take disk.reads disk.images disk.moment disk.since g.met.D.Disk.only_now g.met.D.Disk.counts_now c.args.codec c.args.rows c.args.disk.now c.write_beside.new.disk c.publish.new.disk
+    inr (may_take disk.reads disk.images disk.moment disk.since g.met.D.Disk.only_now g.met.D.Disk.counts_now (IsMadeWith c.args.codec c.args.rows) c.args.disk.now c.write_beside.new.disk c.publish.new.disk
     (made.beside told) (made.old told) (c.publish.ensures.any_moment told))

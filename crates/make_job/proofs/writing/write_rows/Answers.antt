@@ -1,9 +1,19 @@
-use Rattle.std.proofs.Common.{rules, ◌∙◌, length}
+use Rattle.std.proofs.Common.{◌≡◌, ◌<◌, ℕ, rules, subst, ◌∙◌, length}
+use Rattle.cipher_profile.specs.Profile.{usable}
+use Rattle.db_maker.specs.Pages.{made_pages}
+use Rattle.fresh_file.specs.State.{most_pages}
+use Rattle.page_codec.specs.Page.{FileKeys}
 use Rattle.make_job.proofs.MadeLaws.{drawn_for, written}
 use Rattle.make_job.proofs.writing.write_rows.Goals as goal
 
 pub returns-in_err-made-clause-limit : goal.returns-in_err-made-clause-limit
-returns-in_err-made-clause-limit g c limit is = c.fill_state.ensures.limit limit (search rules) ∙ c.in-Ok.ensures.limit
+returns-in_err-made-clause-limit g c limit is =
+    let told = c.fill_state.ensures.limit limit (search rules) in
+    let at_most : limit ≡ most_pages c.args.codec.profile = told.0 ∙ c.in-Ok.ensures.limit in (
+      at_most,
+      subst (λ (k : FileKeys). most_pages c.args.codec.profile < made_pages (usable k.profile) c.args.rows) c.in-Ok.ensures.codec
+          (subst (λ (m : ℕ). m < made_pages (usable c.in-Ok.state.codec.profile) c.args.rows) at_most told.1),
+    )
 
 pub returns-in-Ok-finish-clause-written : goal.returns-in-Ok-finish-clause-written
 returns-in-Ok-finish-clause-written g c told =
@@ -12,7 +22,7 @@ returns-in-Ok-finish-clause-written g c told =
     let filled = c.in_ok-made.ensures in
     let well = filled.well start (c.in-Ok.ensures.well told) in
     written c.args.codec _ c.fill_state.new.state c.args.rows start side.draws_tell (side.fresh c.fill_state.new.side) _ _ (search rules) (filled.same.0 ∙ c.in-Ok.ensures.codec)
-    (filled.same.1 ∙ c.in-Ok.ensures.limit) (search rules) (c.in-Ok-finish.ensures.file start well)
+    (filled.same.1 ∙ c.in-Ok.ensures.limit) (search rules) (c.in-Ok-finish.ensures.file start well) c.finish.ensures.reads_back
     (filled.made start (c.in-Ok.ensures.well told))
 
 pub returns-in-Ok-finish-clause-own_draws : goal.returns-in-Ok-finish-clause-own_draws

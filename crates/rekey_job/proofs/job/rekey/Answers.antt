@@ -1,4 +1,4 @@
-use Rattle.std.proofs.Common.{◌≡◌, inl, ◌≤◌, ℕ, true, false, length, drop, Err, refl, sym, ap, subst, ◌∙◌, arith, rules}
+use Rattle.std.proofs.Common.{◌≡◌, inl, ◌≤◌, ℕ, true, false, length, drop, Err, refl, sym, ap, subst, ◌∙◌, rules}
 use Rattle.edge_model.specs.Causes.{Rose}
 use Rattle.edge_model.specs.Images.{Each, From, LeavesOnly}
 use Rattle.edge_model.specs.Moments.{and_then, then_from, weaker}
@@ -18,15 +18,9 @@ use Rattle.transaction.specs.Facts.{IsBegun, SameFresh}
 use Rattle.rekey_job.specs.Rekeyed.{AreOwnDraws, IsRekeyed}
 use Rattle.rekey_job.specs.Stops.{AreClean}
 use Rattle.rekey_job.specs.declared.error.RekeyError.{RekeyError}
-use Rattle.rekey_job.specs.declared.error.RekeyError.TheVariants.{LayoutDiffers, DiskFault, EntropyFault}
+use Rattle.rekey_job.specs.declared.error.RekeyError.TheVariants.{DiskFault}
 use Rattle.rekey_job.proofs.Committed.{by_names, late_show, late_unwritten, read_begun, same_error, then_changed, while_read}
 use Rattle.rekey_job.proofs.job.rekey.Goals as goal
-
-pub returns-in-Ok-clause-disk : goal.returns-in-Ok-clause-disk
-returns-in-Ok-clause-disk g c = c.rekey_clean.ensures.disk ∙ c.check_pages.ensures.disk.same
-
-pub returns-in-Ok-clause-entropy : goal.returns-in-Ok-clause-entropy
-returns-in-Ok-clause-entropy g c = c.rekey_clean.ensures.entropy ∙ c.check_pages.ensures.entropy.same
 
 pub returns-in-Ok-clause-rekeyed : goal.returns-in-Ok-clause-rekeyed
 returns-in-Ok-clause-rekeyed g c =
@@ -54,9 +48,6 @@ returns-in-Ok-clause-new g c =
     let file = c.check_pages.ensures.file in
     ok_map c.rekey_clean.result.2 c.rekey_clean.ensures.new (λ new told. by_names (λ k f n. Each (g.D.Disk.images end) (IsCommitted (base_of k f n) (main_of (g.D.Disk.reads end))))
     p.codec q.codec (g.D.Disk.reads p.disk.now) (g.D.Disk.reads q.disk.now) p.count q.count file.0 (c.check_pages.ensures.disk.only_read told).stays file.1 (new told))
-
-pub returns-in-Ok-clause-clean : goal.returns-in-Ok-clause-clean
-returns-in-Ok-clause-clean g c = ok_map c.rekey_clean.result.2 c.rekey_clean.ensures.rekeyed (λ is. c.in-Ok.ensures.clean)
 
 pub returns-in-Ok-clause-any_moment : goal.returns-in-Ok-clause-any_moment
 returns-in-Ok-clause-any_moment g c told =
@@ -107,9 +98,6 @@ returns-in-Ok-clause-fresh g c told =
     (while_read d.reads d.images d.moment d.since g.met.D.Disk.counts_now g.met.D.Disk.only_now (From SameFresh (d.images p.disk.now)) p.disk.now c.check_pages.new.pager.disk.now (λ image now. (image, now, refl))
     (c.check_pages.ensures.disk.only_read told)) (c.rekey_clean.ensures.fresh told)
 
-pub returns-in-Ok-clause-layout : goal.returns-in-Ok-clause-layout
-returns-in-Ok-clause-layout g c is = absurd (c.rekey_clean.ensures.layout is)
-
 pub returns-in-Ok-clause-shown : goal.returns-in-Ok-clause-shown
 returns-in-Ok-clause-shown g c =
     let p = c.args.pager in
@@ -124,22 +112,13 @@ returns-in-Ok-clause-unwritten g c =
     let same = c.rekey_clean.ensures.unwritten is told in
     (subst (λ (x : _). OnlyRead d.reads d.images d.moment d.since p.disk.now x) (sym same.0) (c.check_pages.ensures.disk.only_read told), same.1 ∙ c.check_pages.ensures.entropy.value))
 
-pub returns-in-Ok-clause-disk_fault : goal.returns-in-Ok-clause-disk_fault
-returns-in-Ok-clause-disk_fault g c is = omega (arith, c.rekey_clean.ensures.disk_fault is, c.check_pages.ensures.disk.later)
-
 pub returns-in-Ok-clause-entropy_fault : goal.returns-in-Ok-clause-entropy_fault
 returns-in-Ok-clause-entropy_fault g c is =
     subst (λ (e : _). Rose (g.E.Entropy.faults e) (g.E.Entropy.faults c.rekey_clean.result.1.now)) c.check_pages.ensures.entropy.value (c.rekey_clean.ensures.entropy_fault is)
 
-pub returns-in-Ok-clause-disk_later : goal.returns-in-Ok-clause-disk_later
-returns-in-Ok-clause-disk_later g c = omega (arith, c.check_pages.ensures.disk.later, c.rekey_clean.ensures.disk_later)
-
 pub returns-in-Ok-clause-entropy_later : goal.returns-in-Ok-clause-entropy_later
 returns-in-Ok-clause-entropy_later g c =
     subst (λ (e : _). g.E.Entropy.faults e ≤ g.E.Entropy.faults c.rekey_clean.result.1.now) c.check_pages.ensures.entropy.value c.rekey_clean.ensures.entropy_later
-
-pub check_pages-requires : goal.check_pages-requires
-check_pages-requires g c = record { unpinned = c.requires.unpinned; header = c.requires.header }
 
 pub rekey_clean-requires : goal.rekey_clean-requires
 rekey_clean-requires g c =
@@ -166,30 +145,6 @@ returns-in-Ok-clause-differs g c other =
     let yes : same_layout c.args.pager.codec c.args.write ≡ true = search (rules, c.codec.ensures, c.is_same_layout.ensures, c.if-not-is_same_layout.false) in
     let never : true ≡ false = sym yes ∙ other in cc
 
-pub returns-in-Err-clause-disk : goal.returns-in-Err-clause-disk
-returns-in-Err-clause-disk g c = c.into_parts-disk-in-Err.ensures.disk.0 ∙ c.check_pages.ensures.disk.same
-
-pub returns-in-Err-clause-entropy : goal.returns-in-Err-clause-entropy
-returns-in-Err-clause-entropy g c = c.into_parts-disk-in-Err.ensures.entropy.0 ∙ c.check_pages.ensures.entropy.same
-
-pub returns-in-Err-clause-rekeyed : goal.returns-in-Err-clause-rekeyed
-returns-in-Err-clause-rekeyed g c = tt
-
-pub returns-in-Err-clause-own_draws : goal.returns-in-Err-clause-own_draws
-returns-in-Err-clause-own_draws g c = tt
-
-pub returns-in-Err-clause-new : goal.returns-in-Err-clause-new
-returns-in-Err-clause-new g c = tt
-
-pub returns-in-Err-clause-clean : goal.returns-in-Err-clause-clean
-returns-in-Err-clause-clean g c = tt
-
-pub returns-in-Err-clause-one_new : goal.returns-in-Err-clause-one_new
-returns-in-Err-clause-one_new g c = tt
-
-pub returns-in-Err-clause-layout : goal.returns-in-Err-clause-layout
-returns-in-Err-clause-layout g c is = absurd (c.in-Err.ensures.reading.0 (same_error c.in-Err.error LayoutDiffers is))
-
 pub returns-in-Err-clause-differs : goal.returns-in-Err-clause-differs
 returns-in-Err-clause-differs g c other =
     let yes : same_layout c.args.pager.codec c.args.write ≡ true = search (rules, c.codec.ensures, c.is_same_layout.ensures, c.if-not-is_same_layout.false) in
@@ -202,18 +157,12 @@ returns-in-Err-clause-any_moment g c told =
     inl (subst (λ (x : _). LeavesOnly d.moment d.since p.disk.now x (HoldsOld (base_of p.codec (main_of (d.reads p.disk.now)) p.count))) (sym c.into_parts-disk-in-Err.ensures.disk.1)
     (while_read d.reads d.images d.moment d.since g.met.D.Disk.counts_now g.met.D.Disk.only_now (HoldsOld (base_of p.codec (main_of (d.reads p.disk.now)) p.count)) p.disk.now c.check_pages.new.pager.disk.now (c.requires.begun told).holds (c.check_pages.ensures.disk.only_read told)))
 
-pub returns-in-Err-clause-only_old : goal.returns-in-Err-clause-only_old
-returns-in-Err-clause-only_old g c is = absurd (c.in-Err.ensures.reading.1 (same_error c.in-Err.error EntropyFault is))
-
 pub returns-in-Err-clause-fresh : goal.returns-in-Err-clause-fresh
 returns-in-Err-clause-fresh g c told =
     let d = g.D.Disk in
     let p = c.args.pager in
     subst (λ (x : _). LeavesOnly d.moment d.since p.disk.now x (From SameFresh (d.images p.disk.now))) (sym c.into_parts-disk-in-Err.ensures.disk.1)
     (while_read d.reads d.images d.moment d.since g.met.D.Disk.counts_now g.met.D.Disk.only_now (From SameFresh (d.images p.disk.now)) p.disk.now c.check_pages.new.pager.disk.now (λ image now. (image, now, refl)) (c.check_pages.ensures.disk.only_read told))
-
-pub returns-in-Err-clause-shown : goal.returns-in-Err-clause-shown
-returns-in-Err-clause-shown g c = c.in-Err.ensures.shown
 
 pub returns-in-Err-clause-unwritten : goal.returns-in-Err-clause-unwritten
 returns-in-Err-clause-unwritten g c is told =
@@ -226,45 +175,12 @@ returns-in-Err-clause-unwritten g c is told =
 pub returns-in-Err-clause-disk_fault : goal.returns-in-Err-clause-disk_fault
 returns-in-Err-clause-disk_fault g c is = subst (λ (x : _). Rose (g.D.Disk.faults c.args.pager.disk.now) (g.D.Disk.faults x)) (sym c.into_parts-disk-in-Err.ensures.disk.1) (c.in-Err.ensures.fault (ap (λ (e : RekeyError). Err e) (same_error c.in-Err.error DiskFault is)))
 
-pub returns-in-Err-clause-entropy_fault : goal.returns-in-Err-clause-entropy_fault
-returns-in-Err-clause-entropy_fault g c is = absurd (c.in-Err.ensures.reading.1 (same_error c.in-Err.error EntropyFault is))
-
-pub returns-in-Err-clause-disk_later : goal.returns-in-Err-clause-disk_later
-returns-in-Err-clause-disk_later g c = subst (λ (x : _). g.D.Disk.faults c.args.pager.disk.now ≤ g.D.Disk.faults x) (sym c.into_parts-disk-in-Err.ensures.disk.1) c.check_pages.ensures.disk.later
-
-pub returns-in-Err-clause-entropy_later : goal.returns-in-Err-clause-entropy_later
-returns-in-Err-clause-entropy_later g c = subst (λ (x : _). g.E.Entropy.faults c.args.pager.entropy.now ≤ g.E.Entropy.faults x) (sym (c.into_parts-disk-in-Err.ensures.entropy.1 ∙ c.check_pages.ensures.entropy.value)) (omega arith)
-
-pub returns-then-not-is_same_layout-clause-disk : goal.returns-then-not-is_same_layout-clause-disk
-returns-then-not-is_same_layout-clause-disk g c = c.into_parts-disk.ensures.disk.0
-
-pub returns-then-not-is_same_layout-clause-entropy : goal.returns-then-not-is_same_layout-clause-entropy
-returns-then-not-is_same_layout-clause-entropy g c = c.into_parts-disk.ensures.entropy.0
-
-pub returns-then-not-is_same_layout-clause-rekeyed : goal.returns-then-not-is_same_layout-clause-rekeyed
-returns-then-not-is_same_layout-clause-rekeyed g c = tt
-
-pub returns-then-not-is_same_layout-clause-own_draws : goal.returns-then-not-is_same_layout-clause-own_draws
-returns-then-not-is_same_layout-clause-own_draws g c = tt
-
-pub returns-then-not-is_same_layout-clause-new : goal.returns-then-not-is_same_layout-clause-new
-returns-then-not-is_same_layout-clause-new g c = tt
-
-pub returns-then-not-is_same_layout-clause-clean : goal.returns-then-not-is_same_layout-clause-clean
-returns-then-not-is_same_layout-clause-clean g c = tt
-
-pub returns-then-not-is_same_layout-clause-one_new : goal.returns-then-not-is_same_layout-clause-one_new
-returns-then-not-is_same_layout-clause-one_new g c = tt
-
 pub returns-then-not-is_same_layout-clause-any_moment : goal.returns-then-not-is_same_layout-clause-any_moment
 returns-then-not-is_same_layout-clause-any_moment g c told =
     let d = g.D.Disk in
     let p = c.args.pager in
     inl (subst (λ (x : _). LeavesOnly d.moment d.since p.disk.now x (HoldsOld (base_of p.codec (main_of (d.reads p.disk.now)) p.count))) (sym c.into_parts-disk.ensures.disk.1)
     (while_read d.reads d.images d.moment d.since g.met.D.Disk.counts_now g.met.D.Disk.only_now (HoldsOld (base_of p.codec (main_of (d.reads p.disk.now)) p.count)) p.disk.now p.disk.now (c.requires.begun told).holds (not_read p.disk.now)))
-
-pub returns-then-not-is_same_layout-clause-only_old : goal.returns-then-not-is_same_layout-clause-only_old
-returns-then-not-is_same_layout-clause-only_old g c is = cc
 
 pub returns-then-not-is_same_layout-clause-fresh : goal.returns-then-not-is_same_layout-clause-fresh
 returns-then-not-is_same_layout-clause-fresh g c told =
@@ -273,29 +189,8 @@ returns-then-not-is_same_layout-clause-fresh g c told =
     subst (λ (x : _). LeavesOnly d.moment d.since p.disk.now x (From SameFresh (d.images p.disk.now))) (sym c.into_parts-disk.ensures.disk.1)
     (while_read d.reads d.images d.moment d.since g.met.D.Disk.counts_now g.met.D.Disk.only_now (From SameFresh (d.images p.disk.now)) p.disk.now p.disk.now (λ image now. (image, now, refl)) (not_read p.disk.now))
 
-pub returns-then-not-is_same_layout-clause-layout : goal.returns-then-not-is_same_layout-clause-layout
-returns-then-not-is_same_layout-clause-layout g c is = search (rules, c.codec.ensures, c.is_same_layout.ensures, c.if-not-is_same_layout.true)
-
-pub returns-then-not-is_same_layout-clause-differs : goal.returns-then-not-is_same_layout-clause-differs
-returns-then-not-is_same_layout-clause-differs g c other = (refl, c.into_parts-disk.ensures.disk.1, c.into_parts-disk.ensures.entropy.1)
-
-pub returns-then-not-is_same_layout-clause-shown : goal.returns-then-not-is_same_layout-clause-shown
-returns-then-not-is_same_layout-clause-shown g c told = tt
-
 pub returns-then-not-is_same_layout-clause-unwritten : goal.returns-then-not-is_same_layout-clause-unwritten
 returns-then-not-is_same_layout-clause-unwritten g c is told =
     let d = g.D.Disk in
     let p = c.args.pager in
     (subst (λ (x : _). OnlyRead d.reads d.images d.moment d.since p.disk.now x) (sym c.into_parts-disk.ensures.disk.1) (not_read p.disk.now), c.into_parts-disk.ensures.entropy.1)
-
-pub returns-then-not-is_same_layout-clause-disk_fault : goal.returns-then-not-is_same_layout-clause-disk_fault
-returns-then-not-is_same_layout-clause-disk_fault g c is = cc
-
-pub returns-then-not-is_same_layout-clause-entropy_fault : goal.returns-then-not-is_same_layout-clause-entropy_fault
-returns-then-not-is_same_layout-clause-entropy_fault g c is = cc
-
-pub returns-then-not-is_same_layout-clause-disk_later : goal.returns-then-not-is_same_layout-clause-disk_later
-returns-then-not-is_same_layout-clause-disk_later g c = subst (λ (x : _). g.D.Disk.faults c.args.pager.disk.now ≤ g.D.Disk.faults x) (sym c.into_parts-disk.ensures.disk.1) (omega arith)
-
-pub returns-then-not-is_same_layout-clause-entropy_later : goal.returns-then-not-is_same_layout-clause-entropy_later
-returns-then-not-is_same_layout-clause-entropy_later g c = subst (λ (x : _). g.E.Entropy.faults c.args.pager.entropy.now ≤ g.E.Entropy.faults x) (sym c.into_parts-disk.ensures.entropy.1) (omega arith)

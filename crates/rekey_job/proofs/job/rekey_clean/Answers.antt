@@ -35,12 +35,6 @@ rewrite_pages-requires g c κs within =
       ),
     )
 
-pub returns-clause-disk : goal.returns-clause-disk
-returns-clause-disk g c = c.rewrite_pages.ensures.disk
-
-pub returns-clause-entropy : goal.returns-clause-entropy
-returns-clause-entropy g c = c.rewrite_pages.ensures.entropy
-
 pub returns-clause-rekeyed : goal.returns-clause-rekeyed
 returns-clause-rekeyed g c =
     let p = c.args.pager in
@@ -85,27 +79,3 @@ pub returns-clause-only_old : goal.returns-clause-only_old
 returns-clause-only_old g c is told =
     let p = c.args.pager in
     told_old g.D.Disk.tells p.codec p.count (main_of (g.D.Disk.reads p.disk.now)) g.D.Disk.moment g.D.Disk.since p.disk.now c.rewrite_pages.result.0.now told (c.rewrite_pages.ensures.only_old is told)
-
-pub returns-clause-fresh : goal.returns-clause-fresh
-returns-clause-fresh g c = c.rewrite_pages.ensures.fresh
-
-pub returns-clause-unwritten : goal.returns-clause-unwritten
-returns-clause-unwritten g c = c.rewrite_pages.ensures.unwritten
-
-pub returns-clause-layout : goal.returns-clause-layout
-returns-clause-layout g c = c.rewrite_pages.ensures.layout
-
-pub returns-clause-late : goal.returns-clause-late
-returns-clause-late g c = c.rewrite_pages.ensures.late
-
-pub returns-clause-disk_fault : goal.returns-clause-disk_fault
-returns-clause-disk_fault g c = c.rewrite_pages.ensures.disk_fault
-
-pub returns-clause-entropy_fault : goal.returns-clause-entropy_fault
-returns-clause-entropy_fault g c = c.rewrite_pages.ensures.entropy_fault
-
-pub returns-clause-disk_later : goal.returns-clause-disk_later
-returns-clause-disk_later g c = c.rewrite_pages.ensures.disk_later
-
-pub returns-clause-entropy_later : goal.returns-clause-entropy_later
-returns-clause-entropy_later g c = c.rewrite_pages.ensures.entropy_later

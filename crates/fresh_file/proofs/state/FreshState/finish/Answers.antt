@@ -1,6 +1,8 @@
-use Rattle.std.proofs.Common.{◌+◌, arith, rules}
+use Rattle.std.proofs.Common.{◌≡◌, ◌+◌, ℕ, List, Ok, arith, rules, subst}
 use Rattle.cipher_profile.specs.Profile.{usable}
+use Rattle.db_format.specs.Header.{header_read}
 use Rattle.db_format.specs.Seen.{marked}
+use Rattle.fresh_file.specs.Fresh.{sized}
 use Rattle.fresh_file.specs.State.{pages_of}
 use Rattle.fresh_file.proofs.FreshLaws.{all_marked, finished}
 use Rattle.fresh_file.proofs.state.FreshState.finish.Goals as goal
@@ -23,3 +25,8 @@ returns-clause-file g c start was =
     (search arith)
     (c.sync_side.ensures.same was.told)
     c.sync_side.ensures.drawn
+
+pub returns-clause-reads_back : goal.returns-clause-reads_back
+returns-clause-reads_back g c =
+    let header = c.args.header.now in
+    subst (λ (bytes : List ℕ). header_read bytes header.page_size header.reserve ≡ Ok (sized header (c.args.self.now.taken + 1))) c.write_header.ensures.bytes c.write_header.ensures.reads_back

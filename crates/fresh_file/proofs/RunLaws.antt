@@ -6,7 +6,7 @@ use Rattle.edge_model.specs.Moments.{and_then, at_exit, goes_less, weaker}
 use Rattle.edge_model.specs.OnlyRead.{OnlyRead}
 use Rattle.disk_side.specs.OnlyFresh.{only_fresh_joins, run_joins, run_stays}
 use Rattle.disk_side.specs.Published.{IsOldOrPublished, IsPublished}
-use Rattle.make_job.specs.Published.{TakesPlace, LeavesOld, MayTakePlace}
+use Rattle.disk_side.specs.Place.{TakesPlace, LeavesOld, MayTakePlace}
 
 -- what follows from what is said of an error, of the same answer
 err_gives : {T E : Type 0} (P Q : E → Type 0) (r : Result T E) → ((e : E) → P e → Q e) → IfErr r P → IfErr r Q

@@ -11,8 +11,8 @@ use Rattle.fresh_file.specs.Sealed.{IsSealedWith}
 use Rattle.pager.specs.File.{whole_pages}
 use Rattle.pager.specs.Pages.{is_number}
 use Rattle.transaction.specs.Draws.{OwnDraws}
-use Rattle.make_job.specs.Made.{HasOwnDraws, IsMade, IsMadeUnder}
-use Rattle.make_job.specs.Written.{AreOwnDraws, IsMadeWith}
+use Rattle.fresh_file.specs.Draws.{AreOwnDraws, HasOwnDraws}
+use Rattle.fresh_file.specs.Beside.{IsSalted}
 
 -- the keys that the secret gives with this salt
 abbrev pub keys_with : Profile → Secret → List ℕ → FileKeys
@@ -23,9 +23,10 @@ pub keys_are : (profile : Profile) (secret : Secret) (salt file : List ℕ) (key
 keys_are profile secret salt file keys is begins =
     is ∙ ap (λ (l : List ℕ). keys_with profile secret l) (sym (begins ∙ ap (λ (k : FileKeys). k.salt) is))
 
-pub made_as : (profile : Profile) (secret : Secret) (salt : List ℕ) (rows : ℕ) (keys : FileKeys) → keys ≡ keys_with profile secret salt
-    → (file : List ℕ) → IsMadeWith keys rows file → IsMade profile secret rows file
-made_as profile secret salt rows keys is file made = subst (λ (k : FileKeys). IsMadeUnder k rows file) (keys_are profile secret salt file keys is made.salt) made.made
+-- what is said under the keys of a file's salt is said under those that the secret gives for it
+pub told_as : (profile : Profile) (secret : Secret) (salt : List ℕ) (is_under : FileKeys → List ℕ → Type 0) (keys : FileKeys) → keys ≡ keys_with profile secret salt
+    → (file : List ℕ) → IsSalted keys (is_under keys) file → is_under (keys_of profile secret file) file
+told_as profile secret salt is_under keys is file salted = subst (λ (k : FileKeys). is_under k file) (keys_are profile secret salt file keys is salted.salt) salted.is_new
 
 -- ---- draws, without those from before
 
@@ -79,5 +80,5 @@ drawn_with keys file salt before mid after long is begins drew grown own = recor
     all_is = after_is ∙ ap (λ (l : List ℕ). before ++ l) (sym drawn_is)
 
 -- a file that is that one begins with its salt
-pub salt_is : (keys : FileKeys) (rows : ℕ) (main file : List ℕ) → main ≡ file → IsMadeWith keys rows file → salt_of main ≡ keys.salt
-salt_is keys rows main file is made = ap (λ (l : List ℕ). salt_of l) is ∙ made.salt
+pub salt_is : (keys : FileKeys) (is_new : List ℕ → Type 0) (main file : List ℕ) → main ≡ file → IsSalted keys is_new file → salt_of main ≡ keys.salt
+salt_is keys is_new main file is salted = ap (λ (l : List ℕ). salt_of l) is ∙ salted.salt

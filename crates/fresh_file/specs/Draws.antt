@@ -1,0 +1,20 @@
+-- The bytes that the pages of a whole new file were sealed with.
+use Rattle.std.specs.Prelude.{◌≡◌, ◌≤◌, ◌/◌, ◌&&◌, ℕ, nat_le, List, length, take}
+use Rattle.db_format.specs.Pages.{Test}
+use Rattle.page_codec.specs.Page.{FileKeys, salt_of}
+use Rattle.transaction.specs.Draws.{OwnDraws}
+use Rattle.fresh_file.specs.Sealed.{IsSealedWith}
+
+-- the number of a page of the file
+abbrev pub is_page_of : FileKeys → List ℕ → Test
+is_page_of keys file n = nat_le 1 n && nat_le n (length file / keys.profile.page_size)
+
+-- each page of the file was sealed with bytes of its own of those that were drawn, but for the first so many
+abbrev pub AreOwnDraws : FileKeys → List ℕ → ℕ → List ℕ → Type 0
+AreOwnDraws keys file from drawn = OwnDraws keys.profile.reserve from drawn (is_page_of keys file) (IsSealedWith keys file)
+
+-- The salt is the first 16 bytes that were drawn, and each page was sealed with bytes of its own of those after them.
+pub record HasOwnDraws (keys : FileKeys) (file drawn : List ℕ) : Type 0 where
+  pub enough : 16 ≤ length drawn
+  pub salt : salt_of file ≡ take 16 drawn
+  pub pages : AreOwnDraws keys file 16 drawn
