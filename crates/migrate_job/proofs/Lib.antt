@@ -1,0 +1,17 @@
+pub mod AskedLaws
+pub mod BeforeLaws
+pub mod BesideLaws
+pub mod BoundLaws
+pub mod CheckedLaws
+pub mod CopiedLaws
+pub mod CopyLaws
+pub mod EntryLaws
+pub mod FamilyLaws
+pub mod FewLaws
+pub mod FirstLaws
+pub mod HeldLaws
+pub mod LoadLaws
+pub mod MigratedLaws
+pub mod RowLaws
+pub mod SoundRows
+pub mod TargetLaws

@@ -1,0 +1,12 @@
+use Rattle.std.proofs.Common.{subst, sym}
+use Rattle.migrate_job.specs.Stops.{IsFoundEarly}
+use Rattle.migrate_job.proofs.CheckedLaws.{found_early}
+use Rattle.pager.specs.File.{main_of}
+use Rattle.pager.specs.Pages.{opened_pages}
+use Rattle.migrate_job.proofs.checking.check_database.Goals as goal
+
+pub returns-in-Err-clause-found : goal.returns-in-Err-clause-found
+returns-in-Err-clause-found g c told =
+    let p = c.args.pager.now in
+    let pages = opened_pages p.codec (main_of (g.D.Disk.reads p.disk.now)) p.count in
+    subst (λ e. IsFoundEarly pages e) (sym c.walk_error.ensures) (found_early g.D.Disk.tells pages c.in-Err.error told (c.in-Err.ensures.found told))
