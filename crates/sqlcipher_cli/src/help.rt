@@ -3,8 +3,9 @@
 /// The text of `--help`.
 pub const HELP: &str = "\
 sqlcipher-tool checks SQLCipher database files, plays back the journal that a stop
-has left, sets two numbers of their header, and changes their key. It writes nothing
-else to them. It also makes databases of any number of rows.
+has left, sets two numbers of their header, changes their key, and writes their
+database anew in another version. It writes nothing else to them. It also makes
+databases of any number of rows.
 
 usage: sqlcipher-tool FILE COMMAND [PROFILE [PROFILE | N | FIELD N]] < KEYS
        sqlcipher-tool --help | --version
@@ -31,6 +32,10 @@ commands
                   the same size and reserve (the file's own, or 2 and 3); prints
                   `rekeyed: N pages`. A stop at any moment leaves the file under
                   the old key or under the new one
+  migrate PROFILE PROFILE
+                  write the database anew in the second profile, under the second
+                  key, and put it in the file's place; prints `migrated: N pages`.
+                  A stop at any moment leaves the old file or the new one
   make PROFILE N  make a database of N rows, at most 4294967295, where there is
                   neither a file nor a journal; prints `made: N rows, B data bytes`.
                   A stop at any moment leaves no file or the whole one
@@ -38,8 +43,8 @@ commands
 profiles
   1, 2, 3, 4      the version of SQLCipher that wrote the file (1 has no tags)
 
-standard input: one line, the key, but for `recover`; for `rekey` two, the old
-key and the new one
+standard input: one line, the key, but for `recover`; for `rekey` and `migrate`
+two, the old key and the new one
   x'HEX'          a raw key, 64 hex digits
   anything else   a passphrase, 1 to 1,024 bytes up to the line feed
 
@@ -60,6 +65,7 @@ examples, on a file FILE
   sqlcipher-tool FILE probe < KEYFILE
   IFS= read -rs KEY && printf '%s\\n' \"$KEY\" | sqlcipher-tool FILE tags 4
   cat OLD_KEYFILE NEW_KEYFILE | sqlcipher-tool FILE rekey 4 4
+  cat KEYFILE KEYFILE | sqlcipher-tool FILE migrate 3 4
 ";
 
 /// The text of `--version`.

@@ -13,7 +13,7 @@ use Rattle.sqlcipher_tool.specs.Answer.{Answer, IsAnswer, IsAnswered, IsFault, I
 use Rattle.sqlcipher_tool.specs.Crash.{KeepsHeld}
 use Rattle.sqlcipher_tool.specs.Due.{and_secrets, key_answer, key_lines, keyed_answers, secret_answers}
 use Rattle.sqlcipher_tool.specs.declared.command.Command.{Command}
-use Rattle.sqlcipher_tool.specs.declared.command.Command.TheVariants.{Tags, Header, Verify, Export, Probe, Recover, Stamp, Rekey, Make}
+use Rattle.sqlcipher_tool.specs.declared.command.Command.TheVariants.{Tags, Header, Verify, Export, Probe, Recover, Stamp, Rekey, Migrate, Make}
 use Rattle.sqlcipher_tool.specs.declared.job.Job.TheVariants.{Verify as VerifyPages, Export as ExportPages}
 use Rattle.sqlcipher_tool.specs.declared.status.Status.{Status}
 use Rattle.sqlcipher_tool.specs.declared.status.Status.TheVariants.{Done, Usage, Refused, KeyRefused, DiskFault, OutputFault, InputFault, EntropyFault, OutOfMemory}
@@ -22,7 +22,7 @@ use Rattle.sqlcipher_tool.specs.Promises.{AnswersOne, IsAnsweredEarly, PutsSo, T
 use Rattle.sqlcipher_tool.specs.Recovered.{recovered_main, recovery_of}
 use Rattle.sqlcipher_tool.specs.Words.{keys_taken}
 use Rattle.sqlcipher_tool.proofs.Conclusions.{no_part}
-use Rattle.sqlcipher_tool.proofs.SomeDue.{after_some, make_some, recovered_some, rekeyed_some}
+use Rattle.sqlcipher_tool.proofs.SomeDue.{after_some, make_some, migrated_some, recovered_some, rekeyed_some}
 
 -- what was printed of the answer
 puts_so : (status : Status) (answer : Answer) (before after : List ℕ) → Puts status answer.text before after
@@ -114,7 +114,7 @@ rest_same : (one other : Secret) (xs ys : List Secret) → keys_ok (one ∷ xs) 
 rest_same one other xs ys is = cc
 
 -- so many key lines give so many secrets
-lines_many : (n : ℕ) (left : List ℕ) (secrets : List Secret) → key_lines n left ≡ Ok secrets → length secrets ≡ n
+pub lines_many : (n : ℕ) (left : List ℕ) (secrets : List Secret) → key_lines n left ≡ Ok secrets → length secrets ≡ n
 lines_many zero left secrets is = by_list secrets is
   where
     by_list : (secrets : List Secret) → key_lines zero left ≡ Ok secrets → length secrets ≡ 0
@@ -133,66 +133,69 @@ lines_many (suc more) left secrets is = by_line (key_line left) (key_lines more 
     by_line (Ok secret) (Ok others) many secrets is = by_list secret others secrets (many others refl) is
 
 -- some answer is due to as many secrets as the command takes
-secrets_due : (command : Command) (secrets : List Secret) (files : Files) → length secrets ≡ keys_taken command → 0 < length (secret_answers command secrets files)
-secrets_due (Tags profile) [] files is = absurd (omega (arith, is))
-secrets_due (Tags profile) (secret ∷ rest) files is = omega arith
-secrets_due (Header profile) [] files is = absurd (omega (arith, is))
-secrets_due (Header profile) (secret ∷ rest) files is = omega arith
-secrets_due (Verify profile) [] files is = absurd (omega (arith, is))
-secrets_due (Verify profile) (secret ∷ rest) files is = recovered_some VerifyPages profile secret files
-secrets_due (Export profile) [] files is = absurd (omega (arith, is))
-secrets_due (Export profile) (secret ∷ rest) files is = recovered_some ExportPages profile secret files
-secrets_due Probe [] files is = absurd (omega (arith, is))
-secrets_due Probe (secret ∷ rest) files is = omega arith
-secrets_due (Recover profile) secrets files is = omega arith
-secrets_due (Stamp profile field value) [] files is = absurd (omega (arith, is))
-secrets_due (Stamp profile field value) (secret ∷ rest) files is = after_some (recovery_of profile files) _ (omega arith)
-secrets_due (Rekey old new) [] files is = absurd (omega (arith, is))
-secrets_due (Rekey old new) (first ∷ []) files is = absurd (omega (arith, is))
-secrets_due (Rekey old new) (first ∷ second ∷ rest) files is = after_some (recovery_of old files) _ (rekeyed_some old first (recovered_main old files))
-secrets_due (Make profile rows) [] files is = absurd (omega (arith, is))
-secrets_due (Make profile rows) (secret ∷ rest) files is = make_some profile rows files
+secrets_due : (command : Command) (secrets : List Secret) (files last : Files) → length secrets ≡ keys_taken command → 0 < length (secret_answers command secrets files last)
+secrets_due (Tags profile) [] files last is = absurd (omega (arith, is))
+secrets_due (Tags profile) (secret ∷ rest) files last is = omega arith
+secrets_due (Header profile) [] files last is = absurd (omega (arith, is))
+secrets_due (Header profile) (secret ∷ rest) files last is = omega arith
+secrets_due (Verify profile) [] files last is = absurd (omega (arith, is))
+secrets_due (Verify profile) (secret ∷ rest) files last is = recovered_some VerifyPages profile secret files
+secrets_due (Export profile) [] files last is = absurd (omega (arith, is))
+secrets_due (Export profile) (secret ∷ rest) files last is = recovered_some ExportPages profile secret files
+secrets_due Probe [] files last is = absurd (omega (arith, is))
+secrets_due Probe (secret ∷ rest) files last is = omega arith
+secrets_due (Recover profile) secrets files last is = omega arith
+secrets_due (Stamp profile field value) [] files last is = absurd (omega (arith, is))
+secrets_due (Stamp profile field value) (secret ∷ rest) files last is = after_some (recovery_of profile files) _ (omega arith)
+secrets_due (Rekey old new) [] files last is = absurd (omega (arith, is))
+secrets_due (Rekey old new) (first ∷ []) files last is = absurd (omega (arith, is))
+secrets_due (Rekey old new) (first ∷ second ∷ rest) files last is = after_some (recovery_of old files) _ (rekeyed_some old first (recovered_main old files))
+secrets_due (Migrate old new) [] files last is = absurd (omega (arith, is))
+secrets_due (Migrate old new) (first ∷ []) files last is = absurd (omega (arith, is))
+secrets_due (Migrate old new) (first ∷ second ∷ rest) files last is = after_some (recovery_of old files) _ (migrated_some old first new _ (recovered_main old files))
+secrets_due (Make profile rows) [] files last is = absurd (omega (arith, is))
+secrets_due (Make profile rows) (secret ∷ rest) files last is = make_some profile rows files
 
-lines_due : (command : Command) (lines : Result (List Secret) KeyError) (files : Files) → ((secrets : List Secret) → lines ≡ Ok secrets → length secrets ≡ keys_taken command)
-    → 0 < length (keyed_answers command lines files)
-lines_due command (Ok secrets) files many = secrets_due command secrets files (many secrets refl)
-lines_due command (Err error) files many = omega arith
+lines_due : (command : Command) (lines : Result (List Secret) KeyError) (files last : Files) → ((secrets : List Secret) → lines ≡ Ok secrets → length secrets ≡ keys_taken command)
+    → 0 < length (keyed_answers command lines files last)
+lines_due command (Ok secrets) files last many = secrets_due command secrets files last (many secrets refl)
+lines_due command (Err error) files last many = omega arith
 
 pub first_due : (answers : List Answer) → 0 < length answers → (answer : Answer) × Contains answers answer
 first_due [] some = absurd (omega (arith, some))
 first_due (answer ∷ rest) some = (answer, (0, omega arith, refl))
 
 -- where the input failed, nothing is printed
-pub unread_one : (command : Command) (n : ℕ) (left : List ℕ) (files : Files) (tells : Bool) (before : List ℕ) → n ≡ keys_taken command
-    → AnswersOne (keyed_answers command (key_lines n left) files) InputFault tells before before
-unread_one command n left files tells before is =
-    let due = first_due (keyed_answers command (key_lines n left) files) (lines_due command (key_lines n left) files (λ secrets gave. lines_many n left secrets gave ∙ is)) in
+pub unread_one : (command : Command) (n : ℕ) (left : List ℕ) (files last : Files) (tells : Bool) (before : List ℕ) → n ≡ keys_taken command
+    → AnswersOne (keyed_answers command (key_lines n left) files last) InputFault tells before before
+unread_one command n left files last tells before is =
+    let due = first_due (keyed_answers command (key_lines n left) files last) (lines_due command (key_lines n left) files last (λ secrets gave. lines_many n left secrets gave ∙ is)) in
     record { answer = due.0; is_due = due.1; answered = inr tt; puts = λ printed. no_part due.0.begun before before refl }
 
 -- a key line gave no secret, or the input failed
-pub key_one : (command : Command) (n : ℕ) (left : List ℕ) (files : Files) (error : KeyError) (status : Status) (tells : Bool) (before after : List ℕ) → n ≡ keys_taken command
+pub key_one : (command : Command) (n : ℕ) (left : List ℕ) (files last : Files) (error : KeyError) (status : Status) (tells : Bool) (before after : List ℕ) → n ≡ keys_taken command
     → (error ≢ SourceFault → key_lines n left ≡ Err error)
     → (error ≢ SourceFault → (status ≡ (key_answer error).status) ⊎ (status ≡ OutputFault))
     → (error ≢ SourceFault → IsTrue tells → Puts status (key_answer error).text before after)
-    → (error ≡ SourceFault → (status ≡ InputFault) × (after ≡ before)) → AnswersOne (keyed_answers command (key_lines n left) files) status tells before after
-key_one command n left files error status tells before after many is answered text failed = by_error error is answered text failed
+    → (error ≡ SourceFault → (status ≡ InputFault) × (after ≡ before)) → AnswersOne (keyed_answers command (key_lines n left) files last) status tells before after
+key_one command n left files last error status tells before after many is answered text failed = by_error error is answered text failed
   where
     refused_one : (error : KeyError) → IsAnswer (key_answer error).status → key_lines n left ≡ Err error → (status ≡ (key_answer error).status) ⊎ (status ≡ OutputFault)
-        → (IsTrue tells → Puts status (key_answer error).text before after) → AnswersOne (keyed_answers command (key_lines n left) files) status tells before after
-    refused_one error answer is answered text = subst (λ (lines : Result (List Secret) KeyError). AnswersOne (keyed_answers command lines files) status tells before after) (sym is)
+        → (IsTrue tells → Puts status (key_answer error).text before after) → AnswersOne (keyed_answers command (key_lines n left) files last) status tells before after
+    refused_one error answer is answered text = subst (λ (lines : Result (List Secret) KeyError). AnswersOne (keyed_answers command lines files last) status tells before after) (sym is)
         (printed_one (key_answer error) status tells before after answer answered text)
 
     by_error : (error : KeyError) → (error ≢ SourceFault → key_lines n left ≡ Err error) → (error ≢ SourceFault → (status ≡ (key_answer error).status) ⊎ (status ≡ OutputFault))
         → (error ≢ SourceFault → IsTrue tells → Puts status (key_answer error).text before after)
-        → (error ≡ SourceFault → (status ≡ InputFault) × (after ≡ before)) → AnswersOne (keyed_answers command (key_lines n left) files) status tells before after
+        → (error ≡ SourceFault → (status ≡ InputFault) × (after ≡ before)) → AnswersOne (keyed_answers command (key_lines n left) files last) status tells before after
     by_error KeyMissing is answered text failed = let other : KeyMissing ≢ SourceFault = λ e. cc in refused_one KeyMissing tt (is other) (answered other) (text other)
     by_error KeyEmpty is answered text failed = let other : KeyEmpty ≢ SourceFault = λ e. cc in refused_one KeyEmpty tt (is other) (answered other) (text other)
     by_error KeyTooLong is answered text failed = let other : KeyTooLong ≢ SourceFault = λ e. cc in refused_one KeyTooLong tt (is other) (answered other) (text other)
     by_error KeyForm is answered text failed = let other : KeyForm ≢ SourceFault = λ e. cc in refused_one KeyForm tt (is other) (answered other) (text other)
     by_error SourceFault is answered text failed =
         let both = failed refl in
-        subst (λ (s : Status). AnswersOne (keyed_answers command (key_lines n left) files) s tells before after) (sym both.0)
-        (subst (λ (l : List ℕ). AnswersOne (keyed_answers command (key_lines n left) files) InputFault tells before l) (sym both.1) (unread_one command n left files tells before many))
+        subst (λ (s : Status). AnswersOne (keyed_answers command (key_lines n left) files last) s tells before after) (sym both.0)
+        (subst (λ (l : List ℕ). AnswersOne (keyed_answers command (key_lines n left) files last) InputFault tells before l) (sym both.1) (unread_one command n left files last tells before many))
 
 -- so the answer came early
 pub key_early : (error : KeyError) (n : ℕ) (left : List ℕ) (status : Status) → (error ≢ SourceFault → key_lines n left ≡ Err error)

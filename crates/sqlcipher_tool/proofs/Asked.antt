@@ -5,14 +5,19 @@ use Rattle.cipher_profile.specs.declared.keys.Secret.{Secret}
 use Rattle.cipher_profile.specs.declared.profile.Profile.{Profile}
 use Rattle.edge_model.specs.Files.{Files}
 use Rattle.sqlcipher_tool.specs.Answer.{HasCauses, HasDrawnCauses}
-use Rattle.sqlcipher_tool.specs.Crash.{Changes, GaveKeys, HasOwnDraws, IsDrawnFor, IsSafely, Keeps, KeepsHeld, MakesWith, Stays}
+use Rattle.sqlcipher_tool.specs.Change.{IsChangeBetween, change_answers, command_of, is_in_place}
+use Rattle.sqlcipher_tool.specs.Crash.{Changes, GaveKeys, HasOwnDraws, IsDrawnFor, IsSafely, Keeps, KeepsFresh, KeepsHeld, MakesWith, Stays}
 use Rattle.sqlcipher_tool.specs.Holding.{DiskRun, disk_run}
 use Rattle.sqlcipher_tool.specs.Renewal.{Renewal, renewal, same_key, two_keys}
-use Rattle.sqlcipher_tool.specs.Due.{word_refusal}
-use Rattle.sqlcipher_tool.specs.Words.{draws, lacks_tags, layouts_differ}
+use Rattle.sqlcipher_tool.specs.Due.{secret_answers, word_refusal}
+use Rattle.sqlcipher_tool.specs.Recovered.{recovered_answers}
+use Rattle.sqlcipher_tool.specs.declared.change.Change.{Change}
+use Rattle.sqlcipher_tool.specs.declared.change.Change.TheVariants.{Stamp as StampOf, Rekey as RekeyOf, Migrate as MigrateOf}
+use Rattle.pager.specs.File.{main_of}
+use Rattle.sqlcipher_tool.specs.Words.{draws, keys_taken, lacks_tags, layouts_differ}
 use Rattle.sqlcipher_tool.specs.declared.status.Refusal.TheVariants.{NoTags, LayoutDiffers}
 use Rattle.sqlcipher_tool.specs.declared.command.Command.{Command}
-use Rattle.sqlcipher_tool.specs.declared.command.Command.TheVariants.{Tags, Header, Verify, Export, Probe, Recover, Stamp, Rekey, Make}
+use Rattle.sqlcipher_tool.specs.declared.command.Command.TheVariants.{Tags, Header, Verify, Export, Probe, Recover, Stamp, Rekey, Migrate, Make}
 use Rattle.sqlcipher_tool.specs.declared.status.Refusal.{Refusal}
 use Rattle.sqlcipher_tool.specs.declared.status.Status.{Status}
 use Rattle.sqlcipher_tool.specs.declared.status.Status.TheVariants.{Done, Refused, OutputFault}
@@ -49,6 +54,7 @@ changes_of status Probe run gave given more was = was
 changes_of status (Recover profile) run gave given more was = was
 changes_of status (Stamp profile field value) run gave given more was = λ secrets has. was secrets (more secrets has)
 changes_of status (Rekey old new) run gave given more was = λ secrets has. was secrets (more secrets has)
+changes_of status (Migrate old new) run gave given more was = λ secrets has. was secrets (more secrets has)
 changes_of status (Make profile rows) run gave given more was = λ secrets has. was secrets (more secrets has)
 
 pub draws_of : (command : Command) (file drawn : List ℕ) (gave given : List Secret → Type 0) → ((secrets : List Secret) → given secrets → gave secrets)
@@ -102,6 +108,43 @@ same_layout old new is = equal old.page_size new.page_size old.reserve new.reser
     equal : (a b d e : ℕ) → not (a == b && d == e) ≡ false → (b ≡ a) × (e ≡ d)
     equal a b d e is = (search (rules, is), search (rules, is))
 
+-- ---- a change from one key to another
+
+-- the layouts do not differ where the key alone changes
+pub two_between : (change : Change) (renewal : Renewal) → layouts_differ (command_of change renewal.old_profile renewal.new_profile) ≡ false
+    → keys_taken (command_of change renewal.old_profile renewal.new_profile) ≡ 2 → IsChangeBetween change renewal
+two_between (StampOf field value) renewal layout keyed = cc
+two_between RekeyOf renewal layout keyed = same_layout renewal.old_profile renewal.new_profile layout
+two_between MigrateOf renewal layout keyed = tt
+
+pub two_answers : (change : Change) (renewal : Renewal) (files last : Files) → keys_taken (command_of change renewal.old_profile renewal.new_profile) ≡ 2
+    → secret_answers (command_of change renewal.old_profile renewal.new_profile) (renewal.old_secret ∷ renewal.new_secret ∷ []) files last
+    ≡ recovered_answers renewal.old_profile files (λ file. change_answers change renewal file (main_of last))
+two_answers (StampOf field value) renewal files last keyed = cc
+two_answers RekeyOf renewal files last keyed = refl
+two_answers MigrateOf renewal files last keyed = refl
+
+pub two_draws : (change : Change) (old new : Profile) → draws (command_of change old new) ≡ true
+two_draws (StampOf field value) old new = refl
+two_draws RekeyOf old new = refl
+two_draws MigrateOf old new = refl
+
+pub two_renewal : (change : Change) (old new : Profile) (secrets : List Secret) → keys_taken (command_of change old new) ≡ 2 → renewal (command_of change old new) secrets ≡ two_keys old new secrets
+two_renewal (StampOf field value) old new secrets keyed = cc
+two_renewal RekeyOf old new secrets keyed = refl
+two_renewal MigrateOf old new secrets keyed = refl
+
+pub two_keeps : (change : Change) (old new : Profile) (run : DiskRun) → keys_taken (command_of change old new) ≡ 2 → (is_in_place change ≡ true → KeepsFresh run) → Keeps (command_of change old new) run
+two_keeps (StampOf field value) old new run keyed fresh = cc
+two_keeps RekeyOf old new run keyed fresh = fresh refl
+two_keeps MigrateOf old new run keyed fresh = tt
+
+pub two_changes : (status : Status) (change : Change) (old new : Profile) (gave : List Secret → Type 0) (run : DiskRun) → keys_taken (command_of change old new) ≡ 2
+    → ((secrets : List Secret) → gave secrets → IsSafely status (command_of change old new) run (two_keys old new secrets)) → Changes status (command_of change old new) gave run
+two_changes status (StampOf field value) old new gave run keyed safe = cc
+two_changes status RekeyOf old new gave run keyed safe = safe
+two_changes status MigrateOf old new gave run keyed safe = safe
+
 -- ---- no call of the disk
 
 module _ {D : Type 0} (reads : D → Files) (images : D → Files → Type 0) (moment : D → ℕ) (since : D → ℕ → Files → Type 0)
@@ -127,7 +170,8 @@ module _ {D : Type 0} (reads : D → Files) (images : D → Files → Type 0) (m
   unchanged_keeps (Recover profile) disk = held profile.page_size disk
   unchanged_keeps (Stamp profile field value) disk = λ c ever. (c, only_now disk c ever, refl)
   unchanged_keeps (Rekey old new) disk = λ c ever. (c, only_now disk c ever, refl)
-  unchanged_keeps (Make profile rows) disk = λ there. stays disk
+  unchanged_keeps (Migrate old new) disk = tt
+  unchanged_keeps (Make profile rows) disk = record { in_the_way = λ there. stays disk; journal = λ c ever. (c, only_now disk c ever, refl) }
 
   safely : (status : Status) (command : Command) (disk : D) (renewal : Option Renewal) → (status ≡ Done → ⊥) → IsSafely status command (still disk) renewal
   safely status command disk None never = tt
@@ -149,4 +193,5 @@ module _ {D : Type 0} (reads : D → Files) (images : D → Files → Type 0) (m
   unchanged_changes status (Recover profile) gave disk never = λ done. absurd (never done)
   unchanged_changes status (Stamp profile field value) gave disk never = λ secrets has. safely status (Stamp profile field value) disk (same_key profile secrets) never
   unchanged_changes status (Rekey old new) gave disk never = λ secrets has. safely status (Rekey old new) disk (two_keys old new secrets) never
+  unchanged_changes status (Migrate old new) gave disk never = λ secrets has. safely status (Migrate old new) disk (two_keys old new secrets) never
   unchanged_changes status (Make profile rows) gave disk never = λ secrets has. makes status profile rows disk secrets never

@@ -2,11 +2,12 @@
 use Rattle.std.proofs.Common.{◌≡◌, ◌⊎◌, ⊎_elim, inl, inr, ◌≤◌, ◌<◌, ℕ, Bool, true, List, [], ◌∷◌, length, Option, Some, None, Result, Ok, Err, refl, sym, subst, ◌∙◌, arith}
 use Rattle.std.specs.Prelude.{unwrap_or, IfErr}
 use Rattle.std.specs.List.{Contains}
+use Rattle.disk_side.specs.Published.{IsNew as IsAlone}
 use Rattle.edge_model.specs.Causes.{Rose}
 use Rattle.edge_model.specs.Files.{Files}
 use Rattle.rollback_journal.specs.Recovery.{IsDone, recovered}
 use Rattle.sqlcipher_tool.specs.Answer.{Answer, HasDrawnCauses, IsEarly, IsFault, IsStopStatus, done}
-use Rattle.sqlcipher_tool.specs.Change.{IsAlone, IsLateChange, change_answer, change_status, stop_status}
+use Rattle.sqlcipher_tool.specs.Change.{IsLateChange, change_answer, change_status, stop_status}
 use Rattle.sqlcipher_tool.specs.Promises.{AnswersOne, PutsSo}
 use Rattle.sqlcipher_tool.specs.Stop.{IsLate, stop_answer}
 use Rattle.sqlcipher_tool.specs.declared.opening.ChangeError.{ChangeError}
@@ -183,4 +184,4 @@ late_stop {T} r stop is late = subst (λ (o : Result T ChangeError). IfErr o IsL
 
 pub done_alone : (size : ℕ) (main journal : Option (List ℕ)) (image : Files) → IsDone size main journal image → IsAlone (recovered size (unwrap_or main []) journal) image
 done_alone size None journal image done = absurd done
-done_alone size (Some main) journal image done = record { main = done.0; no_journal = done.1 }
+done_alone size (Some main) journal image done = record { main = done.0; journal = done.1 }

@@ -9,6 +9,7 @@ use Rattle.db_format.specs.Rules.{unless_broken}
 use Rattle.db_format.specs.declared.count.CountRefusal.{CountRefusal}
 use Rattle.db_format.specs.declared.count.CountRefusal.TheVariants.{Ragged, TooLarge, Short}
 use Rattle.db_format.specs.declared.header.Header.{Header}
+use Rattle.disk_side.specs.Published.{IsNew as IsAlone}
 use Rattle.edge_model.specs.Files.{File, Files, bytes_of}
 use Rattle.page_codec.specs.Page.{FileKeys, stored_page}
 use Rattle.pager.specs.Database.{stored_pages as with_pages, count_by, count_of, database, stored_by}
@@ -18,7 +19,6 @@ use Rattle.pager.specs.UnderWay.{Start}
 use Rattle.rollback_journal.specs.Recovery.{Recovers, RecoversTo}
 use Rattle.transaction.specs.Database.{Base, stored_pages, IsDatabase, HoldsOld, HoldsOnly as HoldsPages}
 use Rattle.transaction.specs.Facts.{IsBase}
-use Rattle.sqlcipher_tool.specs.Change.{IsAlone}
 use Rattle.sqlcipher_tool.specs.Holding.{HoldsOnly, held_by}
 
 -- ---- pages
@@ -79,7 +79,7 @@ unbroken a b c x y z v no_a no_b no_c = rw (no_a, no_b, no_c) refl
 no_less : (a b : ℕ) → nat_lt a b ≡ false → b ≤ a
 no_less a b is = search rules
 
-no_more : (a b : ℕ) → b ≤ a → nat_lt a b ≡ false
+pub no_more : (a b : ℕ) → b ≤ a → nat_lt a b ≡ false
 no_more a b le = search (rules, le)
 
 is_zero : (a : ℕ) → a ≡ 0 → (a == 0) ≡ true
@@ -174,21 +174,29 @@ is_base false keys file n size some told = record {
   whole = refl;
 }
 
--- an image with Main alone holds the old pages
+-- an image with Main alone recovers to it, and to no other file
+pub alone_recovers : (size : ℕ) (file : List ℕ) (image : Files) → IsAlone file image → Recovers size image file
+alone_recovers size file image alone = subst (λ (m : Option (List ℕ)). RecoversTo size m (bytes_of image.journal) file) (sym alone.main)
+    (subst (λ (j : Option File). RecoversTo size (Some file) (bytes_of j) file) (sym alone.journal) refl)
+
+pub alone_only : (size : ℕ) (file other : List ℕ) (image : Files) → IsAlone file image → Recovers size image other → other ≡ file
+alone_only size file other image alone to = subst (λ (j : Option File). RecoversTo size (Some file) (bytes_of j) other) alone.journal
+    (subst (λ (m : Option (List ℕ)). RecoversTo size m (bytes_of image.journal) other) alone.main to)
+
+-- so it holds the database of that file
+pub alone_holds : (keys : FileKeys) (file : List ℕ) (image : Files) → IsAlone file image → HoldsOnly (held_by keys file) image
+alone_holds keys file image alone = record {
+  some = (file, alone_recovers keys.profile.page_size file image alone);
+  only = λ other to. ap (database keys) (alone_only keys.profile.page_size file other image alone to);
+}
+
+-- and its pages
 pub alone_old : (keys : FileKeys) (file : List ℕ) (n : ℕ) (image : Files) → count_of keys file ≡ Some n → IsAlone file image → HoldsOld (base_of keys file n) image
 alone_old keys file n image is alone = record {
-  some = (file, recovers);
-  only = λ other to. subst (λ (f : List ℕ). IsDatabase (base_of keys file n) (stored_pages keys.profile.page_size n file) f) (sym (to_file other to))
+  some = (file, alone_recovers keys.profile.page_size file image alone);
+  only = λ other to. subst (λ (f : List ℕ). IsDatabase (base_of keys file n) (stored_pages keys.profile.page_size n file) f) (sym (alone_only keys.profile.page_size file other image alone to))
       (record { pages_are = refl; counted = is_some_is n (count_of keys file) is });
 }
-  where
-    recovers : Recovers keys.profile.page_size image file
-    recovers = subst (λ (m : Option (List ℕ)). RecoversTo keys.profile.page_size m (bytes_of image.journal) file) (sym alone.main)
-        (subst (λ (j : Option File). RecoversTo keys.profile.page_size (Some file) (bytes_of j) file) (sym alone.no_journal) refl)
-
-    to_file : (other : List ℕ) → Recovers keys.profile.page_size image other → other ≡ file
-    to_file other to = subst (λ (j : Option File). RecoversTo keys.profile.page_size (Some file) (bytes_of j) other) alone.no_journal
-        (subst (λ (m : Option (List ℕ)). RecoversTo keys.profile.page_size m (bytes_of image.journal) other) alone.main to)
 
 -- an image that holds the old pages holds the old database
 pub holds_old : (keys : FileKeys) (file : List ℕ) (n : ℕ) (image : Files) → 1 ≤ n → count_of keys file ≡ Some n → HoldsOld (base_of keys file n) image

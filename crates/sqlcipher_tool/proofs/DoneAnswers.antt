@@ -1,5 +1,5 @@
--- What `verify`, `rekey` and `export` answer of a file in which nothing stands in the way.
-use Rattle.std.proofs.Common.{◌≡◌, ℕ, Bool, true, false, List, [], ◌∷◌, Option, Some, None, Result, Ok, Err, if◌then◌else◌, length, sym, ap, subst, refl, ◌∙◌}
+-- What `verify`, `rekey`, `migrate` and `export` answer of a file in which nothing stands in the way.
+use Rattle.std.proofs.Common.{◌≡◌, ◌≤◌, ℕ, Bool, true, false, List, [], ◌∷◌, Option, Some, None, Result, Ok, Err, if◌then◌else◌, length, sym, ap, subst, refl, ◌∙◌, rules}
 use Rattle.std.specs.Prelude.{nat_lt}
 use Rattle.cipher_profile.specs.declared.keys.Secret.{Secret}
 use Rattle.cipher_profile.specs.declared.profile.Profile.{Profile}
@@ -20,15 +20,24 @@ use Rattle.pager.specs.Database.{count_of, counted, ok_count}
 use Rattle.pager.specs.Opening.{Opened, file_header, file_opened, first_broken, key_rules, length_rules, unless, with_count, with_header}
 use Rattle.pager.specs.Pages.{opened_pages}
 use Rattle.pager.specs.declared.opening.OpenError.{OpenError}
-use Rattle.sqlcipher_tool.specs.Answer.{done}
+use Rattle.sqlcipher_tool.specs.Answer.{done, refused}
+use Rattle.sqlcipher_tool.specs.declared.status.Refusal.TheVariants.{TooManyPages}
 use Rattle.sqlcipher_tool.specs.Opening.{opened_with}
 use Rattle.sqlcipher_tool.specs.Plain.{IsClean, Opens, refused_in_use}
-use Rattle.sqlcipher_tool.specs.Text.{rekeyed_report, verify_report}
+use Rattle.sqlcipher_tool.specs.Migrate.{migrate_answers, migrate_due, too_many}
+use Rattle.sqlcipher_tool.specs.Text.{made_report, migrated_report, rekeyed_report, verify_report}
+use Rattle.cipher_profile.specs.Profile.{usable}
+use Rattle.db_maker.specs.Pages.{made_pages}
+use Rattle.db_maker.specs.Rows.{total_len}
+use Rattle.sqlcipher_tool.specs.Make.{made_answers}
+use Rattle.fresh_file.specs.State.{most_pages}
+use Rattle.migrate_job.specs.Bound.{pages_at_most}
 use Rattle.sqlcipher_tool.specs.Job.{job_answers}
 use Rattle.sqlcipher_tool.specs.Verify.{opened_answers, pages_answers, rest_answers, tags_or}
 use Rattle.sqlcipher_tool.specs.Export.{content_answers}
 use Rattle.sqlcipher_tool.specs.declared.job.Job.TheVariants.{Verify, Export}
 use Rattle.sqlcipher_tool.specs.Rekey.{rekey_answers, rekey_due}
+use Rattle.sqlcipher_tool.proofs.Migrating.{whole_pages_due}
 use Rattle.sqlcipher_tool.proofs.Rekeying.{report_alone}
 use Rattle.sqlcipher_tool.proofs.Verified.{some_is, tags_next, whole_due}
 
@@ -100,3 +109,24 @@ export_done profile secret file x held is opens =
     ap (λ o. opened_answers o (λ count. content_answers (opened_pages keys file count))) is
     ∙ whole_due pages (done (export_report (content (with_zeros pages)))) (subst (λ (n : ℕ). is_database (opened_pages keys file n) ≡ true) same opens.sound)
     ∙ ap (λ (c : Content). done (export_report c) ∷ []) (subst (λ (n : ℕ). content (with_zeros (opened_pages keys file n)) ≡ held) same opens.is)
+
+-- the count of the new file's pages is due to `migrate`, and where the bound is above the limit that there are too many
+pub migrate_done : (old new : Profile) (secret : Secret) (count : ℕ) (file : List ℕ) (x : Opened) (held : Content) → opened_with old secret file ≡ Ok x
+    → Opens (keys_of old secret file) file held → migrate_answers old secret new count file ≡ done (migrated_report count) ∷ too_many new held
+migrate_done old new secret count file x held is opens =
+    let keys = keys_of old secret file in
+    let same : opens.count ≡ x.count = some_is opens.count x.count (sym opens.is_count ∙ opened_count keys file x is) in
+    let pages = opened_pages keys file x.count in
+    ap (λ o. opened_answers o (λ n. migrate_due new count (opened_pages keys file n))) is
+    ∙ whole_pages_due new count pages (subst (λ (n : ℕ). is_database (opened_pages keys file n) ≡ true) same opens.sound)
+    ∙ ap (λ (c : Content). done (migrated_report count) ∷ too_many new c) (subst (λ (n : ℕ). content (with_zeros (opened_pages keys file n)) ≡ held) same opens.is)
+
+not_less : (a b : ℕ) → b ≤ a → nat_lt a b ≡ false
+not_less a b le = search (rules, le)
+
+pub migrate_fits : (new : Profile) (held : Content) → pages_at_most (usable new) (most_pages new) held ≤ most_pages new → too_many new held ≡ []
+migrate_fits new held fits = ap (λ (b : Bool). if b then refused (TooManyPages (most_pages new)) ∷ [] else []) (not_less (most_pages new) _ fits)
+
+pub made_fits : (profile : Profile) (rows : ℕ) → made_pages (usable profile) rows ≤ most_pages profile → made_answers profile rows ≡ done (made_report rows (total_len rows)) ∷ []
+made_fits profile rows fits =
+    ap (λ (b : Bool). done (made_report rows (total_len rows)) ∷ (if b then refused (TooManyPages (most_pages profile)) ∷ [] else [])) (not_less (most_pages profile) _ fits)

@@ -21,7 +21,13 @@ pub mod Stamping
 pub mod Changed
 pub mod Making
 pub mod MadeFile
+pub mod MigratedFile
 pub mod Rekeying
+pub mod Migrating
 pub mod RekeyedFile
 pub mod Asked
 pub mod Numbers
+pub mod Served
+pub mod Completeness
+pub mod MadeServable
+pub mod MigrateServable

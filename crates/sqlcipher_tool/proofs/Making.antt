@@ -1,20 +1,25 @@
 -- A database that was made, or not: what is answered, and what the disk shows of it.
-use Rattle.std.proofs.Common.{◌≡◌, ◌⊎◌, ⊎_elim, inl, inr, ◌≤◌, ◌||◌, ℕ, Bool, true, false, is_some, List, [], ◌∷◌, Option, Some, None, Result, Ok, Err, if◌then◌else◌, refl, sym, ap, subst, ◌∙◌, arith}
+use Rattle.std.proofs.Common.{◌≡◌, ◌⊎◌, ⊎_elim, inl, inr, ◌≤◌, ◌<◌, ◌||◌, ℕ, Bool, true, false, is_some, List, [], ◌∷◌, Option, Some, None, Result, Ok, Err, if◌then◌else◌, refl, sym, ap, subst, ◌∙◌, arith}
 use Rattle.std.specs.List.{Contains}
 use Rattle.cipher_profile.specs.declared.profile.Profile.{Profile}
+use Rattle.cipher_profile.specs.Profile.{usable}
+use Rattle.db_maker.specs.Pages.{made_pages}
 use Rattle.db_maker.specs.Rows.{total_len}
 use Rattle.disk_side.specs.Published.{IsNew}
 use Rattle.edge_model.specs.Files.{Files, bytes_of}
-use Rattle.edge_model.specs.Images.{Each}
+use Rattle.edge_model.specs.Images.{Each, From, LeavesOnly}
+use Rattle.edge_model.specs.Moments.{weaker}
+use Rattle.disk_side.specs.OnlyFresh.{IsOld}
 use Rattle.edge_model.specs.OnlyRead.{OnlyRead}
 use Rattle.make_job.specs.Free.{IsFree, is_at_exit, may_be, never}
-use Rattle.make_job.specs.Published.{LeavesOld, MayTakePlace, TakesPlace}
-use Rattle.make_job.specs.Stops.{in_the_way, is_refusal, most_pages}
+use Rattle.disk_side.specs.Place.{LeavesOld, MayTakePlace, TakesPlace}
+use Rattle.fresh_file.specs.State.{most_pages}
+use Rattle.make_job.specs.Stops.{in_the_way, is_refusal}
 use Rattle.make_job.specs.declared.error.MakeError.{MakeError}
 use Rattle.make_job.specs.declared.error.MakeError.TheVariants.{FileThere as MainStands, JournalThere as JournalStands, TooManyPages as PagesEnd, DiskFault as DiskFails, EntropyFault as DrawFails, OutOfMemory as MemoryEnds}
 use Rattle.sqlcipher_tool.specs.Answer.{Answer, done, refused}
 use Rattle.sqlcipher_tool.specs.Change.{Commits, IsLateChange, KeepsOld, KeepsOrCommits, change_answer, change_status}
-use Rattle.sqlcipher_tool.specs.Crash.{HasNoMain, Stays}
+use Rattle.sqlcipher_tool.specs.Crash.{HasNoMain, SameJournal, Stays}
 use Rattle.sqlcipher_tool.specs.Holding.{disk_run}
 use Rattle.sqlcipher_tool.specs.Make.{has_main_or_journal, made_answers, make_answers, make_error}
 use Rattle.sqlcipher_tool.specs.Text.{made_report}
@@ -24,6 +29,7 @@ use Rattle.sqlcipher_tool.specs.declared.status.Refusal.TheVariants.{FileThere, 
 use Rattle.sqlcipher_tool.specs.declared.status.Status.{Status}
 use Rattle.sqlcipher_tool.specs.declared.status.Status.TheVariants.{Done, DiskFault}
 use Rattle.sqlcipher_tool.proofs.Changing.{commits_done, commits_failed, read_only}
+use Rattle.sqlcipher_tool.proofs.Migrating.{above_due, is_less}
 
 -- ---- what is answered
 
@@ -91,7 +97,7 @@ made_due result made files profile rows given bytes is stands one two answer sam
 -- and so is why nothing was
 pub unmade_due : {T : Type 0} (result : Result T MakeError) (e : MakeError) (files : Files) (profile : Profile) (rows : ℕ) → result ≡ Err e
     → ((e : MakeError) → in_the_way files ≡ Some e → (result ≡ Err e) ⊎ (result ≡ Err DiskFails)) → (is_refusal e ≡ true → in_the_way files ≡ Some e)
-    → ((limit : ℕ) → result ≡ Err (PagesEnd limit) → limit ≡ most_pages profile)
+    → ((limit : ℕ) → result ≡ Err (PagesEnd limit) → (limit ≡ most_pages profile) × (most_pages profile < made_pages (usable profile) rows))
     → (answer : Answer) → change_answer (Err (make_error e)) ≡ Some answer → Contains (make_answers profile rows files) answer
 unmade_due result MainStands files profile rows is stands there most answer same =
     subst (λ (a : Answer). Contains (make_answers profile rows files) a) (answer_is (refused FileThere) answer same) (main_due (is_some files.main) (is_some files.journal) profile rows (there refl))
@@ -101,7 +107,8 @@ unmade_due result (PagesEnd limit) files profile rows is stands there most answe
     free_due (is_some files.main) (is_some files.journal) profile rows answer
     (none_stands result (is_some files.main) (is_some files.journal) (λ other. not_main limit (err_same result (PagesEnd limit) MainStands is other))
     (λ other. not_journal limit (err_same result (PagesEnd limit) JournalStands is other)) (λ other. not_disk limit (err_same result (PagesEnd limit) DiskFails is other)) stands)
-    (1, omega arith, ap (λ (n : ℕ). refused (TooManyPages n)) (sym (most limit is)) ∙ answer_is (refused (TooManyPages limit)) answer same)
+    (subst (λ (a : Answer). Contains (made_answers profile rows) a) (ap (λ (n : ℕ). refused (TooManyPages n)) (sym (most limit is).0) ∙ answer_is (refused (TooManyPages limit)) answer same)
+    (above_due (most_pages profile) (done (made_report rows (total_len rows))) _ (is_less (most_pages profile) (made_pages (usable profile) rows) (most limit is).1)))
 unmade_due result DiskFails files profile rows is stands there most answer same = cc
 unmade_due result DrawFails files profile rows is stands there most answer same = cc
 unmade_due result MemoryEnds files profile rows is stands there most answer same = cc
@@ -159,6 +166,16 @@ read_stays reads images moment since counts_now only_now {old} read = record {
   no_more = (read_only reads images moment since counts_now only_now {P = images old} (λ c now. now) read).each;
   no_fewer = λ c was. read.same_images.no_fewer c was;
 }
+
+-- Journal is as in an image at the start, whether a file was made or not
+pub same_journal : {D : Type 0} {reads : D → Files} {images : D → Files → Type 0} {moment : D → ℕ} {since : D → ℕ → Files → Type 0} {is_new : List ℕ → Type 0} {old new : D}
+    → LeavesOld reads images moment since old new ⊎ MayTakePlace images moment since is_new old new → LeavesOnly moment since old new (From SameJournal (images old))
+same_journal {images = images} {old = old} may = ⊎_elim
+    (λ was. weaker (as_old (images old)) was.any_moment)
+    (λ has. weaker (λ c is. ⊎_elim (as_old (images old) c) (λ at. (at.was, at.is_image, at.journal)) is) has.any_moment) may
+  where
+    as_old : (images : Files → Type 0) (c : Files) → IsOld images c → From SameJournal images c
+    as_old images c from = (from.0, from.1, from.2.journal)
 
 -- no image at the start has a Main or a Journal
 module _ {D : Type 0} (reads : D → Files) (images : D → Files → Type 0) (moment : D → ℕ) (since : D → ℕ → Files → Type 0)

@@ -6,10 +6,10 @@ use Rattle.std.specs.List.{list_all}
 use Rattle.std.specs.Str.Parse.{AllDigits, IsNumeral, digits_value, without_leading_plus}
 use Rattle.sqlcipher_tool.specs.Words.{is_number, number_named}
 
-le_true : (a b : ℕ) → a ≤ b → nat_le a b ≡ true
+pub le_true : (a b : ℕ) → a ≤ b → nat_le a b ≡ true
 le_true a b le = search (rules, le)
 
-true_le : (a b : ℕ) → nat_le a b ≡ true → a ≤ b
+pub true_le : (a b : ℕ) → nat_le a b ≡ true → a ≤ b
 true_le a b is = search rules
 
 lt_true : (a b : ℕ) → a < b → nat_lt a b ≡ true

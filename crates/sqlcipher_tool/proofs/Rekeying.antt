@@ -8,6 +8,7 @@ use Rattle.btree_model.specs.Plain.{is_leaf}
 use Rattle.db_format.specs.Header.{header_read}
 use Rattle.db_format.specs.Pages.{Pages, Test, is_page}
 use Rattle.db_format.specs.declared.header.Header.{Header}
+use Rattle.disk_side.specs.Published.{IsNew as IsAlone}
 use Rattle.edge_model.specs.Files.{File, Files, bytes_of}
 use Rattle.edge_model.specs.Images.{Each, LeavesOnly}
 use Rattle.edge_model.specs.Moments.{started}
@@ -29,7 +30,7 @@ use Rattle.transaction.specs.Commit.{IsCommitted, LeavesChanged}
 use Rattle.transaction.specs.Database.{HoldsEither, HoldsOld, HoldsOnly as HoldsPages, stored_pages}
 use Rattle.transaction.specs.Facts.{IsBegun}
 use Rattle.sqlcipher_tool.specs.Answer.{Answer, done, refused}
-use Rattle.sqlcipher_tool.specs.Change.{Commits, IsAlone, IsLateChange, KeepsOld, KeepsOrCommits, change_answer, change_status, rekey_error}
+use Rattle.sqlcipher_tool.specs.Change.{Commits, IsLateChange, KeepsOld, KeepsOrCommits, change_answer, change_status, rekey_error}
 use Rattle.sqlcipher_tool.specs.Draws.{FileDraws}
 use Rattle.sqlcipher_tool.specs.Holding.{HoldsOnly, held_by}
 use Rattle.sqlcipher_tool.specs.Plain.{is_left, refused_in_use}
@@ -52,7 +53,7 @@ use Rattle.sqlcipher_tool.proofs.Verified.{among_pages, among_stops, else_left, 
 -- ---- what is due
 
 -- no part has a defect
-no_parts : (pages : Pages) (rest : List Answer) → is_database pages ≡ true → else_answers (stop_answers (first_faults (parts pages)) (first_refusals (parts pages))) rest ≡ rest
+pub no_parts : (pages : Pages) (rest : List Answer) → is_database pages ≡ true → else_answers (stop_answers (first_faults (parts pages)) (first_refusals (parts pages))) rest ≡ rest
 no_parts pages rest whole =
     ap (λ ds. else_answers (stop_answers ds (first_refusals (parts pages))) rest) (no_first_fault (parts pages) whole)
     ∙ ap (λ ns. else_answers (stop_answers [] ns) rest) (no_first_refusal (parts pages) whole)
@@ -227,7 +228,7 @@ module _ {D : Type 0} (reads : D → Files) (images : D → Files → Type 0) (m
       within = within;
       whole = is_some_is n (count_by keys (page_stored keys file 1) (n * keys.profile.page_size)) (whole_counts keys file header n parts_open sized some);
     };
-    no_journal = λ c now. (alone c now).no_journal;
+    no_journal = λ c now. (alone c now).journal;
     holds = λ c now. alone_old keys file n c counts (alone c now);
   }
 

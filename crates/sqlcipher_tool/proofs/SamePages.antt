@@ -18,7 +18,7 @@ use Rattle.btree_model.proofs.WholeLemmas.{parts_same}
 use Rattle.page_codec.specs.Page.{FileKeys, fits, opened}
 use Rattle.pager.specs.File.{page_stored}
 use Rattle.pager.specs.Pages.{is_number, opened_pages}
-use Rattle.export_rows.proofs.SoundParts.{free}
+use Rattle.schema_map.proofs.SoundParts.{free}
 use Rattle.export_rows.proofs.Zeros.{content_alike, no_free_leaf, zeros_content}
 use Rattle.sqlcipher_tool.specs.Plain.{HaveSamePages, IsSameInUse, Opens}
 use Rattle.sqlcipher_tool.proofs.Verified.{some_is}

@@ -21,14 +21,16 @@ use Rattle.sqlcipher_tool.specs.Export.{content_answers}
 use Rattle.sqlcipher_tool.specs.Job.{job_answers, job_due}
 use Rattle.sqlcipher_tool.specs.Change.{change_answers}
 use Rattle.sqlcipher_tool.specs.declared.change.Change.{Change}
-use Rattle.sqlcipher_tool.specs.declared.change.Change.TheVariants.{Stamp as StampOf, Rekey as RekeyOf}
+use Rattle.sqlcipher_tool.specs.declared.change.Change.TheVariants.{Stamp as StampOf, Rekey as RekeyOf, Migrate as MigrateOf}
 use Rattle.sqlcipher_tool.specs.declared.job.Job.{Job}
 use Rattle.sqlcipher_tool.specs.declared.job.Job.TheVariants.{Verify, Export}
 use Rattle.sqlcipher_tool.specs.Make.{made_answers, make_answers}
+use Rattle.sqlcipher_tool.specs.Migrate.{migrate_answers, migrate_due, too_many}
 use Rattle.sqlcipher_tool.specs.Opening.{opened_with}
 use Rattle.sqlcipher_tool.specs.Plain.{refused_in_use}
 use Rattle.sqlcipher_tool.specs.Recovered.{answers_after, recovered_answers, recovered_main, recovery_of}
-use Rattle.sqlcipher_tool.specs.Text.{rekeyed_report, verify_report}
+use Rattle.sqlcipher_tool.specs.Renewal.{Renewal}
+use Rattle.sqlcipher_tool.specs.Text.{migrated_report, rekeyed_report, verify_report}
 use Rattle.sqlcipher_tool.specs.Rekey.{rekey_answers, rekey_due}
 use Rattle.sqlcipher_tool.specs.declared.status.Refusal.TheVariants.{FileThere, JournalThere}
 use Rattle.sqlcipher_tool.specs.Verify.{else_answers, opened_answers, pages_answers, parts_answers, rest_answers, stop_answers, tags_or}
@@ -88,9 +90,20 @@ rekeyed_some profile secret file =
     let keys = keys_of profile secret file in
     opened_some (opened_with profile secret file) (λ n. rekey_due (opened_pages keys file n)) (λ n. rekey_some (opened_pages keys file n))
 
-pub change_some : (change : Change) (profile : Profile) (secret : Secret) (file : List ℕ) → 0 < length (change_answers change profile secret file)
-change_some (StampOf field value) profile secret file = omega arith
-change_some RekeyOf profile secret file = rekeyed_some profile secret file
+-- to `migrate`
+migrate_some : (profile : Profile) (count : ℕ) (pages : Pages) → 0 < length (migrate_due profile count pages)
+migrate_some profile count pages =
+    else_some (stop_answers (first_faults (parts pages)) (first_refusals (parts pages))) (done (migrated_report count) ∷ too_many profile (content (with_zeros pages))) (omega arith)
+
+pub migrated_some : (old : Profile) (secret : Secret) (new : Profile) (count : ℕ) (file : List ℕ) → 0 < length (migrate_answers old secret new count file)
+migrated_some old secret new count file =
+    let keys = keys_of old secret file in
+    opened_some (opened_with old secret file) (λ n. migrate_due new count (opened_pages keys file n)) (λ n. migrate_some new count (opened_pages keys file n))
+
+pub change_some : (change : Change) (renewal : Renewal) (file last : List ℕ) → 0 < length (change_answers change renewal file last)
+change_some (StampOf field value) renewal file last = omega arith
+change_some RekeyOf renewal file last = rekeyed_some renewal.old_profile renewal.old_secret file
+change_some MigrateOf renewal file last = migrated_some renewal.old_profile renewal.old_secret renewal.new_profile _ file
 
 -- to `make`
 pub make_some : (profile : Profile) (rows : ℕ) (files : Files) → 0 < length (make_answers profile rows files)

@@ -1,6 +1,7 @@
 -- A transaction that stamps page 1, as its disk shows it.
 use Rattle.std.proofs.Common.{◌≡◌, ◌≤◌, ◌*◌, ℕ, Bool, List, [], length, drop, Option, Some, None, Result, Ok, Err, IsTrue, refl, sym, ap, subst, ◌∙◌, arith, rules}
 use Rattle.std.specs.Prelude.{OnOk, unwrap_or, if◌then◌else◌, ◌&&◌, ◌||◌, ◌==◌, true, false}
+use Rattle.disk_side.specs.Published.{IsNew as IsAlone}
 use Rattle.cipher_profile.specs.Profile.{IsListed, usable}
 use Rattle.cipher_profile.specs.declared.profile.Profile.{Profile}
 use Rattle.db_format.specs.declared.header.Header.{Header}
@@ -29,7 +30,7 @@ use Rattle.transaction.specs.Database.{Base, HoldsEither, HoldsOld, HoldsOnly as
 use Rattle.transaction.specs.Facts.{IsBase, IsBegun}
 use Rattle.transaction.specs.Marks.{is_marked}
 use Rattle.sqlcipher_tool.specs.Answer.{IsFault}
-use Rattle.sqlcipher_tool.specs.Change.{Commits, IsAlone, IsLateChange, KeepsOld, KeepsOrCommits, change_status, page_error, stop_status}
+use Rattle.sqlcipher_tool.specs.Change.{Commits, IsLateChange, KeepsOld, KeepsOrCommits, change_status, page_error, stop_status}
 use Rattle.sqlcipher_tool.specs.Stop.{IsLate, stop_of}
 use Rattle.sqlcipher_tool.specs.Draws.{FileDraws}
 use Rattle.sqlcipher_tool.specs.Holding.{HoldsOnly, held_by}
@@ -252,7 +253,7 @@ module _ {D : Type 0} (reads : D → Files) (images : D → Files → Type 0) (m
   pub begun : IsBase start.base → IsBegun start.base (images old)
   begun is = record {
     base_is = is;
-    no_journal = λ c now. (alone c now).no_journal;
+    no_journal = λ c now. (alone c now).journal;
     holds = λ c now. subst (λ (b : Base). HoldsOld b c) (sym is_start) (alone_old keys file n c counts (alone c now));
   }
 

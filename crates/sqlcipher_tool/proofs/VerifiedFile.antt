@@ -1,6 +1,6 @@
 -- What `verify` answers of a file, from what it answers of its pages.
 use Rattle.std.proofs.Common.{◌≡◌, ◌⊎◌, ⊎_elim, ℕ, zero, suc, ◌≤◌, ◌<◌, Bool, true, false, is_some, List, [], ◌∷◌, length, Option, Some, None, Result, Ok, Err, if◌then◌else◌, sym, ap, ◌∙◌, subst, arith}
-use Rattle.std.specs.Prelude.{slice_index_or}
+use Rattle.std.specs.Prelude.{nat_lt, slice_index_or}
 use Rattle.std.specs.List.{Contains}
 use Rattle.std.proofs.lemmas.Bool.{le-leb}
 use Rattle.db_format.specs.Count.{count_of_pages}
@@ -24,8 +24,13 @@ use Rattle.rollback_journal.specs.declared.recovery.Recovery.{Recovery}
 use Rattle.rollback_journal.specs.declared.recovery.RecoverError.{RecoverError}
 use Rattle.edge_model.specs.Files.{Files}
 use Rattle.sqlcipher_tool.specs.Answer.{Answer, IsFault, done, refused}
+use Rattle.db_maker.specs.Pages.{made_pages}
+use Rattle.fresh_file.specs.State.{most_pages}
+use Rattle.migrate_job.specs.Bound.{pages_at_most}
 use Rattle.sqlcipher_tool.specs.Make.{made_answers, make_answers}
-use Rattle.sqlcipher_tool.specs.declared.status.Refusal.TheVariants.{FileThere, JournalThere}
+use Rattle.sqlcipher_tool.specs.Migrate.{migrate_due, too_many}
+use Rattle.sqlcipher_tool.specs.Renewal.{Renewal}
+use Rattle.sqlcipher_tool.specs.declared.status.Refusal.TheVariants.{FileThere, JournalThere, TooManyPages}
 use Rattle.btree_model.specs.Content.{content}
 use Rattle.btree_model.specs.Plain.{with_zeros}
 use Rattle.export_rows.specs.Report.{export_report}
@@ -42,11 +47,11 @@ use Rattle.sqlcipher_tool.specs.Rekey.{rekey_due}
 use Rattle.sqlcipher_tool.specs.Stamp.{stamped_answer}
 use Rattle.sqlcipher_tool.specs.Opening.{opened_with}
 use Rattle.sqlcipher_tool.specs.declared.change.Change.{Change}
-use Rattle.sqlcipher_tool.specs.declared.change.Change.TheVariants.{Stamp as StampOf, Rekey as RekeyOf}
-use Rattle.cipher_profile.specs.declared.keys.Secret.{Secret}
+use Rattle.sqlcipher_tool.specs.declared.change.Change.TheVariants.{Stamp as StampOf, Rekey as RekeyOf, Migrate as MigrateOf}
+use Rattle.cipher_profile.specs.Profile.{usable}
 use Rattle.cipher_profile.specs.declared.profile.Profile.{Profile}
 use Rattle.sqlcipher_tool.specs.Stop.{IsOutside, stop_answer}
-use Rattle.sqlcipher_tool.specs.Text.{rekeyed_report, verify_report}
+use Rattle.sqlcipher_tool.specs.Text.{migrated_report, rekeyed_report, verify_report}
 use Rattle.sqlcipher_tool.specs.Verify.{else_answers, opened_answers, pages_answers, rest_answers, stop_answers, tags_or}
 use Rattle.sqlcipher_tool.specs.declared.opening.Stop.{Stop}
 use Rattle.sqlcipher_tool.specs.declared.opening.Stop.TheVariants.{DiskFault as StopDisk, OutOfMemory as StopMemory}
@@ -205,9 +210,26 @@ stamped_of_file : (opened : Result Opened OpenError) → IsOfFile (stamped_answe
 stamped_of_file (Ok opened) is = is
 stamped_of_file (Err error) is = open_of_file error is
 
-pub change_of_file : (change : Change) (profile : Profile) (secret : Secret) (file : List ℕ) → AreOfFile (change_answers change profile secret file)
-change_of_file (StampOf field value) profile secret file = (stamped_of_file (opened_with profile secret file), tt)
-change_of_file RekeyOf profile secret file = rekeyed_of_file (opened_with profile secret file) (λ n. opened_pages (keys_of profile secret file) file n)
+-- that there are too many pages is no answer of a recovery
+too_many_of_file : (limit : ℕ) (b : Bool) → AreOfFile (if b then refused (TooManyPages limit) ∷ [] else [])
+too_many_of_file limit true = ((λ is. is), tt)
+too_many_of_file limit false = tt
+
+migrate_of_file : (profile : Profile) (count : ℕ) (pages : Pages) → AreOfFile (migrate_due profile count pages)
+migrate_of_file profile count pages =
+    else_of_file (stop_answers (first_faults (parts pages)) (first_refusals (parts pages))) (done (migrated_report count) ∷ too_many profile (content (with_zeros pages)))
+    (defects_of_file (first_faults (parts pages)) (first_refusals (parts pages))) ((λ is. is), too_many_of_file (most_pages profile) (nat_lt (most_pages profile) (pages_at_most (usable profile) (most_pages profile) (content (with_zeros pages)))))
+
+migrated_of_file : (profile : Profile) (count : ℕ) (opened : Result Opened OpenError) (pages : ℕ → Pages) → AreOfFile (opened_answers opened (λ n. migrate_due profile count (pages n)))
+migrated_of_file profile count (Ok opened) pages = migrate_of_file profile count (pages opened.count)
+migrated_of_file profile count (Err error) pages = (open_of_file error, tt)
+
+pub change_of_file : (change : Change) (renewal : Renewal) (file last : List ℕ) → AreOfFile (change_answers change renewal file last)
+change_of_file (StampOf field value) renewal file last = (stamped_of_file (opened_with renewal.old_profile renewal.old_secret file), tt)
+change_of_file RekeyOf renewal file last =
+    rekeyed_of_file (opened_with renewal.old_profile renewal.old_secret file) (λ n. opened_pages (keys_of renewal.old_profile renewal.old_secret file) file n)
+change_of_file MigrateOf renewal file last =
+    migrated_of_file renewal.new_profile _ (opened_with renewal.old_profile renewal.old_secret file) (λ n. opened_pages (keys_of renewal.old_profile renewal.old_secret file) file n)
 
 pub make_of_file : (profile : Profile) (rows : ℕ) (files : Files) → AreOfFile (make_answers profile rows files)
 make_of_file profile rows files = by_files (is_some files.main) (is_some files.journal)
@@ -215,7 +237,7 @@ make_of_file profile rows files = by_files (is_some files.main) (is_some files.j
     by_files : (m j : Bool) → AreOfFile (if m then refused FileThere ∷ [] else (if j then refused JournalThere ∷ [] else made_answers profile rows))
     by_files true j = ((λ is. is), tt)
     by_files false true = ((λ is. is), tt)
-    by_files false false = ((λ is. is), ((λ is. is), tt))
+    by_files false false = ((λ is. is), too_many_of_file (most_pages profile) (nat_lt (most_pages profile) (made_pages (usable profile) rows)))
 
 -- so no status that is answered to a file is
 pub answers_recovered : (answers : List Answer) → AreOfFile answers → (status : Status) (tells : Bool) (before after : List ℕ) → AnswersOne answers status tells before after → IsUnrecovered status → ⊥

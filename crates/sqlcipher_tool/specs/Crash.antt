@@ -10,7 +10,7 @@ use Rattle.cipher_profile.specs.declared.keys.Secret.{Secret}
 use Rattle.cipher_profile.specs.declared.profile.Profile.{Profile}
 use Rattle.rollback_journal.specs.Recovery.{IsDone, Keeps as KeepsRecovered}
 use Rattle.sqlcipher_tool.specs.declared.command.Command.{Command}
-use Rattle.sqlcipher_tool.specs.declared.command.Command.TheVariants.{Tags, Header, Verify, Export, Probe, Recover, Stamp, Rekey, Make}
+use Rattle.sqlcipher_tool.specs.declared.command.Command.TheVariants.{Tags, Header, Verify, Export, Probe, Recover, Stamp, Rekey, Migrate, Make}
 use Rattle.sqlcipher_tool.specs.declared.status.Status.{Status}
 use Rattle.sqlcipher_tool.specs.declared.status.Status.TheVariants.{Done, Usage, Refused, KeyRefused, DiskFault, OutputFault, InputFault, EntropyFault, OutOfMemory}
 use Rattle.sqlcipher_tool.specs.Holding.{Held, HoldsOnly, HoldsOneOf, AreOfSize, DiskRun, held_by}
@@ -37,6 +37,15 @@ pub record Stays (run : DiskRun) : Type 0 where
   pub reads : run.after ≡ run.before
   pub no_more : Each run.ever run.at_start
   pub no_fewer : Each run.at_start run.at_exit
+
+-- the image has the same Journal
+abbrev pub SameJournal : Files → Files → Type 0
+SameJournal before after = after.journal ≡ before.journal
+
+-- A file that is in the way stays, with all that is beside it, and no image ever has another Journal than one at the start.
+pub record KeepsFiles (run : DiskRun) : Type 0 where
+  pub in_the_way : has_main_or_journal run.before ≡ true → Stays run
+  pub journal : Each run.ever (From SameJournal run.at_start)
 
 -- ---- a new database in place of the old one
 
@@ -121,7 +130,8 @@ Keeps Probe run = Stays run
 Keeps (Recover profile) run = KeepsHeld profile.page_size run
 Keeps (Stamp profile field value) run = KeepsFresh run
 Keeps (Rekey old new) run = KeepsFresh run
-Keeps (Make profile rows) run = has_main_or_journal run.before ≡ true → Stays run
+Keeps (Migrate old new) run = Unit {0}
+Keeps (Make profile rows) run = KeepsFiles run
 
 -- after Done, where Main had a byte, every image has the recovered file as Main and no journal
 abbrev pub IsRecovered : Profile → Status → DiskRun → Type 0
@@ -142,6 +152,8 @@ Changes status (Stamp profile field value) gave run =
     → IsSafely status (Stamp profile field value) run (renewal (Stamp profile field value) secrets)
 Changes status (Rekey old new) gave run =
     (secrets : List Secret) → gave secrets → IsSafely status (Rekey old new) run (renewal (Rekey old new) secrets)
+Changes status (Migrate old new) gave run =
+    (secrets : List Secret) → gave secrets → IsSafely status (Migrate old new) run (renewal (Migrate old new) secrets)
 Changes status (Make profile rows) gave run = (secrets : List Secret) → gave secrets → MakesWith status profile rows run secrets
 
 -- what was drawn for the new file

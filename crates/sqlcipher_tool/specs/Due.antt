@@ -1,13 +1,15 @@
--- The answers that may come of the words, the input and the files, where nothing outside fails and memory does not run out.
+-- The answers that may come of the words, the input and the files, where nothing outside fails and memory does not run out. The files
+-- are those before the run, and those after it: `migrate` reports the count of pages of the file that it has made.
 use Rattle.std.specs.Prelude.{ℕ, zero, suc, List, [], ◌∷◌, Option, Some, None, Result, Ok, Err, if◌then◌else◌}
 use Rattle.edge_model.specs.Files.{Files}
 use Rattle.cipher_profile.specs.declared.key_line.KeyError.{KeyError}
 use Rattle.cipher_profile.specs.declared.key_line.KeyError.TheVariants.{KeyMissing, KeyEmpty, KeyTooLong, KeyForm, SourceFault}
 use Rattle.cipher_profile.specs.declared.keys.Secret.{Secret}
 use Rattle.cipher_profile.specs.KeyLine.{after_line, key_line}
+use Rattle.pager.specs.File.{main_of}
 use Rattle.sqlcipher_tool.specs.Answer.{Answer, refused, usage}
 use Rattle.sqlcipher_tool.specs.declared.command.Command.{Command}
-use Rattle.sqlcipher_tool.specs.declared.command.Command.TheVariants.{Tags, Header, Verify, Export, Probe, Recover, Stamp, Rekey, Make}
+use Rattle.sqlcipher_tool.specs.declared.command.Command.TheVariants.{Tags, Header, Verify, Export, Probe, Recover, Stamp, Rekey, Migrate, Make}
 use Rattle.sqlcipher_tool.specs.declared.status.Refusal.{Refusal}
 use Rattle.sqlcipher_tool.specs.declared.status.Refusal.TheVariants.{NoTags, LayoutDiffers, KeyMissing as RefusedMissing, KeyEmpty as RefusedEmpty, KeyTooLong as RefusedLong, KeyForm as RefusedForm}
 use Rattle.sqlcipher_tool.specs.declared.status.Status.TheVariants.{InputFault}
@@ -15,9 +17,11 @@ use Rattle.sqlcipher_tool.specs.Header.{header_answer}
 use Rattle.sqlcipher_tool.specs.Job.{job_answers}
 use Rattle.sqlcipher_tool.specs.declared.job.Job.TheVariants.{Verify as VerifyPages, Export as ExportPages}
 use Rattle.sqlcipher_tool.specs.Make.{make_answers}
+use Rattle.sqlcipher_tool.specs.Migrate.{migrate_answers}
 use Rattle.sqlcipher_tool.specs.Probe.{probe_answer}
 use Rattle.sqlcipher_tool.specs.Recovered.{recovered_answer, recovered_answers, recovery_answer, recovery_of}
 use Rattle.sqlcipher_tool.specs.Rekey.{rekey_answers}
+use Rattle.sqlcipher_tool.specs.Renewal.{pages_under}
 use Rattle.sqlcipher_tool.specs.Stamp.{stamp_answer}
 use Rattle.sqlcipher_tool.specs.Tags.{tags_answer}
 use Rattle.sqlcipher_tool.specs.Words.{form, keys_taken, lacks_tags, layouts_differ}
@@ -56,35 +60,37 @@ with_two (first ∷ []) answers = []
 with_two (first ∷ second ∷ rest) answers = answers first second
 
 -- the answers to a command with its secrets
-abbrev pub secret_answers : Command → List Secret → Files → List Answer
-secret_answers (Tags profile) secrets files =
+abbrev pub secret_answers : Command → List Secret → Files → Files → List Answer
+secret_answers (Tags profile) secrets files after =
     with_one secrets (λ secret. recovered_answer profile files (tags_answer profile secret) ∷ [])
-secret_answers (Header profile) secrets files =
+secret_answers (Header profile) secrets files after =
     with_one secrets (λ secret. recovered_answer profile files (header_answer profile secret) ∷ [])
-secret_answers (Verify profile) secrets files =
+secret_answers (Verify profile) secrets files after =
     with_one secrets (λ secret. recovered_answers profile files (job_answers VerifyPages profile secret))
-secret_answers (Export profile) secrets files =
+secret_answers (Export profile) secrets files after =
     with_one secrets (λ secret. recovered_answers profile files (job_answers ExportPages profile secret))
-secret_answers Probe secrets files = with_one secrets (λ secret. probe_answer secret files ∷ [])
-secret_answers (Recover profile) secrets files = recovery_answer (recovery_of profile files) ∷ []
-secret_answers (Stamp profile field value) secrets files =
+secret_answers Probe secrets files after = with_one secrets (λ secret. probe_answer secret files ∷ [])
+secret_answers (Recover profile) secrets files after = recovery_answer (recovery_of profile files) ∷ []
+secret_answers (Stamp profile field value) secrets files after =
     with_one secrets (λ secret. recovered_answers profile files (λ file. stamp_answer profile secret file ∷ []))
-secret_answers (Rekey old new) secrets files = with_two secrets (λ first second. recovered_answers old files (rekey_answers old first))
-secret_answers (Make profile rows) secrets files = with_one secrets (λ secret. make_answers profile rows files)
+secret_answers (Rekey old new) secrets files after = with_two secrets (λ first second. recovered_answers old files (rekey_answers old first))
+secret_answers (Migrate old new) secrets files after =
+    with_two secrets (λ first second. recovered_answers old files (migrate_answers old first new (pages_under new second (main_of after))))
+secret_answers (Make profile rows) secrets files after = with_one secrets (λ secret. make_answers profile rows files)
 
 -- the answers to a command with what its key lines give
-abbrev pub keyed_answers : Command → Result (List Secret) KeyError → Files → List Answer
-keyed_answers command (Ok secrets) files = secret_answers command secrets files
-keyed_answers command (Err error) files = key_answer error ∷ []
+abbrev pub keyed_answers : Command → Result (List Secret) KeyError → Files → Files → List Answer
+keyed_answers command (Ok secrets) files after = secret_answers command secrets files after
+keyed_answers command (Err error) files after = key_answer error ∷ []
 
-abbrev pub asked_answers : Option Refusal → Command → List ℕ → Files → List Answer
-asked_answers (Some refusal) command left files = refused refusal ∷ []
-asked_answers None command left files = keyed_answers command (key_lines (keys_taken command) left) files
+abbrev pub asked_answers : Option Refusal → Command → List ℕ → Files → Files → List Answer
+asked_answers (Some refusal) command left files after = refused refusal ∷ []
+asked_answers None command left files after = keyed_answers command (key_lines (keys_taken command) left) files after
 
-abbrev pub command_answers : Option Command → List ℕ → Files → List Answer
-command_answers None left files = usage ∷ []
-command_answers (Some command) left files = asked_answers (word_refusal command) command left files
+abbrev pub command_answers : Option Command → List ℕ → Files → Files → List Answer
+command_answers None left files after = usage ∷ []
+command_answers (Some command) left files after = asked_answers (word_refusal command) command left files after
 
 -- the answers to the command that the words make, or to words that make none
-abbrev pub due : List (List ℕ) → List ℕ → Files → List Answer
-due words left files = command_answers (form words) left files
+abbrev pub due : List (List ℕ) → List ℕ → Files → Files → List Answer
+due words left files after = command_answers (form words) left files after

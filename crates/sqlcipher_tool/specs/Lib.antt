@@ -9,12 +9,14 @@ pub mod Header
 pub mod Holding
 pub mod Job
 pub mod Make
+pub mod Migrate
 pub mod Opening
 pub mod Probe
 pub mod Promises
 pub mod Recovered
 pub mod Rekey
 pub mod Renewal
+pub mod Servable
 pub mod Stamp
 pub mod Stop
 pub mod Tags

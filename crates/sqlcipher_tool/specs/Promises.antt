@@ -1,11 +1,14 @@
 -- The words of the top call's clauses.
-use Rattle.std.specs.Prelude.{◌≡◌, ◌⊎◌, ◌≤◌, ◌*◌, ◌==◌, ℕ, zero, suc, not, Bool, true, IsTrue, List, [], ◌∷◌, ◌++◌, drop, Some, None, Result, Ok, Err}
+use Rattle.std.specs.Prelude.{◌≡◌, ◌⊎◌, ◌≤◌, ◌*◌, ◌==◌, ℕ, zero, suc, not, Bool, true, false, IsTrue, List, [], ◌∷◌, ◌++◌, drop, Some, None, Result, Ok, Err}
 use Rattle.std.specs.List.{Contains}
 use Rattle.cipher_profile.specs.declared.keys.Secret.{Secret}
 use Rattle.cipher_profile.specs.declared.key_line.KeyError.{KeyError}
 use Rattle.cipher_profile.specs.KeyLine.{after_line, key_line}
 use Rattle.sqlcipher_tool.specs.Answer.{Answer, IsAnswered, PutsPart}
+use Rattle.edge_model.specs.Files.{Files}
+use Rattle.sqlcipher_tool.specs.Make.{has_main_or_journal}
 use Rattle.sqlcipher_tool.specs.declared.command.Command.{Command}
+use Rattle.sqlcipher_tool.specs.declared.command.Command.TheVariants.{Tags, Header, Verify, Export, Probe, Recover, Stamp, Rekey, Migrate, Make}
 use Rattle.sqlcipher_tool.specs.declared.status.Refusal.TheVariants.{JournalPageSize, SuperJournal}
 use Rattle.sqlcipher_tool.specs.declared.status.Status.{Status}
 use Rattle.sqlcipher_tool.specs.declared.status.Status.TheVariants.{Done, Usage, Refused, KeyRefused, DiskFault, OutputFault, InputFault, EntropyFault, OutOfMemory}
@@ -20,6 +23,19 @@ takes_keys command = not (keys_taken command == 0)
 -- the words are a command of which this holds
 abbrev pub AreWordsThat : (Command → Bool) → List (List ℕ) → Type 0
 AreWordsThat test words = (command : Command) × (form words ≡ Some command) × (test command ≡ true)
+
+-- a file is in the way of the command, which then makes none
+abbrev pub is_in_the_way : Command → Files → Bool
+is_in_the_way (Tags profile) files = false
+is_in_the_way (Header profile) files = false
+is_in_the_way (Verify profile) files = false
+is_in_the_way (Export profile) files = false
+is_in_the_way Probe files = false
+is_in_the_way (Recover profile) files = false
+is_in_the_way (Stamp profile field value) files = false
+is_in_the_way (Rekey old new) files = false
+is_in_the_way (Migrate old new) files = false
+is_in_the_way (Make profile rows) files = has_main_or_journal files
 
 -- a fact on the command, where the words refuse nothing
 abbrev pub WhereTaken : List (List ℕ) → (Command → Type 0) → Type 0

@@ -4,12 +4,14 @@ use Rattle.cipher_profile.specs.declared.keys.Secret.{Secret}
 use Rattle.cipher_profile.specs.declared.profile.Profile.{Profile}
 use Rattle.page_codec.specs.Page.{FileKeys, keys_of}
 use Rattle.sqlcipher_tool.specs.declared.command.Command.{Command}
-use Rattle.sqlcipher_tool.specs.declared.command.Command.TheVariants.{Tags, Header, Verify, Export, Probe, Recover, Stamp, Rekey, Make}
-use Rattle.make_job.specs.Made.{HasOwnDraws, IsMade}
+use Rattle.sqlcipher_tool.specs.declared.command.Command.TheVariants.{Tags, Header, Verify, Export, Probe, Recover, Stamp, Rekey, Migrate, Make}
+use Rattle.fresh_file.specs.Draws.{HasOwnDraws}
+use Rattle.make_job.specs.Made.{IsMade}
 use Rattle.pager.specs.Database.{count_of}
 use Rattle.pager.specs.Pages.{is_number}
 use Rattle.rekey_job.specs.Rekeyed.{IsRekeyed}
 use Rattle.sqlcipher_tool.specs.Draws.{FileDraws}
+use Rattle.sqlcipher_tool.specs.Migrate.{IsMigratedSo}
 use Rattle.sqlcipher_tool.specs.Stamp.{IsStamped}
 
 -- A command that leaves a new file: the profile and the secret of the old one, and those of the new one. Before `make` there is no
@@ -43,6 +45,7 @@ renewal Probe secrets = None
 renewal (Recover profile) secrets = None
 renewal (Stamp profile field value) secrets = same_key profile secrets
 renewal (Rekey old new) secrets = two_keys old new secrets
+renewal (Migrate old new) secrets = two_keys old new secrets
 renewal (Make profile rows) secrets = same_key profile secrets
 
 abbrev pub old_keys : Renewal → List ℕ → FileKeys
@@ -59,6 +62,10 @@ IsRekeyedSo old new before after = (count : ℕ) × IsRekeyed old new count befo
 abbrev pub pages_of : FileKeys → List ℕ → ℕ
 pages_of keys file = unwrap_or (count_of keys file) 0
 
+-- the same under the keys that the secret gives for it
+abbrev pub pages_under : Profile → Secret → List ℕ → ℕ
+pages_under profile secret file = pages_of (keys_of profile secret file) file
+
 -- the file `after` is a new file of the command for the file `before`
 abbrev pub IsNew : Command → Renewal → List ℕ → List ℕ → Type 0
 IsNew (Tags profile) renewal before after = ⊥
@@ -69,6 +76,7 @@ IsNew Probe renewal before after = ⊥
 IsNew (Recover profile) renewal before after = ⊥
 IsNew (Stamp profile field value) renewal before after = IsStamped (old_keys renewal before) field value before after
 IsNew (Rekey old new) renewal before after = IsRekeyedSo (old_keys renewal before) (new_keys renewal after) before after
+IsNew (Migrate old new) renewal before after = IsMigratedSo (old_keys renewal before) (new_keys renewal after) before after
 IsNew (Make profile rows) renewal before after = IsMade renewal.new_profile renewal.new_secret rows after
 
 -- each page of the new file that the command sealed has drawn bytes of its own
@@ -81,4 +89,5 @@ AreDrawn Probe renewal file drawn = ⊥
 AreDrawn (Recover profile) renewal file drawn = ⊥
 AreDrawn (Stamp profile field value) renewal file drawn = FileDraws (new_keys renewal file) file (λ n. n == 1) 0 drawn
 AreDrawn (Rekey old new) renewal file drawn = FileDraws (new_keys renewal file) file (is_number (pages_of (new_keys renewal file) file)) 0 drawn
+AreDrawn (Migrate old new) renewal file drawn = HasOwnDraws (new_keys renewal file) file drawn
 AreDrawn (Make profile rows) renewal file drawn = HasOwnDraws (new_keys renewal file) file drawn

@@ -122,6 +122,10 @@ stamped_report = line (codes "stamped")
 abbrev pub rekeyed_report : ℕ → List ℕ
 rekeyed_report pages = line (codes "rekeyed: " ++ decimal pages ++ codes " pages")
 
+-- what `migrate` prints
+abbrev pub migrated_report : ℕ → List ℕ
+migrated_report pages = line (codes "migrated: " ++ decimal pages ++ codes " pages")
+
 -- what `make` prints: so many rows, and how many bytes their data have
 abbrev pub made_report : ℕ → ℕ → List ℕ
 made_report rows bytes = line (codes "made: " ++ (decimal rows ++ (codes " rows, " ++ (decimal bytes ++ codes " data bytes"))))

@@ -10,6 +10,7 @@
 -- | `stamp P user-version N`   | Stamp profile P UserVersion N   | 1         | yes   |
 -- | `stamp P application-id N` | Stamp profile P ApplicationId N | 1         | yes   |
 -- | `rekey P P2`               | Rekey profile P, profile P2     | 2         | yes   |
+-- | `migrate P P2`             | Migrate profile P, profile P2   | 2         | yes   |
 -- | `make P N`                 | Make profile P N                | 1         | yes   |
 use Rattle.std.specs.Prelude.{ℕ, ◌==◌, ◌&&◌, not, nat_le, nat_lt, Bool, true, false, List, [], ◌∷◌, length, map, Option, Some, None, codes, if◌then◌else◌}
 use Rattle.std.specs.Borrow.{Bor}
@@ -19,8 +20,9 @@ use Rattle.std.specs.Option.{option_map, option_and_then}
 use Rattle.std.specs.Str.{bytes_eq}
 use Rattle.std.specs.Str.Parse.{digits_value}
 use Rattle.cipher_profile.specs.Profile.{IsListed, profile_named}
+use Rattle.cipher_profile.specs.declared.profile.Profile.{Profile}
 use Rattle.sqlcipher_tool.specs.declared.command.Command.{Command}
-use Rattle.sqlcipher_tool.specs.declared.command.Command.TheVariants.{Tags, Header, Verify, Export, Probe, Recover, Stamp, Rekey, Make}
+use Rattle.sqlcipher_tool.specs.declared.command.Command.TheVariants.{Tags, Header, Verify, Export, Probe, Recover, Stamp, Rekey, Migrate, Make}
 use Rattle.sqlcipher_tool.specs.declared.command.Field.{Field}
 use Rattle.sqlcipher_tool.specs.declared.command.Field.TheVariants.{UserVersion, ApplicationId}
 
@@ -43,9 +45,9 @@ abbrev pub stamp_form : List ℕ → List ℕ → List ℕ → Option Command
 stamp_form first second third =
     option_and_then (λ profile. option_and_then (λ field. option_map (λ value. Stamp profile field value) (number_named third)) (field_named second)) (profile_named first)
 
--- `rekey` with its two words
-abbrev pub rekey_form : List ℕ → List ℕ → Option Command
-rekey_form first second = option_and_then (λ old. option_map (λ new. Rekey old new) (profile_named second)) (profile_named first)
+-- a command from one profile to another, `rekey` or `migrate`, with its two words
+abbrev pub two_profiles : (Profile → Profile → Command) → List ℕ → List ℕ → Option Command
+two_profiles command first second = option_and_then (λ old. option_map (λ new. command old new) (profile_named second)) (profile_named first)
 
 -- `make` with its two words
 abbrev pub make_form : List ℕ → List ℕ → Option Command
@@ -62,8 +64,9 @@ form (name ∷ word ∷ []) =
     else (if bytes_eq name (codes "export") then option_map Export (profile_named word)
     else (if bytes_eq name (codes "recover") then option_map Recover (profile_named word) else None))))
 form (name ∷ first ∷ second ∷ []) =
-    if bytes_eq name (codes "rekey") then rekey_form first second
-    else (if bytes_eq name (codes "make") then make_form first second else None)
+    if bytes_eq name (codes "rekey") then two_profiles Rekey first second
+    else (if bytes_eq name (codes "migrate") then two_profiles Migrate first second
+    else (if bytes_eq name (codes "make") then make_form first second else None))
 form (name ∷ first ∷ second ∷ third ∷ []) = if bytes_eq name (codes "stamp") then stamp_form first second third else None
 form (name ∷ first ∷ second ∷ third ∷ fourth ∷ rest) = None
 
@@ -77,6 +80,7 @@ IsServed Probe = Unit {0}
 IsServed (Recover profile) = IsListed profile
 IsServed (Stamp profile field value) = IsListed profile
 IsServed (Rekey old new) = IsListed old × IsListed new
+IsServed (Migrate old new) = IsListed old × IsListed new
 IsServed (Make profile rows) = IsListed profile
 
 -- it asks for tags that the profile has not
@@ -89,6 +93,7 @@ lacks_tags Probe = false
 lacks_tags (Recover profile) = false
 lacks_tags (Stamp profile field value) = false
 lacks_tags (Rekey old new) = false
+lacks_tags (Migrate old new) = false
 lacks_tags (Make profile rows) = false
 
 -- it asks for new keys in place, of a profile whose pages have another size or reserve
@@ -101,6 +106,7 @@ layouts_differ Probe = false
 layouts_differ (Recover profile) = false
 layouts_differ (Stamp profile field value) = false
 layouts_differ (Rekey old new) = not (old.page_size == new.page_size && old.reserve == new.reserve)
+layouts_differ (Migrate old new) = false
 layouts_differ (Make profile rows) = false
 
 -- how many key lines it takes
@@ -113,6 +119,7 @@ keys_taken Probe = 1
 keys_taken (Recover profile) = 0
 keys_taken (Stamp profile field value) = 1
 keys_taken (Rekey old new) = 2
+keys_taken (Migrate old new) = 2
 keys_taken (Make profile rows) = 1
 
 -- it takes memory
@@ -125,6 +132,7 @@ takes_memory Probe = false
 takes_memory (Recover profile) = true
 takes_memory (Stamp profile field value) = true
 takes_memory (Rekey old new) = true
+takes_memory (Migrate old new) = true
 takes_memory (Make profile rows) = true
 
 -- it draws from the entropy
@@ -137,6 +145,7 @@ draws Probe = false
 draws (Recover profile) = false
 draws (Stamp profile field value) = true
 draws (Rekey old new) = true
+draws (Migrate old new) = true
 draws (Make profile rows) = true
 
 -- the words' bytes

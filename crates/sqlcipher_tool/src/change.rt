@@ -1,6 +1,7 @@
-// A change of the file: it is recovered, opened, and changed in one transaction.
+// A change of the file: it is recovered, opened, and changed in one transaction, or written anew.
 ghost use Rattle.std.specs.Prelude.{◌≡◌, ◌≤◌, drop, length, true, Some, Err, IfErr, OnOk, IsTrue};
 ghost use Rattle.std.specs.List.{Contains};
+ghost use Rattle.disk_side.specs.Published.{IsNew as IsAlone};
 ghost use Rattle.cipher_profile.specs.Profile.{IsListed};
 ghost use Rattle.edge_model.specs.Causes.{Rose};
 ghost use Rattle.edge_model.specs.Images.{Each, From, LeavesOnly};
@@ -8,7 +9,7 @@ ghost use Rattle.page_codec.specs.Page.{keys_of};
 ghost use Rattle.pager.specs.File.{main_of};
 ghost use Rattle.transaction.specs.Facts.{SameFresh};
 ghost use Rattle.sqlcipher_tool.specs.Answer.{Answer, HasDrawnCauses, PutsLine};
-ghost use Rattle.sqlcipher_tool.specs.Change.{IsAlone, IsChangeBetween, IsLateChange, KeepsOrCommits, change_answer, change_answers, change_status, command_of};
+ghost use Rattle.sqlcipher_tool.specs.Change.{IsChangeBetween, IsLateChange, KeepsOrCommits, change_answer, change_answers, change_status, command_of, is_in_place};
 ghost use Rattle.sqlcipher_tool.specs.Crash.{IsSafely};
 ghost use Rattle.sqlcipher_tool.specs.Holding.{HoldsOnly, disk_run, held_by};
 ghost use Rattle.sqlcipher_tool.specs.Opening.{AreRecovered};
@@ -18,6 +19,7 @@ ghost use Rattle.sqlcipher_tool.specs.Renewal.{AreDrawn, IsNew};
 
 use crate::command::Field;
 use crate::conclusion::{conclude, conclude_stop};
+use crate::migrate::migrate_file;
 use crate::opening::{ChangeError, Stop};
 use crate::recovery::recover_main;
 use crate::rekey::rekey_file;
@@ -40,6 +42,8 @@ pub enum Change {
     },
     /// The key of every page.
     Rekey,
+    /// The profile: the database is written anew in a file beside, which takes the old one's place.
+    Migrate,
 }
 
 /// Changes a file of the first profile and secret, after a recovery, to one of the second.
@@ -57,13 +61,14 @@ pub fn change_file<S: Sink, E: Entropy, D: Disk>(
     requires listed { IsListed old × IsListed new }
     requires between { IsChangeBetween change (record { old_profile = old; old_secret = first.now; new_profile = new; new_secret = second.now }) }
     ensures answer { IsTrue D.tells
-        → AnswersOne (recovered_answers old (D.reads disk.old) (change_answers change old first.now)) result S.tells (S.taken out.old) (S.taken out.new) }
+        → AnswersOne (recovered_answers old (D.reads disk.old) (λ file. change_answers change (record { old_profile = old; old_secret = first.now; new_profile = new; new_secret = second.now }) file (main_of (D.reads disk.new))))
+        result S.tells (S.taken out.old) (S.taken out.new) }
     ensures line { IsTrue S.tells → PutsLine result (S.taken out.old) (S.taken out.new) }
     ensures causes { HasDrawnCauses result true (D.faults disk.old) (D.faults disk.new) (S.faults out.old) (S.faults out.new) (E.faults entropy.old) (E.faults entropy.new) }
     // old or new
     ensures changes { IsTrue D.tells → IsSafely result (command_of change old new) (disk_run D.reads D.images D.moment D.since disk.old disk.new)
         (Some (record { old_profile = old; old_secret = first.now; new_profile = new; new_secret = second.now })) }
-    ensures fresh { IsTrue D.tells → LeavesOnly D.moment D.since disk.old disk.new (From SameFresh (D.images disk.old)) }
+    ensures fresh { IsTrue D.tells → is_in_place change ≡ true → LeavesOnly D.moment D.since disk.old disk.new (From SameFresh (D.images disk.old)) }
     ensures own_draws { IsTrue D.tells → IsTrue E.tells → result ≡ Status.Done
         → AreDrawn (command_of change old new) (record { old_profile = old; old_secret = first.now; new_profile = new; new_secret = second.now })
         (main_of (D.reads disk.new)) (drop (length (E.drawn entropy.old)) (E.drawn entropy.new)) }
@@ -91,7 +96,9 @@ fn change_main<S: Sink, E: Entropy, D: Disk>(
     requires between { IsChangeBetween change (record { old_profile = old; old_secret = first.now; new_profile = new; new_secret = second.now }) }
     requires recovered { IsTrue D.tells → AreRecovered (D.reads disk.old) (D.images disk.old) }
     requires alone { IsTrue D.tells → old.page_size ≤ length (main_of (D.reads disk.old)) → Each (D.images disk.old) (IsAlone (main_of (D.reads disk.old))) }
-    ensures answer { IsTrue D.tells → AnswersOne (change_answers change old first.now (main_of (D.reads disk.old))) result S.tells (S.taken out.old) (S.taken out.new) }
+    ensures answer { IsTrue D.tells
+        → AnswersOne (change_answers change (record { old_profile = old; old_secret = first.now; new_profile = new; new_secret = second.now })
+        (main_of (D.reads disk.old)) (main_of (D.reads disk.new))) result S.tells (S.taken out.old) (S.taken out.new) }
     ensures line { IsTrue S.tells → PutsLine result (S.taken out.old) (S.taken out.new) }
     ensures causes { HasDrawnCauses result true (D.faults disk.old) (D.faults disk.new) (S.faults out.old) (S.faults out.new) (E.faults entropy.old) (E.faults entropy.new) }
     ensures safely { IsTrue D.tells → Each (D.images disk.old) (HoldsOnly (held_by (keys_of old first.now (main_of (D.reads disk.old))) (main_of (D.reads disk.old))))
@@ -99,7 +106,7 @@ fn change_main<S: Sink, E: Entropy, D: Disk>(
         (IsNew (command_of change old new) (record { old_profile = old; old_secret = first.now; new_profile = new; new_secret = second.now }) (main_of (D.reads disk.old)))
         (HoldsOnly (held_by (keys_of old first.now (main_of (D.reads disk.old))) (main_of (D.reads disk.old))))
         (λ file. HoldsOnly (held_by (keys_of new second.now file) file)) disk.old disk.new }
-    ensures fresh { IsTrue D.tells → LeavesOnly D.moment D.since disk.old disk.new (From SameFresh (D.images disk.old)) }
+    ensures fresh { IsTrue D.tells → is_in_place change ≡ true → LeavesOnly D.moment D.since disk.old disk.new (From SameFresh (D.images disk.old)) }
     ensures own_draws { IsTrue D.tells → IsTrue E.tells → result ≡ Status.Done
         → AreDrawn (command_of change old new) (record { old_profile = old; old_secret = first.now; new_profile = new; new_secret = second.now })
         (main_of (D.reads disk.new)) (drop (length (E.drawn entropy.old)) (E.drawn entropy.new)) }
@@ -127,13 +134,13 @@ fn change_opened<E: Entropy, D: Disk>(
     requires recovered { IsTrue D.tells → AreRecovered (D.reads disk.old) (D.images disk.old) }
     requires alone { IsTrue D.tells → old.page_size ≤ length (main_of (D.reads disk.old)) → Each (D.images disk.old) (IsAlone (main_of (D.reads disk.old))) }
     ensures told { IsTrue D.tells → (answer : Answer) → change_answer result ≡ Some answer
-        → Contains (change_answers change old first.now (main_of (D.reads disk.old))) answer }
+        → Contains (change_answers change (record { old_profile = old; old_secret = first.now; new_profile = new; new_secret = second.now }) (main_of (D.reads disk.old)) (main_of (D.reads disk.new))) answer }
     ensures safely { IsTrue D.tells → Each (D.images disk.old) (HoldsOnly (held_by (keys_of old first.now (main_of (D.reads disk.old))) (main_of (D.reads disk.old))))
         → KeepsOrCommits D.reads D.images D.moment D.since (change_status result)
         (IsNew (command_of change old new) (record { old_profile = old; old_secret = first.now; new_profile = new; new_secret = second.now }) (main_of (D.reads disk.old)))
         (HoldsOnly (held_by (keys_of old first.now (main_of (D.reads disk.old))) (main_of (D.reads disk.old))))
         (λ file. HoldsOnly (held_by (keys_of new second.now file) file)) disk.old disk.new }
-    ensures fresh { IsTrue D.tells → LeavesOnly D.moment D.since disk.old disk.new (From SameFresh (D.images disk.old)) }
+    ensures fresh { IsTrue D.tells → is_in_place change ≡ true → LeavesOnly D.moment D.since disk.old disk.new (From SameFresh (D.images disk.old)) }
     ensures own_draws { OnOk result (IsTrue D.tells → IsTrue E.tells
         → AreDrawn (command_of change old new) (record { old_profile = old; old_secret = first.now; new_profile = new; new_secret = second.now })
         (main_of (D.reads disk.new)) (drop (length (E.drawn entropy.old)) (E.drawn entropy.new))) }
@@ -148,5 +155,6 @@ fn change_opened<E: Entropy, D: Disk>(
             stamp_file(alloc, old, field, value, first, entropy, disk)
         }
         Change::Rekey => rekey_file(alloc, old, new, first, second, entropy, disk),
+        Change::Migrate => migrate_file(alloc, old, new, first, second, entropy, disk),
     }
 }

@@ -1,7 +1,8 @@
 // The words of the command line.
 ghost use Rattle.std.specs.Prelude.{◌≡◌, ◌∷◌, [], IfSome};
 ghost use Rattle.sqlcipher_tool.specs.Due.{word_refusal};
-ghost use Rattle.sqlcipher_tool.specs.Words.{form, stamp_form, rekey_form, make_form, field_named, number_named, texts, lacks_tags, layouts_differ, IsServed};
+ghost use Rattle.sqlcipher_tool.specs.declared.command.Command.TheVariants.{Rekey as RekeyOf, Migrate as MigrateOf};
+ghost use Rattle.sqlcipher_tool.specs.Words.{form, stamp_form, two_profiles, make_form, field_named, number_named, texts, lacks_tags, layouts_differ, IsServed};
 
 use crate::status::Refusal;
 use cipher_profile::{Profile, profile_of};
@@ -46,6 +47,13 @@ pub enum Command {
         /// The profile of the new key.
         new: Profile,
     },
+    /// Write the database anew in another profile, and put it in the file's place.
+    Migrate {
+        /// The file's profile.
+        old: Profile,
+        /// The new file's profile.
+        new: Profile,
+    },
     /// Make a database where no file is.
     Make {
         /// Its profile.
@@ -82,6 +90,7 @@ impl Command {
             | Command::Recover(_)
             | Command::Stamp { .. }
             | Command::Rekey { .. }
+            | Command::Migrate { .. }
             | Command::Make { .. } => false,
         }
     }
@@ -101,6 +110,7 @@ impl Command {
             | Command::Probe
             | Command::Recover(_)
             | Command::Stamp { .. }
+            | Command::Migrate { .. }
             | Command::Make { .. } => false,
         }
     }
@@ -152,6 +162,9 @@ fn command_with(name: &str, first: &str, second: &str) -> Option<Command>
     if name == "rekey" {
         return rekey_with(first, second);
     }
+    if name == "migrate" {
+        return migrate_with(first, second);
+    }
     if name == "make" {
         return make_with(first, second);
     }
@@ -175,12 +188,22 @@ fn stamp_with(first: &str, second: &str, third: &str) -> Option<Command>
 
 // `rekey` with its two words.
 fn rekey_with(first: &str, second: &str) -> Option<Command>
-    ensures form { result ≡ rekey_form first.now second.now }
+    ensures form { result ≡ two_profiles RekeyOf first.now second.now }
     ensures served { IfSome result IsServed }
 {
     let old = profile_of(first)?;
     let new = profile_of(second)?;
     Some(Command::Rekey { old, new })
+}
+
+// `migrate` with its two words.
+fn migrate_with(first: &str, second: &str) -> Option<Command>
+    ensures form { result ≡ two_profiles MigrateOf first.now second.now }
+    ensures served { IfSome result IsServed }
+{
+    let old = profile_of(first)?;
+    let new = profile_of(second)?;
+    Some(Command::Migrate { old, new })
 }
 
 // `make` with its two words.

@@ -1,26 +1,30 @@
 // What holds of the definitions themselves.
-ghost use Rattle.std.specs.Prelude.{◌≡◌, ◌∷◌, [], ℕ, true, List, Ok};
+ghost use Rattle.std.specs.Prelude.{◌≡◌, ◌≤◌, ◌∷◌, [], ℕ, true, List, Ok};
 ghost use Rattle.btree_model.specs.Content.{Content};
 ghost use Rattle.btree_model.specs.Finding.{is_sound};
 ghost use Rattle.btree_model.specs.Freelist.{freelist_walk};
 ghost use Rattle.btree_model.specs.Parts.{counts, parts};
 ghost use Rattle.cipher_profile.specs.declared.keys.Secret.{Secret};
 ghost use Rattle.cipher_profile.specs.declared.profile.Profile.{Profile};
-ghost use Rattle.cipher_profile.specs.Profile.{IsListed};
+ghost use Rattle.cipher_profile.specs.Profile.{IsListed, usable};
 ghost use Rattle.export_rows.specs.Report.{export_report};
 ghost use Rattle.db_format.specs.Pages.{Pages, nothing};
+ghost use Rattle.fresh_file.specs.State.{most_pages};
 ghost use Rattle.make_job.specs.Made.{IsMade, made_content};
+ghost use Rattle.migrate_job.specs.Bound.{pages_at_most};
+ghost use Rattle.migrate_job.specs.Migrated.{IsMigrated};
 ghost use Rattle.page_codec.specs.Page.{FileKeys, fits, keys_of};
 ghost use Rattle.pager.specs.File.{page_stored};
-ghost use Rattle.pager.specs.Opening.{Opened};
+ghost use Rattle.pager.specs.Opening.{Opened, file_opened};
 ghost use Rattle.pager.specs.Pages.{opened_pages};
 ghost use Rattle.rekey_job.specs.Rekeyed.{IsRekeyed};
 ghost use Rattle.sqlcipher_tool.specs.Answer.{done};
 ghost use Rattle.sqlcipher_tool.specs.Job.{job_answers};
+ghost use Rattle.sqlcipher_tool.specs.Migrate.{migrate_answers, too_many};
 ghost use Rattle.sqlcipher_tool.specs.Opening.{opened_with};
 ghost use Rattle.sqlcipher_tool.specs.Plain.{HaveSamePages, IsClean, IsSameInUse, Opens};
 ghost use Rattle.sqlcipher_tool.specs.Rekey.{rekey_answers};
-ghost use Rattle.sqlcipher_tool.specs.Text.{rekeyed_report, verify_report};
+ghost use Rattle.sqlcipher_tool.specs.Text.{migrated_report, rekeyed_report, verify_report};
 ghost use Rattle.sqlcipher_tool.specs.declared.job.Job.TheVariants.{Export, Verify};
 
 /// A walk over a whole database reads no leaf of its freelist, whatever defects it meets behind the freelist.
@@ -59,6 +63,25 @@ pub fn rekey_opens_law()
 pub fn rekey_done_law()
     ensures { (profile : Profile) (secret : Secret) (file : List ℕ) (opened : Opened) → opened_with profile secret file ≡ Ok opened
         → IsClean (keys_of profile secret file) file → rekey_answers profile secret file ≡ done (rekeyed_report opened.count) ∷ [] }
+{}
+
+/// A migrated file of a file that opens, opens under the new keys to the content that the old one had.
+pub fn migrate_opens_law()
+    ensures { (old_keys : FileKeys) (profile : Profile) (secret : Secret) (old new : List ℕ) (opened : Opened) → file_opened old_keys old ≡ Ok opened
+        → IsMigrated profile secret opened.header (opened_pages old_keys old opened.count) new
+        → (held : Content) × Opens old_keys old held × Opens (keys_of profile secret new) new held }
+{}
+
+/// Of a file that opens nothing but the count of the new file's pages is due to `migrate`, and, only where the bound on its pages is above
+/// the limit, that it has too many.
+pub fn migrate_done_law()
+    ensures { (old new : Profile) (secret : Secret) (count : ℕ) (file : List ℕ) (opened : Opened) (held : Content) → opened_with old secret file ≡ Ok opened
+        → Opens (keys_of old secret file) file held → migrate_answers old secret new count file ≡ done (migrated_report count) ∷ too_many new held }
+{}
+
+/// Where it is not above the limit, the count alone is due.
+pub fn migrate_fits_law()
+    ensures { (new : Profile) (held : Content) → pages_at_most (usable new) (most_pages new) held ≤ most_pages new → too_many new held ≡ [] }
 {}
 
 /// A made file is clean under its keys, and holds its rows: so nothing but the counts is due to `verify`, and nothing but its text to `export`.

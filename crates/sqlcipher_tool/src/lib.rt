@@ -3,6 +3,7 @@
 
 mod change;
 mod command;
+mod complete;
 mod conclusion;
 mod export;
 #[cfg(test)]
@@ -14,6 +15,9 @@ mod laws;
 mod make;
 #[cfg(test)]
 mod make_tests;
+mod migrate;
+#[cfg(test)]
+mod migrate_tests;
 mod opening;
 mod probe;
 mod recovery;
@@ -35,9 +39,12 @@ mod top;
 mod verify_tests;
 mod walk;
 
+pub use complete::{
+    complete_law, key_lines_law, made_migrates_law, made_servable_law, nothing_servable_law,
+};
 pub use laws::{
-    export_done_law, made_clean_law, opens_law, rekey_done_law, rekey_opens_law, unread_leaves_law,
-    verify_done_law,
+    export_done_law, made_clean_law, migrate_done_law, migrate_fits_law, migrate_opens_law,
+    opens_law, rekey_done_law, rekey_opens_law, unread_leaves_law, verify_done_law,
 };
 pub use status::{Refusal, Status};
 pub use top::run;

@@ -4,15 +4,16 @@ ghost use Rattle.std.specs.List.{Contains};
 ghost use Rattle.cipher_profile.specs.Profile.{IsListed};
 ghost use Rattle.disk_side.specs.Published.{IsNew};
 ghost use Rattle.edge_model.specs.Causes.{Rose};
-ghost use Rattle.edge_model.specs.Images.{Each};
+ghost use Rattle.edge_model.specs.Images.{Each, From, LeavesOnly};
 ghost use Rattle.edge_model.specs.OnlyRead.{OnlyRead};
 ghost use Rattle.make_job.specs.Free.{IsFree};
-ghost use Rattle.make_job.specs.Made.{HasOwnDraws, IsMade};
+ghost use Rattle.fresh_file.specs.Draws.{HasOwnDraws};
+ghost use Rattle.make_job.specs.Made.{IsMade};
 ghost use Rattle.page_codec.specs.Page.{keys_of};
 ghost use Rattle.pager.specs.File.{main_of};
 ghost use Rattle.sqlcipher_tool.specs.Answer.{Answer, HasDrawnCauses, PutsLine};
 ghost use Rattle.sqlcipher_tool.specs.Change.{IsLateChange, KeepsOrCommits, change_answer, change_status};
-ghost use Rattle.sqlcipher_tool.specs.Crash.{HasNoMain, Makes};
+ghost use Rattle.sqlcipher_tool.specs.Crash.{HasNoMain, Makes, SameJournal};
 ghost use Rattle.sqlcipher_tool.specs.Holding.{disk_run};
 ghost use Rattle.sqlcipher_tool.specs.Make.{has_main_or_journal, make_answers, make_error};
 ghost use Rattle.sqlcipher_tool.specs.Promises.{AnswersOne, IsUnrecovered};
@@ -43,6 +44,8 @@ pub fn make_file<S: Sink, E: Entropy, D: Disk>(
     // none or new
     ensures changes { IsTrue D.tells → Makes result profile secret.now rows (disk_run D.reads D.images D.moment D.since disk.old disk.new) }
     ensures only_read { IsTrue D.tells → has_main_or_journal (D.reads disk.old) ≡ true → OnlyRead D.reads D.images D.moment D.since disk.old disk.new }
+    ensures journal { IsTrue D.tells → LeavesOnly D.moment D.since disk.old disk.new (From SameJournal (D.images disk.old)) }
+    ensures undrawn { IsTrue D.tells → has_main_or_journal (D.reads disk.old) ≡ true → entropy.new ≡ entropy.old }
     ensures own_draws { IsTrue D.tells → IsTrue E.tells → result ≡ Status.Done
         → HasOwnDraws (keys_of profile secret.now (main_of (D.reads disk.new))) (main_of (D.reads disk.new)) (drop (length (E.drawn entropy.old)) (E.drawn entropy.new)) }
     ensures unrecovered { IsTrue D.tells → IsUnrecovered result → D.reads disk.new ≡ D.reads disk.old }
@@ -69,6 +72,8 @@ fn make_database<E: Entropy, D: Disk>(
     ensures safely { IsTrue D.tells → Each (D.images disk.old) IsFree
         → KeepsOrCommits D.reads D.images D.moment D.since (change_status result) (IsMade profile secret.now rows) HasNoMain IsNew disk.old disk.new }
     ensures only_read { IsTrue D.tells → has_main_or_journal (D.reads disk.old) ≡ true → OnlyRead D.reads D.images D.moment D.since disk.old disk.new }
+    ensures journal { IsTrue D.tells → LeavesOnly D.moment D.since disk.old disk.new (From SameJournal (D.images disk.old)) }
+    ensures undrawn { IsTrue D.tells → has_main_or_journal (D.reads disk.old) ≡ true → entropy.new ≡ entropy.old }
     ensures own_draws { OnOk result (IsTrue D.tells → IsTrue E.tells
         → HasOwnDraws (keys_of profile secret.now (main_of (D.reads disk.new))) (main_of (D.reads disk.new)) (drop (length (E.drawn entropy.old)) (E.drawn entropy.new))) }
     ensures late { IfErr result IsLateChange }

@@ -1,6 +1,7 @@
 // `rekey`: every page is sealed under another key, in one transaction.
 ghost use Rattle.std.specs.Prelude.{◌≡◌, ◌≤◌, ℕ, List, drop, length, Ok, Err, IfErr, OnOk, IsTrue, Some};
 ghost use Rattle.std.specs.List.{Contains};
+ghost use Rattle.disk_side.specs.Published.{IsNew as IsAlone};
 ghost use Rattle.edge_model.specs.Causes.{Rose};
 ghost use Rattle.edge_model.specs.Images.{Each, From, LeavesOnly};
 ghost use Rattle.cipher_profile.specs.Profile.{IsListed};
@@ -13,7 +14,7 @@ ghost use Rattle.pager.specs.Pages.{is_number, opened_pages};
 ghost use Rattle.rekey_job.specs.Rekeyed.{IsRekeyed};
 ghost use Rattle.transaction.specs.Facts.{SameFresh};
 ghost use Rattle.sqlcipher_tool.specs.Answer.{Answer};
-ghost use Rattle.sqlcipher_tool.specs.Change.{IsAlone, IsLateChange, KeepsOrCommits, change_answer, change_status, rekey_error};
+ghost use Rattle.sqlcipher_tool.specs.Change.{IsLateChange, KeepsOrCommits, change_answer, change_status, rekey_error};
 ghost use Rattle.sqlcipher_tool.specs.Draws.{FileDraws};
 ghost use Rattle.sqlcipher_tool.specs.Holding.{HoldsOnly, held_by};
 ghost use Rattle.sqlcipher_tool.specs.Opening.{AreRecovered};

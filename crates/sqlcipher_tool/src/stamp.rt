@@ -1,5 +1,6 @@
 // `stamp`: a field of the database header is set, in one transaction that changes page 1 alone.
 ghost use Rattle.std.specs.Prelude.{◌≡◌, ◌⊎◌, ◌≤◌, ◌==◌, ◌∷◌, [], ℕ, List, drop, length, true, Some, Ok, Err, IfErr, OnOk, IsTrue, if◌then◌else◌};
+ghost use Rattle.disk_side.specs.Published.{IsNew as IsAlone};
 ghost use Rattle.edge_model.specs.Causes.{Rose};
 ghost use Rattle.edge_model.specs.Images.{Each, From, LeavesOnly};
 ghost use Rattle.cipher_profile.specs.Profile.{IsListed, usable};
@@ -13,7 +14,7 @@ ghost use Rattle.rollback_journal.specs.Playing.{main_of as read_main};
 ghost use Rattle.transaction.specs.Database.{HoldsOld};
 ghost use Rattle.transaction.specs.Facts.{IsBase, SameFresh};
 ghost use Rattle.sqlcipher_tool.specs.Answer.{Answer, IsFault};
-ghost use Rattle.sqlcipher_tool.specs.Change.{IsAlone, IsLateChange, KeepsOrCommits, change_answer, change_status, page_error};
+ghost use Rattle.sqlcipher_tool.specs.Change.{IsLateChange, KeepsOrCommits, change_answer, change_status, page_error};
 ghost use Rattle.sqlcipher_tool.specs.Draws.{FileDraws};
 ghost use Rattle.sqlcipher_tool.specs.Holding.{HoldsOnly, held_by};
 ghost use Rattle.sqlcipher_tool.specs.Opening.{AreRecovered};

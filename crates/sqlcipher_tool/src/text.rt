@@ -3,7 +3,7 @@ ghost use Rattle.std.specs.Prelude.{◌≡◌, ◌+◌, ◌≤◌, ◌++◌, ◌
 ghost use Rattle.std.specs.Fmt.{signed_decimal};
 ghost use Rattle.edge_model.specs.Causes.{HasCause};
 ghost use Rattle.sqlcipher_tool.specs.Answer.{PutsPart};
-ghost use Rattle.sqlcipher_tool.specs.Text.{defect_text, of_page, verify_report, refusal_text, refusal_line, tags_report, probe_report, recovery_line, stamped_report, rekeyed_report, made_report, field_line, header_report, usage_line, key_refused_line};
+ghost use Rattle.sqlcipher_tool.specs.Text.{defect_text, of_page, verify_report, refusal_text, refusal_line, tags_report, probe_report, recovery_line, stamped_report, rekeyed_report, migrated_report, made_report, field_line, header_report, usage_line, key_refused_line};
 
 use crate::status::Refusal;
 use db_format::{Defect, Header};
@@ -254,6 +254,15 @@ pub fn rekeyed_report(pages: u32) -> Text
 {
     let mut text = Text::new();
     text.push_around(b"rekeyed: ", u64::from(pages), b" pages\n");
+    text
+}
+
+/// The line of a file that was written anew in another profile.
+pub fn migrated_report(pages: u32) -> Text
+    ensures { result ≡ migrated_report pages }
+{
+    let mut text = Text::new();
+    text.push_around(b"migrated: ", u64::from(pages), b" pages\n");
     text
 }
 

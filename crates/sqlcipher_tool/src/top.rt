@@ -6,13 +6,14 @@ ghost use Rattle.edge_model.specs.Causes.{Rose};
 ghost use Rattle.cipher_profile.specs.declared.key_line.KeyError.{KeyError as KeyRefusal};
 ghost use Rattle.cipher_profile.specs.declared.keys.Secret.{Secret as Key};
 ghost use Rattle.sqlcipher_tool.specs.Answer.{IsEarly, Puts, PutsLine, HasDrawnCauses};
+ghost use Rattle.sqlcipher_tool.specs.Change.{command_of};
 ghost use Rattle.sqlcipher_tool.specs.Crash.{Keeps, Changes, GaveKeys, HasOwnDraws};
 ghost use Rattle.sqlcipher_tool.specs.Due.{due, key_answer, key_lines, word_refusal, asked_answers, keyed_answers, secret_answers};
 ghost use Rattle.sqlcipher_tool.specs.Holding.{disk_run};
-ghost use Rattle.sqlcipher_tool.specs.Promises.{AnswersOne, AreWordsThat, ComesLate, IsAnsweredEarly, IsUnrecovered, TakesAtMost, TakesLines, WhereTaken, after_lines, takes_keys, two_secrets};
+ghost use Rattle.sqlcipher_tool.specs.Promises.{AnswersOne, AreWordsThat, ComesLate, IsAnsweredEarly, IsUnrecovered, TakesAtMost, TakesLines, is_in_the_way, WhereTaken, after_lines, takes_keys, two_secrets};
+ghost use Rattle.sqlcipher_tool.specs.Servable.{CanBeServed, IsDoneOrStarved, NoneRose};
 ghost use Rattle.sqlcipher_tool.specs.Text.{usage_line};
 ghost use Rattle.sqlcipher_tool.specs.declared.command.Command.{Command as Asked};
-ghost use Rattle.sqlcipher_tool.specs.declared.command.Command.TheVariants.{Rekey as RekeyOf};
 ghost use Rattle.sqlcipher_tool.specs.declared.status.Refusal.{Refusal as Refused};
 ghost use Rattle.sqlcipher_tool.specs.Words.{draws, form, texts, keys_taken, lacks_tags, layouts_differ, takes_memory, IsServed};
 
@@ -49,7 +50,10 @@ pub fn run<K: Source, S: Sink, E: Entropy, D: Disk>(
     ensures key_refusals { IsTrue K.tells → WhereTaken (texts words.now) (λ command. (error : KeyRefusal)
         → key_lines (keys_taken command) (K.left input.old) ≡ Err error → IsAnsweredEarly result (key_answer error)) }
     ensures answer { IsTrue K.tells → IsTrue D.tells
-        → AnswersOne (due (texts words.now) (K.left input.old) (D.reads disk.old)) result S.tells (S.taken out.old) (S.taken out.new) }
+        → AnswersOne (due (texts words.now) (K.left input.old) (D.reads disk.old) (D.reads disk.new)) result S.tells (S.taken out.old) (S.taken out.new) }
+    ensures complete { IsTrue K.tells → IsTrue D.tells → CanBeServed (texts words.now) (K.left input.old) (D.reads disk.old)
+        → NoneRose ((K.faults input.old, K.faults input.new) ∷ (S.faults out.old, S.faults out.new)
+        ∷ (E.faults entropy.old, E.faults entropy.new) ∷ (D.faults disk.old, D.faults disk.new) ∷ []) → IsDoneOrStarved result }
 
     // When something outside failed in its place, or memory ran out.
     ensures input_fault { result ≡ Status.InputFault → Rose (K.faults input.old) (K.faults input.new) × AreWordsThat takes_keys (texts words.now) }
@@ -77,6 +81,8 @@ pub fn run<K: Source, S: Sink, E: Entropy, D: Disk>(
     ensures fault_first { result ≡ Status.InputFault → disk.new ≡ disk.old }
     ensures takes { IsTrue K.tells → WhereTaken (texts words.now) (λ command. TakesLines result (keys_taken command) (K.left input.old) (K.left input.new)) }
     ensures draws { (AreWordsThat draws (texts words.now) → ⊥) → entropy.new ≡ entropy.old }
+    ensures undrawn { IsTrue D.tells → (command : Asked) → form (texts words.now) ≡ Some command → is_in_the_way command (D.reads disk.old) ≡ true
+        → entropy.new ≡ entropy.old }
     ensures own_draws { IsTrue D.tells → IsTrue E.tells → result ≡ Status.Done → (command : Asked) → form (texts words.now) ≡ Some command
         → HasOwnDraws command (GaveKeys K.tells (key_lines (keys_taken command) (K.left input.old))) (main_of (D.reads disk.new)) (drop (length (E.drawn entropy.old)) (E.drawn entropy.new)) }
 
@@ -107,7 +113,7 @@ fn serve<K: Source, S: Sink, E: Entropy, D: Disk>(
     ensures key_refusals { IsTrue K.tells → word_refusal command ≡ None → (error : KeyRefusal)
         → key_lines (keys_taken command) (K.left input.old) ≡ Err error → IsAnsweredEarly result (key_answer error) }
     ensures answer { IsTrue K.tells → IsTrue D.tells
-        → AnswersOne (asked_answers (word_refusal command) command (K.left input.old) (D.reads disk.old)) result S.tells (S.taken out.old) (S.taken out.new) }
+        → AnswersOne (asked_answers (word_refusal command) command (K.left input.old) (D.reads disk.old) (D.reads disk.new)) result S.tells (S.taken out.old) (S.taken out.new) }
     ensures no_usage { result ≡ Status.Usage → ⊥ }
     ensures input_fault { result ≡ Status.InputFault → Rose (K.faults input.old) (K.faults input.new) × (takes_keys command ≡ true) }
     ensures output_fault { result ≡ Status.OutputFault → Rose (S.faults out.old) (S.faults out.new) }
@@ -123,6 +129,7 @@ fn serve<K: Source, S: Sink, E: Entropy, D: Disk>(
     ensures fault_first { result ≡ Status.InputFault → disk.new ≡ disk.old }
     ensures takes { IsTrue K.tells → word_refusal command ≡ None → TakesLines result (keys_taken command) (K.left input.old) (K.left input.new) }
     ensures draws { draws command ≡ false → entropy.new ≡ entropy.old }
+    ensures undrawn { IsTrue D.tells → is_in_the_way command (D.reads disk.old) ≡ true → entropy.new ≡ entropy.old }
     ensures own_draws { IsTrue D.tells → IsTrue E.tells → result ≡ Status.Done
         → HasOwnDraws command (GaveKeys K.tells (key_lines (keys_taken command) (K.left input.old))) (main_of (D.reads disk.new)) (drop (length (E.drawn entropy.old)) (E.drawn entropy.new)) }
     ensures unrecovered { IsTrue D.tells → IsUnrecovered result → D.reads disk.new ≡ D.reads disk.old }
@@ -139,7 +146,12 @@ fn serve<K: Source, S: Sink, E: Entropy, D: Disk>(
     }
     match command {
         Command::Recover(profile) => report_recovery(alloc, profile, out, disk),
-        Command::Rekey { old, new } => serve_rekey(alloc, old, new, input, out, entropy, disk),
+        Command::Rekey { old, new } => {
+            serve_two_keys(alloc, Change::Rekey, old, new, input, out, entropy, disk)
+        }
+        Command::Migrate { old, new } => {
+            serve_two_keys(alloc, Change::Migrate, old, new, input, out, entropy, disk)
+        }
         Command::Tags(_)
         | Command::Header(_)
         | Command::Verify(_)
@@ -164,7 +176,7 @@ fn serve_keyed<K: Source, S: Sink, E: Entropy, D: Disk>(
     requires keyed { keys_taken command ≡ 1 }
     ensures key_refusals { IsTrue K.tells → (error : KeyRefusal) → key_lines 1 (K.left input.old) ≡ Err error → IsAnsweredEarly result (key_answer error) }
     ensures answer { IsTrue K.tells → IsTrue D.tells
-        → AnswersOne (keyed_answers command (key_lines 1 (K.left input.old)) (D.reads disk.old)) result S.tells (S.taken out.old) (S.taken out.new) }
+        → AnswersOne (keyed_answers command (key_lines 1 (K.left input.old)) (D.reads disk.old) (D.reads disk.new)) result S.tells (S.taken out.old) (S.taken out.new) }
     ensures no_usage { result ≡ Status.Usage → ⊥ }
     ensures input_fault { result ≡ Status.InputFault → Rose (K.faults input.old) (K.faults input.new) }
     ensures output_fault { result ≡ Status.OutputFault → Rose (S.faults out.old) (S.faults out.new) }
@@ -179,6 +191,7 @@ fn serve_keyed<K: Source, S: Sink, E: Entropy, D: Disk>(
     ensures fault_first { result ≡ Status.InputFault → disk.new ≡ disk.old }
     ensures takes { IsTrue K.tells → TakesLines result 1 (K.left input.old) (K.left input.new) }
     ensures draws { draws command ≡ false → entropy.new ≡ entropy.old }
+    ensures undrawn { IsTrue D.tells → is_in_the_way command (D.reads disk.old) ≡ true → entropy.new ≡ entropy.old }
     ensures own_draws { IsTrue D.tells → IsTrue E.tells → result ≡ Status.Done
         → HasOwnDraws command (GaveKeys K.tells (key_lines 1 (K.left input.old))) (main_of (D.reads disk.new)) (drop (length (E.drawn entropy.old)) (E.drawn entropy.new)) }
     ensures unrecovered { IsTrue D.tells → IsUnrecovered result → D.reads disk.new ≡ D.reads disk.old }
@@ -209,11 +222,12 @@ fn carry_out<S: Sink, E: Entropy, D: Disk>(
     requires tagged { lacks_tags command ≡ false }
     requires keyed { keys_taken command ≡ 1 }
     ensures answer { IsTrue D.tells
-        → AnswersOne (secret_answers command (secret.now ∷ []) (D.reads disk.old)) result S.tells (S.taken out.old) (S.taken out.new) }
+        → AnswersOne (secret_answers command (secret.now ∷ []) (D.reads disk.old) (D.reads disk.new)) result S.tells (S.taken out.old) (S.taken out.new) }
     ensures line { IsTrue S.tells → PutsLine result (S.taken out.old) (S.taken out.new) }
     ensures memory { result ≡ Status.OutOfMemory → takes_memory command ≡ true }
     ensures causes { HasDrawnCauses result (draws command) (D.faults disk.old) (D.faults disk.new) (S.faults out.old) (S.faults out.new) (E.faults entropy.old) (E.faults entropy.new) }
     ensures draws { draws command ≡ false → entropy.new ≡ entropy.old }
+    ensures undrawn { IsTrue D.tells → is_in_the_way command (D.reads disk.old) ≡ true → entropy.new ≡ entropy.old }
     ensures own_draws { IsTrue D.tells → IsTrue E.tells → result ≡ Status.Done
         → HasOwnDraws command (λ secrets. secrets ≡ secret.now ∷ []) (main_of (D.reads disk.new)) (drop (length (E.drawn entropy.old)) (E.drawn entropy.new)) }
     ensures unrecovered { IsTrue D.tells → IsUnrecovered result → D.reads disk.new ≡ D.reads disk.old }
@@ -244,13 +258,14 @@ fn carry_out<S: Sink, E: Entropy, D: Disk>(
         Command::Make { profile, rows } => {
             make_file(alloc, profile, rows, secret, out, entropy, disk)
         }
-        Command::Recover(_) | Command::Rekey { .. } => unreachable!(),
+        Command::Recover(_) | Command::Rekey { .. } | Command::Migrate { .. } => unreachable!(),
     }
 }
 
-// `rekey`: the first key line has the old key, and the second the new one.
-fn serve_rekey<K: Source, S: Sink, E: Entropy, D: Disk>(
+// A command from one key to another: the first key line has the old key, and the second the new one.
+fn serve_two_keys<K: Source, S: Sink, E: Entropy, D: Disk>(
     alloc: Global,
+    change: Change,
     old: Profile,
     new: Profile,
     input: &mut K,
@@ -258,11 +273,12 @@ fn serve_rekey<K: Source, S: Sink, E: Entropy, D: Disk>(
     entropy: &mut E,
     disk: &mut D,
 ) -> Status
-    requires served { IsServed (RekeyOf old new) }
-    requires layout { layouts_differ (RekeyOf old new) ≡ false }
+    requires served { IsServed (command_of change old new) }
+    requires layout { layouts_differ (command_of change old new) ≡ false }
+    requires keyed { keys_taken (command_of change old new) ≡ 2 }
     ensures key_refusals { IsTrue K.tells → (error : KeyRefusal) → key_lines 2 (K.left input.old) ≡ Err error → IsAnsweredEarly result (key_answer error) }
     ensures answer { IsTrue K.tells → IsTrue D.tells
-        → AnswersOne (keyed_answers (RekeyOf old new) (key_lines 2 (K.left input.old)) (D.reads disk.old)) result S.tells (S.taken out.old) (S.taken out.new) }
+        → AnswersOne (keyed_answers (command_of change old new) (key_lines 2 (K.left input.old)) (D.reads disk.old) (D.reads disk.new)) result S.tells (S.taken out.old) (S.taken out.new) }
     ensures no_usage { result ≡ Status.Usage → ⊥ }
     ensures input_fault { result ≡ Status.InputFault → Rose (K.faults input.old) (K.faults input.new) }
     ensures output_fault { result ≡ Status.OutputFault → Rose (S.faults out.old) (S.faults out.new) }
@@ -276,11 +292,11 @@ fn serve_rekey<K: Source, S: Sink, E: Entropy, D: Disk>(
     ensures fault_first { result ≡ Status.InputFault → disk.new ≡ disk.old }
     ensures takes { IsTrue K.tells → TakesLines result 2 (K.left input.old) (K.left input.new) }
     ensures own_draws { IsTrue D.tells → IsTrue E.tells → result ≡ Status.Done
-        → HasOwnDraws (RekeyOf old new) (GaveKeys K.tells (key_lines 2 (K.left input.old))) (main_of (D.reads disk.new)) (drop (length (E.drawn entropy.old)) (E.drawn entropy.new)) }
+        → HasOwnDraws (command_of change old new) (GaveKeys K.tells (key_lines 2 (K.left input.old))) (main_of (D.reads disk.new)) (drop (length (E.drawn entropy.old)) (E.drawn entropy.new)) }
     ensures unrecovered { IsTrue D.tells → IsUnrecovered result → D.reads disk.new ≡ D.reads disk.old }
-    ensures keeps { IsTrue D.tells → Keeps (RekeyOf old new) (disk_run D.reads D.images D.moment D.since disk.old disk.new) }
+    ensures keeps { IsTrue D.tells → Keeps (command_of change old new) (disk_run D.reads D.images D.moment D.since disk.old disk.new) }
     ensures changes { IsTrue D.tells
-        → Changes result (RekeyOf old new) (GaveKeys K.tells (key_lines 2 (K.left input.old))) (disk_run D.reads D.images D.moment D.since disk.old disk.new) }
+        → Changes result (command_of change old new) (GaveKeys K.tells (key_lines 2 (K.left input.old))) (disk_run D.reads D.images D.moment D.since disk.old disk.new) }
     ensures entropy_later { E.faults entropy.old ≤ E.faults entropy.new }
     ensures input_later { K.faults input.old ≤ K.faults input.new }
     ensures output_later { S.faults out.old ≤ S.faults out.new }
@@ -288,15 +304,7 @@ fn serve_rekey<K: Source, S: Sink, E: Entropy, D: Disk>(
 {
     match read_keys(input) {
         Ok((first, second)) => change_file(
-            alloc,
-            Change::Rekey,
-            old,
-            new,
-            &first,
-            &second,
-            out,
-            entropy,
-            disk,
+            alloc, change, old, new, &first, &second, out, entropy, disk,
         ),
         Err(error) => conclude_key(out, error),
     }

@@ -1,11 +1,12 @@
 use Rattle.std.proofs.Common.{◌≡◌, inl, ◌≤◌, ◌<◌, ℕ, List, length, refl, sym, ap, subst, ◌∙◌, arith, rules}
+use Rattle.disk_side.specs.Published.{IsNew as IsAlone}
 use Rattle.edge_model.specs.Files.{bytes_of}
 use Rattle.edge_model.specs.Images.{Each, From, LeavesOnly}
 use Rattle.edge_model.specs.Moments.{at_exit, then_from, weaker}
 use Rattle.page_codec.specs.Page.{keys_of}
 use Rattle.pager.specs.File.{main_of}
 use Rattle.transaction.specs.Facts.{SameFresh}
-use Rattle.sqlcipher_tool.specs.Change.{IsAlone, KeepsOrCommits, change_answers, command_of}
+use Rattle.sqlcipher_tool.specs.Change.{KeepsOrCommits, change_answers, command_of}
 use Rattle.sqlcipher_tool.specs.Holding.{HoldsOnly, held_by}
 use Rattle.sqlcipher_tool.specs.Recovered.{recovered_main, recovery_of}
 use Rattle.sqlcipher_tool.specs.Renewal.{IsNew, Renewal}
@@ -42,15 +43,18 @@ returns-in-Ok-clause-changes g c = λ told start.
     (after_old d.reads d.images d.moment d.since g.met.D.Disk.counts_now g.met.D.Disk.only_now c.change_main.result first next)
 
 pub returns-in-Ok-clause-fresh : goal.returns-in-Ok-clause-fresh
-returns-in-Ok-clause-fresh g c = λ told.
+returns-in-Ok-clause-fresh g c = λ told in_place.
     let first : LeavesOnly g.D.Disk.moment g.D.Disk.since c.args.disk.now c.recover_main.new.disk (From SameFresh (g.D.Disk.images c.args.disk.now)) =
     weaker (λ image from. (from.0, from.1, from.2.fresh)) (c.recover_main.ensures.keeps told) in
-    then_from g.met.D.Disk.counts_now (λ a b e ab be. be ∙ ab) first (c.change_main.ensures.fresh told)
+    then_from g.met.D.Disk.counts_now (λ a b e ab be. be ∙ ab) first (c.change_main.ensures.fresh told in_place)
 
 pub returns-in-Ok-clause-unrecovered : goal.returns-in-Ok-clause-unrecovered
 returns-in-Ok-clause-unrecovered g c = λ told is.
-    let answers = change_answers c.args.change c.args.old c.args.first.now (main_of (g.D.Disk.reads c.recover_main.new.disk)) in
-    absurd (answers_recovered answers (change_of_file c.args.change c.args.old c.args.first.now (main_of (g.D.Disk.reads c.recover_main.new.disk))) c.change_main.result g.S.Sink.tells
+    let file = main_of (g.D.Disk.reads c.recover_main.new.disk) in
+    let after = main_of (g.D.Disk.reads c.change_main.new.disk) in
+    let renewal : Renewal = record { old_profile = c.args.old; old_secret = c.args.first.now; new_profile = c.args.new; new_secret = c.args.second.now } in
+    let answers = change_answers c.args.change renewal file after in
+    absurd (answers_recovered answers (change_of_file c.args.change renewal file after) c.change_main.result g.S.Sink.tells
     (g.S.Sink.taken c.args.out.now) (g.S.Sink.taken c.change_main.new.out) (c.change_main.ensures.answer told) is)
 
 pub change_main-requires-clause-recovered : goal.change_main-requires-clause-recovered
@@ -72,10 +76,12 @@ pub returns-in-Err-clause-answer : goal.returns-in-Err-clause-answer
 returns-in-Err-clause-answer g c = λ told.
     let files = g.D.Disk.reads c.args.disk.now in
     let main = recovered_main c.args.old files in
-    let answers = change_answers c.args.change c.args.old c.args.first.now main in
+    let after = main_of (g.D.Disk.reads c.recover_main.new.disk) in
+    let renewal : Renewal = record { old_profile = c.args.old; old_secret = c.args.first.now; new_profile = c.args.new; new_secret = c.args.second.now } in
+    let answers = change_answers c.args.change renewal main after in
     let recovery = recovery_of c.args.old files in
     stop_one _ c.in-Err.stop c.conclude_stop.result g.S.Sink.tells (g.S.Sink.taken c.args.out.now) (g.S.Sink.taken c.conclude_stop.new.out)
-    (after_some recovery answers (change_some c.args.change c.args.old c.args.first.now main))
+    (after_some recovery answers (change_some c.args.change renewal main after))
     (refused_due recovery answers c.in-Err.stop (c.in-Err.ensures.stop told))
     c.conclude_stop.ensures.status c.conclude_stop.ensures.text
     (λ is. let failed = c.conclude_stop.ensures.disk is in (failed.0, ap g.S.Sink.taken failed.1))
@@ -98,7 +104,7 @@ returns-in-Err-clause-changes g c = λ told start.
     })
 
 pub returns-in-Err-clause-fresh : goal.returns-in-Err-clause-fresh
-returns-in-Err-clause-fresh g c = λ told. weaker (λ image from. (from.0, from.1, from.2.fresh)) (c.recover_main.ensures.keeps told)
+returns-in-Err-clause-fresh g c = λ told in_place. weaker (λ image from. (from.0, from.1, from.2.fresh)) (c.recover_main.ensures.keeps told)
 
 pub returns-in-Err-clause-own_draws : goal.returns-in-Err-clause-own_draws
 returns-in-Err-clause-own_draws g c = λ told drawing is.

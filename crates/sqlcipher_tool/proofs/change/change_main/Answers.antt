@@ -1,4 +1,6 @@
 use Rattle.std.proofs.Common.{◌≡◌, ⊎_elim, inl, inr, ℕ, List, Result, Err, refl, sym, ap, subst, ◌∙◌, rules}
+use Rattle.cipher_profile.specs.declared.keys.Secret.{Secret}
+use Rattle.cipher_profile.specs.declared.profile.Profile.{Profile}
 use Rattle.page_codec.specs.Page.{keys_of}
 use Rattle.pager.specs.File.{main_of}
 use Rattle.sqlcipher_tool.specs.Answer.{done}
@@ -17,12 +19,15 @@ use Rattle.sqlcipher_tool.proofs.Stamping.{was_ok}
 use Rattle.sqlcipher_tool.proofs.Verified.{stop_one}
 use Rattle.sqlcipher_tool.proofs.change.change_main.Goals as goal
 
+abbrev renewal_of : Profile → Secret → Profile → Secret → Renewal
+renewal_of old first new second = record { old_profile = old; old_secret = first; new_profile = new; new_secret = second }
+
 abbrev pub Outcome : Type 0
 Outcome = Result (List ℕ) ChangeError
 
 pub returns-in-Ok-clause-answer : goal.returns-in-Ok-clause-answer
 returns-in-Ok-clause-answer g c = λ told.
-    let answers = change_answers c.args.change c.args.old c.args.first.now (main_of (g.D.Disk.reads c.args.disk.now)) in
+    let answers = change_answers c.args.change (renewal_of c.args.old c.args.first.now c.args.new c.args.second.now) (main_of (g.D.Disk.reads c.args.disk.now)) (main_of (g.D.Disk.reads c.change_opened.new.disk)) in
     printed_among answers (done c.in-Ok.report) c.conclude.result g.S.Sink.tells (g.S.Sink.taken c.args.out.now) (g.S.Sink.taken c.conclude.new.out)
     (c.change_opened.ensures.told told (done c.in-Ok.report) (ap change_answer c.in-Ok.is)) tt c.conclude.ensures.status c.conclude.ensures.text
 
@@ -34,14 +39,14 @@ pub returns-in-Ok-clause-safely : goal.returns-in-Ok-clause-safely
 returns-in-Ok-clause-safely g c = λ told start.
     let d = g.D.Disk in
     let file = main_of (d.reads c.args.disk.now) in
-    let renewal : Renewal = record { old_profile = c.args.old; old_secret = c.args.first.now; new_profile = c.args.new; new_secret = c.args.second.now } in
+    let renewal = renewal_of c.args.old c.args.first.now c.args.new c.args.second.now in
     let was = subst (λ (r : Outcome). KeepsOrCommits d.reads d.images d.moment d.since (change_status r) (IsNew (command_of c.args.change c.args.old c.args.new) renewal file)
     (HoldsOnly (held_by (keys_of c.args.old c.args.first.now file) file)) (λ n. HoldsOnly (held_by (keys_of c.args.new c.args.second.now n) n)) c.args.disk.now c.change_opened.new.disk) c.in-Ok.is (c.change_opened.ensures.safely told start) in
     printed d.reads d.images d.moment d.since g.met.D.Disk.counts_now g.met.D.Disk.only_now Done c.conclude.result
     (⊎_elim (λ same. inl same) (λ out. inr (out, tt)) c.conclude.ensures.status) was
 
 pub returns-in-Ok-clause-fresh : goal.returns-in-Ok-clause-fresh
-returns-in-Ok-clause-fresh g c = λ told. c.change_opened.ensures.fresh told
+returns-in-Ok-clause-fresh g c = λ told in_place. c.change_opened.ensures.fresh told in_place
 
 pub returns-in-Ok-clause-own_draws : goal.returns-in-Ok-clause-own_draws
 returns-in-Ok-clause-own_draws g c = λ told drawing is. was_ok c.change_opened.result c.in-Ok.report c.in-Ok.is c.change_opened.ensures.own_draws told drawing
@@ -49,10 +54,12 @@ returns-in-Ok-clause-own_draws g c = λ told drawing is. was_ok c.change_opened.
 pub returns-in-Err-Stopped-clause-answer : goal.returns-in-Err-Stopped-clause-answer
 returns-in-Err-Stopped-clause-answer g c = λ told.
     let file = main_of (g.D.Disk.reads c.args.disk.now) in
-    let answers = change_answers c.args.change c.args.old c.args.first.now file in
+    let after = main_of (g.D.Disk.reads c.change_opened.new.disk) in
+    let renewal = renewal_of c.args.old c.args.first.now c.args.new c.args.second.now in
+    let answers = change_answers c.args.change renewal file after in
     let found : c.change_opened.result ≡ Err (Stopped c.in-Err-Stopped.stop) = search rules in
     let is = subst (λ (s : Stop). c.change_opened.result ≡ Err (Stopped s)) (sym c.in-Err-Stopped.stop-is) found in
-    stop_one answers _ c.conclude_stop.result g.S.Sink.tells (g.S.Sink.taken c.args.out.now) (g.S.Sink.taken c.conclude_stop.new.out) (change_some c.args.change c.args.old c.args.first.now file)
+    stop_one answers _ c.conclude_stop.result g.S.Sink.tells (g.S.Sink.taken c.args.out.now) (g.S.Sink.taken c.conclude_stop.new.out) (change_some c.args.change renewal file after)
     (λ answer same. c.change_opened.ensures.told told answer (ap change_answer is ∙ same))
     c.conclude_stop.ensures.status c.conclude_stop.ensures.text
     (λ same. let failed = c.conclude_stop.ensures.disk same in (failed.0, ap g.S.Sink.taken failed.1))
@@ -73,14 +80,14 @@ returns-in-Err-Stopped-clause-safely g c = λ told start.
     let found : c.change_opened.result ≡ Err (Stopped c.in-Err-Stopped.stop) = search rules in
     let is = subst (λ (s : Stop). c.change_opened.result ≡ Err (Stopped s)) (sym c.in-Err-Stopped.stop-is) found in
     let file = main_of (d.reads c.args.disk.now) in
-    let renewal : Renewal = record { old_profile = c.args.old; old_secret = c.args.first.now; new_profile = c.args.new; new_secret = c.args.second.now } in
+    let renewal = renewal_of c.args.old c.args.first.now c.args.new c.args.second.now in
     let was = subst (λ (r : Outcome). KeepsOrCommits d.reads d.images d.moment d.since (change_status r) (IsNew (command_of c.args.change c.args.old c.args.new) renewal file)
     (HoldsOnly (held_by (keys_of c.args.old c.args.first.now file) file)) (λ n. HoldsOnly (held_by (keys_of c.args.new c.args.second.now n) n)) c.args.disk.now c.change_opened.new.disk) is (c.change_opened.ensures.safely told start) in
     printed d.reads d.images d.moment d.since g.met.D.Disk.counts_now g.met.D.Disk.only_now _ c.conclude_stop.result
     (stop_last _ c.conclude_stop.result c.conclude_stop.ensures.status (λ same. (c.conclude_stop.ensures.disk same).0) (λ same. (c.conclude_stop.ensures.memory same).0)) was
 
 pub returns-in-Err-Stopped-clause-fresh : goal.returns-in-Err-Stopped-clause-fresh
-returns-in-Err-Stopped-clause-fresh g c = λ told. c.change_opened.ensures.fresh told
+returns-in-Err-Stopped-clause-fresh g c = λ told in_place. c.change_opened.ensures.fresh told in_place
 
 pub returns-in-Err-Stopped-clause-own_draws : goal.returns-in-Err-Stopped-clause-own_draws
 returns-in-Err-Stopped-clause-own_draws g c = λ told drawing is.
@@ -90,8 +97,10 @@ returns-in-Err-Stopped-clause-own_draws g c = λ told drawing is.
 pub returns-in-Err-EntropyFault-clause-answer : goal.returns-in-Err-EntropyFault-clause-answer
 returns-in-Err-EntropyFault-clause-answer g c = λ told.
     let file = main_of (g.D.Disk.reads c.args.disk.now) in
-    let answers = change_answers c.args.change c.args.old c.args.first.now file in
-    silent_one answers EntropyFault g.S.Sink.tells _ _ (change_some c.args.change c.args.old c.args.first.now file) tt refl
+    let after = main_of (g.D.Disk.reads c.change_opened.new.disk) in
+    let renewal = renewal_of c.args.old c.args.first.now c.args.new c.args.second.now in
+    let answers = change_answers c.args.change renewal file after in
+    silent_one answers EntropyFault g.S.Sink.tells _ _ (change_some c.args.change renewal file after) tt refl
 
 pub returns-in-Err-EntropyFault-clause-causes : goal.returns-in-Err-EntropyFault-clause-causes
 returns-in-Err-EntropyFault-clause-causes g c =
@@ -103,12 +112,12 @@ returns-in-Err-EntropyFault-clause-safely g c = λ told start.
     let d = g.D.Disk in
     let is : c.change_opened.result ≡ Err EntropyFails = search rules in
     let file = main_of (d.reads c.args.disk.now) in
-    let renewal : Renewal = record { old_profile = c.args.old; old_secret = c.args.first.now; new_profile = c.args.new; new_secret = c.args.second.now } in
+    let renewal = renewal_of c.args.old c.args.first.now c.args.new c.args.second.now in
     subst (λ (r : Outcome). KeepsOrCommits d.reads d.images d.moment d.since (change_status r) (IsNew (command_of c.args.change c.args.old c.args.new) renewal file)
     (HoldsOnly (held_by (keys_of c.args.old c.args.first.now file) file)) (λ n. HoldsOnly (held_by (keys_of c.args.new c.args.second.now n) n)) c.args.disk.now c.change_opened.new.disk) is (c.change_opened.ensures.safely told start)
 
 pub returns-in-Err-EntropyFault-clause-fresh : goal.returns-in-Err-EntropyFault-clause-fresh
-returns-in-Err-EntropyFault-clause-fresh g c = λ told. c.change_opened.ensures.fresh told
+returns-in-Err-EntropyFault-clause-fresh g c = λ told in_place. c.change_opened.ensures.fresh told in_place
 
 pub returns-in-Err-EntropyFault-clause-own_draws : goal.returns-in-Err-EntropyFault-clause-own_draws
 returns-in-Err-EntropyFault-clause-own_draws g c = λ told drawing is. absurd (entropy_not_done is)

@@ -1,15 +1,15 @@
-use Rattle.std.proofs.Common.{◌≡◌, ℕ, length, drop, sym, subst}
+use Rattle.std.proofs.Common.{◌≡◌, ℕ, true, length, drop, sym, ap, subst, ◌∙◌}
 use Rattle.std.specs.List.{Contains}
 use Rattle.std.specs.Prelude.{OnOk, IsTrue}
 use Rattle.cipher_profile.specs.declared.keys.Secret.{Secret}
 use Rattle.cipher_profile.specs.declared.profile.Profile.{Profile}
 use Rattle.page_codec.specs.Page.{keys_of}
 use Rattle.pager.specs.File.{main_of}
-use Rattle.sqlcipher_tool.specs.Change.{IsChangeBetween, KeepsOrCommits, change_answers, change_status, command_of}
+use Rattle.sqlcipher_tool.specs.Change.{IsChangeBetween, KeepsOrCommits, change_answers, change_status, command_of, is_in_place}
 use Rattle.sqlcipher_tool.specs.Holding.{HoldsOnly, held_by}
 use Rattle.sqlcipher_tool.specs.Renewal.{AreDrawn, IsNew, Renewal}
 use Rattle.sqlcipher_tool.specs.declared.change.Change.{Change}
-use Rattle.sqlcipher_tool.specs.declared.change.Change.TheVariants.{Stamp as StampOf, Rekey as RekeyOf}
+use Rattle.sqlcipher_tool.specs.declared.change.Change.TheVariants.{Stamp as StampOf, Rekey as RekeyOf, Migrate as MigrateOf}
 use Rattle.sqlcipher_tool.specs.declared.command.Field.{Field}
 use Rattle.sqlcipher_tool.proofs.Changed.{the_only}
 use Rattle.sqlcipher_tool.proofs.change.change_opened.Goals as goal
@@ -29,7 +29,9 @@ module _ (P : Change → Profile → Secret → Type 0) (change : Change) (field
 pub returns-in-Stamp-clause-told : goal.returns-in-Stamp-clause-told
 returns-in-Stamp-clause-told g c = λ told answer is.
     let file = main_of (g.D.Disk.reads c.args.disk.now) in
-    subst (λ (ch : Change). Contains (change_answers ch c.args.old c.args.first.now file) answer) (sym c.in-Stamp.is) (the_only _ answer (sym (c.stamp_file.ensures.told told answer is)))
+    let after = main_of (g.D.Disk.reads c.stamp_file.new.disk) in
+    let renewal : Renewal = record { old_profile = c.args.old; old_secret = c.args.first.now; new_profile = c.args.new; new_secret = c.args.second.now } in
+    subst (λ (ch : Change). Contains (change_answers ch renewal file after) answer) (sym c.in-Stamp.is) (the_only _ answer (sym (c.stamp_file.ensures.told told answer is)))
 
 pub returns-in-Stamp-clause-safely : goal.returns-in-Stamp-clause-safely
 returns-in-Stamp-clause-safely g c = λ told start.
@@ -67,7 +69,9 @@ rekey_file-requires-clause-layout g c =
 pub returns-in-Rekey-clause-told : goal.returns-in-Rekey-clause-told
 returns-in-Rekey-clause-told g c = λ told answer is.
     let file = main_of (g.D.Disk.reads c.args.disk.now) in
-    subst (λ (ch : Change). Contains (change_answers ch c.args.old c.args.first.now file) answer) (sym c.in-Rekey.is) (c.rekey_file.ensures.told told answer is)
+    let after = main_of (g.D.Disk.reads c.rekey_file.new.disk) in
+    let renewal : Renewal = record { old_profile = c.args.old; old_secret = c.args.first.now; new_profile = c.args.new; new_secret = c.args.second.now } in
+    subst (λ (ch : Change). Contains (change_answers ch renewal file after) answer) (sym c.in-Rekey.is) (c.rekey_file.ensures.told told answer is)
 
 pub returns-in-Rekey-clause-safely : goal.returns-in-Rekey-clause-safely
 returns-in-Rekey-clause-safely g c = λ told start.
@@ -86,3 +90,35 @@ returns-in-Rekey-clause-own_draws g c =
     let renewal : Renewal = record { old_profile = c.args.old; old_secret = c.args.first.now; new_profile = c.args.new; new_secret = c.args.second.now } in
     subst (λ (ch : Change). OnOk c.rekey_file.result (IsTrue d.tells → IsTrue g.E.Entropy.tells → AreDrawn (command_of ch c.args.old c.args.new) renewal main drawn))
     (sym c.in-Rekey.is) c.rekey_file.ensures.own_draws
+
+-- a new file in Main's place is no change in place
+not_in_place : (change : Change) → change ≡ MigrateOf → is_in_place change ≡ true → ⊥
+not_in_place change is holds = let none = sym (ap is_in_place is) ∙ holds in cc
+
+pub returns-in-Migrate-clause-fresh : goal.returns-in-Migrate-clause-fresh
+returns-in-Migrate-clause-fresh g c = λ told in_place. absurd (not_in_place c.args.change c.in-Migrate.is in_place)
+
+pub returns-in-Migrate-clause-told : goal.returns-in-Migrate-clause-told
+returns-in-Migrate-clause-told g c = λ told answer is.
+    let file = main_of (g.D.Disk.reads c.args.disk.now) in
+    let after = main_of (g.D.Disk.reads c.migrate_file.new.disk) in
+    let renewal : Renewal = record { old_profile = c.args.old; old_secret = c.args.first.now; new_profile = c.args.new; new_secret = c.args.second.now } in
+    subst (λ (ch : Change). Contains (change_answers ch renewal file after) answer) (sym c.in-Migrate.is) (c.migrate_file.ensures.told told answer is)
+
+pub returns-in-Migrate-clause-safely : goal.returns-in-Migrate-clause-safely
+returns-in-Migrate-clause-safely g c = λ told start.
+    let d = g.D.Disk in
+    let file = main_of (d.reads c.args.disk.now) in
+    let renewal : Renewal = record { old_profile = c.args.old; old_secret = c.args.first.now; new_profile = c.args.new; new_secret = c.args.second.now } in
+    subst (λ (ch : Change). KeepsOrCommits d.reads d.images d.moment d.since (change_status c.migrate_file.result) (IsNew (command_of ch c.args.old c.args.new) renewal file)
+    (HoldsOnly (held_by (keys_of c.args.old c.args.first.now file) file)) (λ n. HoldsOnly (held_by (keys_of c.args.new c.args.second.now n) n)) c.args.disk.now c.migrate_file.new.disk)
+    (sym c.in-Migrate.is) (c.migrate_file.ensures.safely told start)
+
+pub returns-in-Migrate-clause-own_draws : goal.returns-in-Migrate-clause-own_draws
+returns-in-Migrate-clause-own_draws g c =
+    let d = g.D.Disk in
+    let main = main_of (d.reads c.migrate_file.new.disk) in
+    let drawn = drop (length (g.E.Entropy.drawn c.args.entropy.now)) (g.E.Entropy.drawn c.migrate_file.new.entropy) in
+    let renewal : Renewal = record { old_profile = c.args.old; old_secret = c.args.first.now; new_profile = c.args.new; new_secret = c.args.second.now } in
+    subst (λ (ch : Change). OnOk c.migrate_file.result (IsTrue d.tells → IsTrue g.E.Entropy.tells → AreDrawn (command_of ch c.args.old c.args.new) renewal main drawn))
+    (sym c.in-Migrate.is) c.migrate_file.ensures.own_draws

@@ -6,7 +6,7 @@ use Rattle.sqlcipher_tool.specs.Change.{IsLateChange, KeepsOrCommits, change_ans
 use Rattle.sqlcipher_tool.specs.Crash.{HasNoMain}
 use Rattle.disk_side.specs.Published.{IsNew}
 use Rattle.sqlcipher_tool.specs.declared.opening.ChangeError.{ChangeError}
-use Rattle.sqlcipher_tool.proofs.Making.{made_due, made_there, make_disk, make_entropy, make_late, stands_some, unmade_due, unmade_there}
+use Rattle.sqlcipher_tool.proofs.Making.{made_due, made_there, make_disk, make_entropy, make_late, same_journal, stands_some, unmade_due, unmade_there}
 use Rattle.sqlcipher_tool.proofs.make.make_database.Goals as goal
 
 abbrev failed : ChangeError → Rattle.std.specs.Prelude.Result (List ℕ) ChangeError
@@ -64,3 +64,19 @@ returns-in-Err-clause-disk_fault g c = λ is.
 pub returns-in-Err-clause-entropy_fault : goal.returns-in-Err-clause-entropy_fault
 returns-in-Err-clause-entropy_fault g c = λ is.
     c.make.ensures.entropy_fault (c.in-Err.is ∙ ap (λ (e : _). Err e) (make_entropy c.in-Err.error (sym c.make_error.ensures ∙ error_same c.make_error.result _ is)))
+
+pub returns-in-Ok-clause-journal : goal.returns-in-Ok-clause-journal
+returns-in-Ok-clause-journal g c = λ told. same_journal (c.make.ensures.any_moment told)
+
+pub returns-in-Ok-clause-undrawn : goal.returns-in-Ok-clause-undrawn
+returns-in-Ok-clause-undrawn g c = λ told there.
+    let way = stands_some (g.D.Disk.reads c.args.disk.now) there in
+    (c.make.ensures.stopped way.0 told way.1).2
+
+pub returns-in-Err-clause-journal : goal.returns-in-Err-clause-journal
+returns-in-Err-clause-journal g c = λ told. same_journal (c.make.ensures.any_moment told)
+
+pub returns-in-Err-clause-undrawn : goal.returns-in-Err-clause-undrawn
+returns-in-Err-clause-undrawn g c = λ told there.
+    let way = stands_some (g.D.Disk.reads c.args.disk.now) there in
+    (c.make.ensures.stopped way.0 told way.1).2

@@ -135,3 +135,21 @@ returns-in-Err-EntropyFault-clause-only_read g c = c.make_database.ensures.only_
 
 pub returns-in-Err-EntropyFault-clause-own_draws : goal.returns-in-Err-EntropyFault-clause-own_draws
 returns-in-Err-EntropyFault-clause-own_draws g c = λ told drawing is. absurd (entropy_not_done is)
+
+pub returns-in-Ok-clause-journal : goal.returns-in-Ok-clause-journal
+returns-in-Ok-clause-journal g c = c.make_database.ensures.journal
+
+pub returns-in-Ok-clause-undrawn : goal.returns-in-Ok-clause-undrawn
+returns-in-Ok-clause-undrawn g c = c.make_database.ensures.undrawn
+
+pub returns-in-Err-Stopped-clause-journal : goal.returns-in-Err-Stopped-clause-journal
+returns-in-Err-Stopped-clause-journal g c = c.make_database.ensures.journal
+
+pub returns-in-Err-Stopped-clause-undrawn : goal.returns-in-Err-Stopped-clause-undrawn
+returns-in-Err-Stopped-clause-undrawn g c = c.make_database.ensures.undrawn
+
+pub returns-in-Err-EntropyFault-clause-journal : goal.returns-in-Err-EntropyFault-clause-journal
+returns-in-Err-EntropyFault-clause-journal g c = c.make_database.ensures.journal
+
+pub returns-in-Err-EntropyFault-clause-undrawn : goal.returns-in-Err-EntropyFault-clause-undrawn
+returns-in-Err-EntropyFault-clause-undrawn g c = c.make_database.ensures.undrawn

@@ -1,6 +1,7 @@
 use Rattle.std.proofs.Common.{◌≡◌, inl, ℕ, List, length, drop, Ok, Err, Result, sym, ap, subst, ◌∙◌, arith, rules}
 use Rattle.std.specs.List.{Contains}
 use Rattle.std.specs.Prelude.{OnOk}
+use Rattle.disk_side.specs.Published.{IsNew as IsAlone}
 use Rattle.edge_model.specs.Causes.{Rose}
 use Rattle.edge_model.specs.Files.{Files}
 use Rattle.edge_model.specs.Images.{From, LeavesOnly}
@@ -13,7 +14,7 @@ use Rattle.pager.specs.Pages.{is_number, opened_pages}
 use Rattle.pager.specs.declared.opening.OpenError.{OpenError}
 use Rattle.rekey_job.specs.Rekeyed.{IsRekeyed}
 use Rattle.transaction.specs.Facts.{SameFresh}
-use Rattle.sqlcipher_tool.specs.Change.{IsAlone, KeepsOrCommits, change_status}
+use Rattle.sqlcipher_tool.specs.Change.{KeepsOrCommits, change_status}
 use Rattle.sqlcipher_tool.specs.Draws.{FileDraws}
 use Rattle.sqlcipher_tool.specs.Holding.{HoldsOnly, held_by}
 use Rattle.sqlcipher_tool.specs.Opening.{opened_with}

@@ -1,4 +1,5 @@
 use Rattle.std.proofs.Common.{◌≡◌, ⊎_elim, inl, ◌≤◌, ℕ, List, Ok, IsTrue, refl, sym, ap, subst, ◌∙◌, arith, rules}
+use Rattle.disk_side.specs.Published.{IsNew as IsAlone}
 use Rattle.edge_model.specs.Files.{Files}
 use Rattle.edge_model.specs.Images.{From, LeavesOnly}
 use Rattle.edge_model.specs.Moments.{then_from}
@@ -9,7 +10,7 @@ use Rattle.pager.specs.File.{main_of}
 use Rattle.pager.specs.Opening.{file_opened}
 use Rattle.transaction.specs.Facts.{SameFresh}
 use Rattle.sqlcipher_tool.specs.Answer.{done}
-use Rattle.sqlcipher_tool.specs.Change.{IsAlone, KeepsOrCommits, change_answer, change_status}
+use Rattle.sqlcipher_tool.specs.Change.{KeepsOrCommits, change_answer, change_status}
 use Rattle.sqlcipher_tool.specs.Holding.{HoldsOnly, held_by}
 use Rattle.sqlcipher_tool.specs.Opening.{opened_with}
 use Rattle.sqlcipher_tool.specs.Stamp.{IsStamped, stamped_answer}

@@ -28,7 +28,7 @@ returns-in-Tags-clause-answer g c = λ told.
     let one = answers_one (recovered_answer c.in-Tags.profile files (tags_answer c.in-Tags.profile secret)) c.tags.result g.S.Sink.tells before after
     (c.tags.ensures.status told) (λ printed. c.tags.ensures.text printed told) (λ printed is. c.tags.ensures.disk_text printed told is)
     (λ is. ap g.S.Sink.taken (c.tags.ensures.memory_text is)) c.tags.ensures.causes.input c.tags.ensures.causes.entropy in
-    subst (λ (command : Asked). AnswersOne (secret_answers command (secret ∷ []) files) c.tags.result g.S.Sink.tells before after)
+    subst (λ (command : Asked). AnswersOne (secret_answers command (secret ∷ []) files (g.D.Disk.reads c.tags.new.disk)) c.tags.result g.S.Sink.tells before after)
     (sym c.in-Tags.is) one
 
 pub returns-in-Tags-clause-keeps : goal.returns-in-Tags-clause-keeps
@@ -46,7 +46,7 @@ returns-in-Header-clause-answer g c = λ told.
     let one = answers_one (recovered_answer c.in-Header.profile files (header_answer c.in-Header.profile secret)) c.header.result g.S.Sink.tells before after
     (c.header.ensures.status told) (λ printed. c.header.ensures.text printed told) (λ printed is. no_part _ _ _ (ap g.S.Sink.taken (c.header.ensures.disk_text is)))
     (λ is. ap g.S.Sink.taken (c.header.ensures.memory_text is)) c.header.ensures.causes.input c.header.ensures.causes.entropy in
-    subst (λ (command : Asked). AnswersOne (secret_answers command (secret ∷ []) files) c.header.result g.S.Sink.tells before after)
+    subst (λ (command : Asked). AnswersOne (secret_answers command (secret ∷ []) files (g.D.Disk.reads c.header.new.disk)) c.header.result g.S.Sink.tells before after)
     (sym c.in-Header.is) one
 
 pub returns-in-Header-clause-keeps : goal.returns-in-Header-clause-keeps
@@ -76,7 +76,7 @@ returns-in-Probe-clause-answer g c = λ told.
     let one = answers_one (probe_answer secret files) c.probe.result g.S.Sink.tells before after
     (c.probe.ensures.status told) (λ printed. c.probe.ensures.text printed told) (λ printed is. no_part _ _ _ (ap g.S.Sink.taken (c.probe.ensures.disk_text is)))
     (λ is. absurd (c.probe.ensures.memory is)) c.probe.ensures.causes.input c.probe.ensures.causes.entropy in
-    subst (λ (command : Asked). AnswersOne (secret_answers command (secret ∷ []) files) c.probe.result g.S.Sink.tells before after)
+    subst (λ (command : Asked). AnswersOne (secret_answers command (secret ∷ []) files (g.D.Disk.reads c.probe.new.disk)) c.probe.result g.S.Sink.tells before after)
     (sym c.in-Probe.is) one
 
 pub returns-in-Tags-clause-causes : goal.returns-in-Tags-clause-causes
@@ -141,7 +141,7 @@ returns-in-Probe-clause-changes g c = λ told.
 
 pub returns-in-Stamp-clause-answer : goal.returns-in-Stamp-clause-answer
 returns-in-Stamp-clause-answer g c = λ told.
-    subst (λ (command : Asked). AnswersOne (secret_answers command (c.args.secret.now ∷ []) (g.D.Disk.reads c.args.disk.now)) c.change_file.result g.S.Sink.tells (g.S.Sink.taken c.args.out.now) (g.S.Sink.taken c.change_file.new.out))
+    subst (λ (command : Asked). AnswersOne (secret_answers command (c.args.secret.now ∷ []) (g.D.Disk.reads c.args.disk.now) (g.D.Disk.reads c.change_file.new.disk)) c.change_file.result g.S.Sink.tells (g.S.Sink.taken c.args.out.now) (g.S.Sink.taken c.change_file.new.out))
     (sym c.in-Stamp.is) (c.change_file.ensures.answer told)
 
 pub returns-in-Stamp-clause-causes : goal.returns-in-Stamp-clause-causes
@@ -157,7 +157,7 @@ returns-in-Stamp-clause-own_draws g c = λ told drawing done.
 
 pub returns-in-Stamp-clause-keeps : goal.returns-in-Stamp-clause-keeps
 returns-in-Stamp-clause-keeps g c = λ told. subst (λ (command : Asked). Keeps command (disk_run g.D.Disk.reads g.D.Disk.images g.D.Disk.moment g.D.Disk.since c.args.disk.now c.change_file.new.disk)) (sym c.in-Stamp.is)
-    (λ image ever. (c.change_file.ensures.fresh told).each image ever)
+    (λ image ever. (c.change_file.ensures.fresh told refl).each image ever)
 
 pub returns-in-Stamp-clause-changes : goal.returns-in-Stamp-clause-changes
 returns-in-Stamp-clause-changes g c = λ told.
@@ -168,7 +168,7 @@ returns-in-Stamp-clause-changes g c = λ told.
 
 pub returns-in-Make-clause-answer : goal.returns-in-Make-clause-answer
 returns-in-Make-clause-answer g c = λ told.
-    subst (λ (command : Asked). AnswersOne (secret_answers command (c.args.secret.now ∷ []) (g.D.Disk.reads c.args.disk.now)) c.make_file.result g.S.Sink.tells (g.S.Sink.taken c.args.out.now) (g.S.Sink.taken c.make_file.new.out))
+    subst (λ (command : Asked). AnswersOne (secret_answers command (c.args.secret.now ∷ []) (g.D.Disk.reads c.args.disk.now) (g.D.Disk.reads c.make_file.new.disk)) c.make_file.result g.S.Sink.tells (g.S.Sink.taken c.args.out.now) (g.S.Sink.taken c.make_file.new.out))
     (sym c.in-Make.is) (c.make_file.ensures.answer told)
 
 pub returns-in-Make-clause-causes : goal.returns-in-Make-clause-causes
@@ -186,7 +186,10 @@ pub returns-in-Make-clause-keeps : goal.returns-in-Make-clause-keeps
 returns-in-Make-clause-keeps g c = λ told.
     let run = disk_run g.D.Disk.reads g.D.Disk.images g.D.Disk.moment g.D.Disk.since c.args.disk.now c.make_file.new.disk in
     subst (λ (command : Asked). Keeps command run) (sym c.in-Make.is)
-    (λ there. read_stays g.D.Disk.reads g.D.Disk.images g.D.Disk.moment g.D.Disk.since g.met.D.Disk.counts_now g.met.D.Disk.only_now (c.make_file.ensures.only_read told there))
+    (record {
+      in_the_way = λ there. read_stays g.D.Disk.reads g.D.Disk.images g.D.Disk.moment g.D.Disk.since g.met.D.Disk.counts_now g.met.D.Disk.only_now (c.make_file.ensures.only_read told there);
+      journal = λ image ever. (c.make_file.ensures.journal told).each image ever;
+    })
 
 pub returns-in-Make-clause-changes : goal.returns-in-Make-clause-changes
 returns-in-Make-clause-changes g c = λ told.

@@ -24,7 +24,7 @@ returns-in-Some-clause-answer g c = λ keyed told.
     let status = c.conclude_refusal.result in
     let one = printed_one (refused c.in-Some.refusal) status g.S.Sink.tells before after tt c.conclude_refusal.ensures.status c.conclude_refusal.ensures.text in
     let is : word_refusal c.args.command ≡ Some c.in-Some.refusal = search rules in
-    subst (λ (o : Option Refused). AnswersOne (asked_answers o c.args.command left files) status g.S.Sink.tells before after) (sym is) one
+    subst (λ (o : Option Refused). AnswersOne (asked_answers o c.args.command left files files) status g.S.Sink.tells before after) (sym is) one
 
 pub returns-in-Recover-clause-answer : goal.returns-in-Recover-clause-answer
 returns-in-Recover-clause-answer g c = λ keyed told.
@@ -37,7 +37,7 @@ returns-in-Recover-clause-answer g c = λ keyed told.
     (c.report_recovery.ensures.status told) (λ printed. c.report_recovery.ensures.text printed told)
     (λ printed is. no_part _ _ _ (ap g.S.Sink.taken (c.report_recovery.ensures.disk_text is)))
     (λ is. ap g.S.Sink.taken (c.report_recovery.ensures.memory_text is)) c.report_recovery.ensures.causes.input c.report_recovery.ensures.causes.entropy in
-    subst (λ (command : Asked). AnswersOne (asked_answers (word_refusal command) command left files) status g.S.Sink.tells before after)
+    subst (λ (command : Asked). AnswersOne (asked_answers (word_refusal command) command left files (g.D.Disk.reads c.report_recovery.new.disk)) status g.S.Sink.tells before after)
     (sym c.in-Recover.is) one
 
 pub returns-in-Recover-clause-keeps : goal.returns-in-Recover-clause-keeps
@@ -72,7 +72,7 @@ serve_keyed-requires-clause-tagged g c =
     let none : word_refusal c.args.command ≡ None = search rules in
     (none_refused c.args.command none).0
 
-pub serve_rekey-requires-clause-layout : goal.serve_rekey-requires-clause-layout
-serve_rekey-requires-clause-layout g c =
+pub serve_two_keys-requires-clause-layout : goal.serve_two_keys-requires-clause-layout
+serve_two_keys-requires-clause-layout g c =
     let none : word_refusal c.args.command ≡ None = search rules in
     subst (λ (command : Asked). layouts_differ command ≡ false) c.in-Rekey.is (none_refused c.args.command none).1

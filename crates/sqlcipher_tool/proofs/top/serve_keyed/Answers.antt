@@ -39,7 +39,7 @@ returns-in-Err-clause-key_refusals g c = λ keyed.
 pub returns-in-Err-clause-answer : goal.returns-in-Err-clause-answer
 returns-in-Err-clause-answer g c = λ keyed told.
     let is = λ (other : c.in-Err.error ≢ SourceFault). ap (λ (line : Result Secret KeyError). and_secrets line (Ok [])) (sym (unless_fault Secret c.in-Err.error (λ e. IsTrue g.K.Source.tells → Err e ≡ key_line (g.K.Source.left c.args.input.now)) c.in-Err.ensures.told other keyed)) in
-    key_one c.args.command 1 (g.K.Source.left c.args.input.now) (g.D.Disk.reads c.args.disk.now) c.in-Err.error c.conclude_key.result g.S.Sink.tells
+    key_one c.args.command 1 (g.K.Source.left c.args.input.now) (g.D.Disk.reads c.args.disk.now) (g.D.Disk.reads c.args.disk.now) c.in-Err.error c.conclude_key.result g.S.Sink.tells
     (g.S.Sink.taken c.args.out.now) (g.S.Sink.taken c.conclude_key.new.out) (sym c.requires.keyed) is c.conclude_key.ensures.refused c.conclude_key.ensures.text
     (λ failed. let both = c.conclude_key.ensures.failed failed in (both.0, ap g.S.Sink.taken both.1))
 

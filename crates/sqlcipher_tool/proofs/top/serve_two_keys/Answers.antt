@@ -1,4 +1,4 @@
-use Rattle.std.proofs.Common.{◌≡◌, ◌≢◌, drop, length, ◌∷◌, [], Result, Err, IsTrue, List, refl, sym, ap, subst}
+use Rattle.std.proofs.Common.{◌≡◌, ◌≢◌, drop, length, ◌∷◌, [], Option, Result, Err, IsTrue, List, sym, ap, subst}
 use Rattle.cipher_profile.specs.declared.key_line.KeyError.{KeyError}
 use Rattle.cipher_profile.specs.declared.key_line.KeyError.TheVariants.{SourceFault}
 use Rattle.cipher_profile.specs.declared.keys.Secret.{Secret}
@@ -7,20 +7,26 @@ use Rattle.sqlcipher_tool.specs.Crash.{GaveKeys, IsDrawnFor, IsSafely}
 use Rattle.sqlcipher_tool.specs.Due.{key_lines, keyed_answers}
 use Rattle.sqlcipher_tool.specs.Holding.{disk_run}
 use Rattle.sqlcipher_tool.specs.Promises.{AnswersOne, after_lines}
-use Rattle.sqlcipher_tool.specs.Renewal.{two_keys}
-use Rattle.sqlcipher_tool.specs.declared.command.Command.TheVariants.{Rekey}
+use Rattle.sqlcipher_tool.specs.Answer.{Answer}
+use Rattle.sqlcipher_tool.specs.Change.{command_of}
+use Rattle.sqlcipher_tool.specs.Renewal.{Renewal, two_keys}
 use Rattle.sqlcipher_tool.proofs.Answered.{key_early, key_not_done, key_one, takes_key, unless_fault}
-use Rattle.sqlcipher_tool.proofs.Asked.{changes_of, draws_of, same_layout, same_secrets, unchanged_changes, unchanged_keeps}
-use Rattle.sqlcipher_tool.proofs.top.serve_rekey.Goals as goal
+use Rattle.sqlcipher_tool.proofs.Asked.{changes_of, draws_of, same_secrets, two_answers, two_between, two_changes, two_keeps, two_renewal, unchanged_changes, unchanged_keeps}
+use Rattle.sqlcipher_tool.proofs.top.serve_two_keys.Goals as goal
 
 pub change_file-requires-clause-between : goal.change_file-requires-clause-between
-change_file-requires-clause-between g c = same_layout c.args.old c.args.new c.requires.layout
+change_file-requires-clause-between g c =
+    two_between c.args.change (record { old_profile = c.args.old; old_secret = c.in-Ok.first; new_profile = c.args.new; new_secret = c.in-Ok.second }) c.requires.layout c.requires.keyed
 
 pub returns-in-Ok-clause-answer : goal.returns-in-Ok-clause-answer
 returns-in-Ok-clause-answer g c = λ keyed told.
     let files = g.D.Disk.reads c.args.disk.now in
-    subst (λ (lines : Result (List Secret) KeyError). AnswersOne (keyed_answers (Rekey c.args.old c.args.new) lines files) c.change_file.result g.S.Sink.tells (g.S.Sink.taken c.args.out.now) (g.S.Sink.taken c.change_file.new.out))
-    (c.in-Ok.ensures.told keyed) (c.change_file.ensures.answer told)
+    let last = g.D.Disk.reads c.change_file.new.disk in
+    let renewal : Renewal = record { old_profile = c.args.old; old_secret = c.in-Ok.first; new_profile = c.args.new; new_secret = c.in-Ok.second } in
+    let one = subst (λ (answers : List Answer). AnswersOne answers c.change_file.result g.S.Sink.tells (g.S.Sink.taken c.args.out.now) (g.S.Sink.taken c.change_file.new.out))
+    (sym (two_answers c.args.change renewal files last c.requires.keyed)) (c.change_file.ensures.answer told) in
+    subst (λ (lines : Result (List Secret) KeyError). AnswersOne (keyed_answers (command_of c.args.change c.args.old c.args.new) lines files last) c.change_file.result g.S.Sink.tells (g.S.Sink.taken c.args.out.now) (g.S.Sink.taken c.change_file.new.out))
+    (c.in-Ok.ensures.told keyed) one
 
 pub returns-in-Ok-clause-memory_keys : goal.returns-in-Ok-clause-memory_keys
 returns-in-Ok-clause-memory_keys g c = λ starved told. (c.in-Ok.first ∷ c.in-Ok.second ∷ [], sym (c.in-Ok.ensures.told told))
@@ -28,26 +34,30 @@ returns-in-Ok-clause-memory_keys g c = λ starved told. (c.in-Ok.first ∷ c.in-
 pub returns-in-Ok-clause-changes : goal.returns-in-Ok-clause-changes
 returns-in-Ok-clause-changes g c = λ told.
     let run = disk_run g.D.Disk.reads g.D.Disk.images g.D.Disk.moment g.D.Disk.since c.args.disk.now c.change_file.new.disk in
-    let command = Rekey c.args.old c.args.new in
+    let command = command_of c.args.change c.args.old c.args.new in
     let lines = key_lines 2 (g.K.Source.left c.args.input.now) in
     let these = c.in-Ok.first ∷ c.in-Ok.second ∷ [] in
     changes_of c.change_file.result command run (λ secrets. secrets ≡ these) (λ secrets. GaveKeys g.K.Source.tells lines secrets)
     (same_secrets g.K.Source.tells lines these (λ keyed. sym (c.in-Ok.ensures.told keyed)))
-    (λ secrets gave. subst (λ (l : List Secret). IsSafely c.change_file.result command run (two_keys c.args.old c.args.new l)) (sym gave) (c.change_file.ensures.changes told))
+    (two_changes c.change_file.result c.args.change c.args.old c.args.new (λ secrets. secrets ≡ these) run c.requires.keyed
+    (λ secrets gave. subst (λ (l : List Secret). IsSafely c.change_file.result command run (two_keys c.args.old c.args.new l)) (sym gave) (c.change_file.ensures.changes told)))
 
 pub returns-in-Ok-clause-own_draws : goal.returns-in-Ok-clause-own_draws
 returns-in-Ok-clause-own_draws g c = λ told drawing done.
-    let command = Rekey c.args.old c.args.new in
+    let command = command_of c.args.change c.args.old c.args.new in
     let file = main_of (g.D.Disk.reads c.change_file.new.disk) in
     let drawn = drop (length (g.E.Entropy.drawn c.args.entropy.now)) (g.E.Entropy.drawn c.change_file.new.entropy) in
     let lines = key_lines 2 (g.K.Source.left c.args.input.now) in
     let these = c.in-Ok.first ∷ c.in-Ok.second ∷ [] in
     draws_of command file drawn (λ secrets. secrets ≡ these) (λ secrets. GaveKeys g.K.Source.tells lines secrets)
     (same_secrets g.K.Source.tells lines these (λ keyed. sym (c.in-Ok.ensures.told keyed)))
-    (λ secrets gave. subst (λ (l : List Secret). IsDrawnFor command (two_keys c.args.old c.args.new l) file drawn) (sym gave) (c.change_file.ensures.own_draws told drawing done))
+    (λ secrets gave. subst (λ (r : Option Renewal). IsDrawnFor command r file drawn) (sym (two_renewal c.args.change c.args.old c.args.new secrets c.requires.keyed))
+    (subst (λ (l : List Secret). IsDrawnFor command (two_keys c.args.old c.args.new l) file drawn) (sym gave) (c.change_file.ensures.own_draws told drawing done)))
 
 pub returns-in-Ok-clause-keeps : goal.returns-in-Ok-clause-keeps
-returns-in-Ok-clause-keeps g c = λ told image ever. (c.change_file.ensures.fresh told).each image ever
+returns-in-Ok-clause-keeps g c = λ told.
+    let run = disk_run g.D.Disk.reads g.D.Disk.images g.D.Disk.moment g.D.Disk.since c.args.disk.now c.change_file.new.disk in
+    two_keeps c.args.change c.args.old c.args.new run c.requires.keyed (λ in_place image ever. (c.change_file.ensures.fresh told in_place).each image ever)
 
 pub returns-in-Err-clause-key_refusals : goal.returns-in-Err-clause-key_refusals
 returns-in-Err-clause-key_refusals g c = λ keyed.
@@ -57,8 +67,8 @@ returns-in-Err-clause-key_refusals g c = λ keyed.
 pub returns-in-Err-clause-answer : goal.returns-in-Err-clause-answer
 returns-in-Err-clause-answer g c = λ keyed told.
     let is = λ (other : c.in-Err.error ≢ SourceFault). sym (unless_fault (Secret × Secret) c.in-Err.error (λ e. IsTrue g.K.Source.tells → Err e ≡ key_lines 2 (g.K.Source.left c.args.input.now)) c.in-Err.ensures.told other keyed) in
-    key_one (Rekey c.args.old c.args.new) 2 (g.K.Source.left c.args.input.now) (g.D.Disk.reads c.args.disk.now) c.in-Err.error c.conclude_key.result g.S.Sink.tells
-    (g.S.Sink.taken c.args.out.now) (g.S.Sink.taken c.conclude_key.new.out) refl is c.conclude_key.ensures.refused c.conclude_key.ensures.text
+    key_one (command_of c.args.change c.args.old c.args.new) 2 (g.K.Source.left c.args.input.now) (g.D.Disk.reads c.args.disk.now) (g.D.Disk.reads c.args.disk.now) c.in-Err.error c.conclude_key.result g.S.Sink.tells
+    (g.S.Sink.taken c.args.out.now) (g.S.Sink.taken c.conclude_key.new.out) (sym c.requires.keyed) is c.conclude_key.ensures.refused c.conclude_key.ensures.text
     (λ failed. let both = c.conclude_key.ensures.failed failed in (both.0, ap g.S.Sink.taken both.1))
 
 pub returns-in-Err-clause-takes : goal.returns-in-Err-clause-takes
@@ -69,10 +79,10 @@ returns-in-Err-clause-takes g c = λ keyed.
 
 pub returns-in-Err-clause-keeps : goal.returns-in-Err-clause-keeps
 returns-in-Err-clause-keeps g c = λ told.
-    unchanged_keeps g.D.Disk.reads g.D.Disk.images g.D.Disk.moment g.D.Disk.since g.met.D.Disk.only_now (Rekey c.args.old c.args.new) c.args.disk.now
+    unchanged_keeps g.D.Disk.reads g.D.Disk.images g.D.Disk.moment g.D.Disk.since g.met.D.Disk.only_now (command_of c.args.change c.args.old c.args.new) c.args.disk.now
 
 pub returns-in-Err-clause-changes : goal.returns-in-Err-clause-changes
-returns-in-Err-clause-changes g c = λ told. unchanged_changes g.D.Disk.reads g.D.Disk.images g.D.Disk.moment g.D.Disk.since g.met.D.Disk.only_now c.conclude_key.result (Rekey c.args.old c.args.new)
+returns-in-Err-clause-changes g c = λ told. unchanged_changes g.D.Disk.reads g.D.Disk.images g.D.Disk.moment g.D.Disk.since g.met.D.Disk.only_now c.conclude_key.result (command_of c.args.change c.args.old c.args.new)
     (λ secrets. GaveKeys g.K.Source.tells (key_lines 2 (g.K.Source.left c.args.input.now)) secrets) c.args.disk.now (key_not_done c.conclude_key.result c.conclude_key.ensures.others)
 
 pub returns-in-Err-clause-own_draws : goal.returns-in-Err-clause-own_draws

@@ -1,0 +1,77 @@
+-- Nothing stands in the way of a command that reads a made file, nor of a recovery where no file is.
+use Rattle.std.proofs.Common.{List, ◌≡◌, ℕ, ◌≤◌, ◌*◌, ◌/◌, true, [], ◌∷◌, length, Option, Result, refl, sym, ap, subst, ◌∙◌, arith}
+use Rattle.std.proofs.Math.Nat.{mul-div_cancel}
+use Rattle.std.proofs.lemmas.Nat.{le-div}
+use Rattle.std.specs.Prelude.{IsOk, codes, is_ok, nat_le}
+use Rattle.cipher_profile.specs.declared.keys.Secret.{Secret}
+use Rattle.cipher_profile.specs.declared.profile.Profile.{Profile}
+use Rattle.cipher_profile.specs.Profile.{IsListed, sqlcipher_4}
+use Rattle.db_format.specs.Count.{largest_database}
+use Rattle.edge_model.specs.Files.{File, nothing}
+use Rattle.make_job.specs.Made.{IsMade, made_header}
+use Rattle.page_codec.specs.Page.{FileKeys, fits, keys_of}
+use Rattle.pager.specs.File.{page_stored, whole_pages}
+use Rattle.pager.specs.Opening.{Opened}
+use Rattle.pager.specs.Pages.{is_number}
+use Rattle.pager.specs.declared.opening.OpenError.{OpenError}
+use Rattle.sqlcipher_tool.specs.declared.command.Command.{Command}
+use Rattle.sqlcipher_tool.specs.declared.command.Command.TheVariants.{Tags, Header, Verify, Export, Probe, Recover, Stamp, Rekey, Migrate, Make}
+use Rattle.sqlcipher_tool.specs.Opening.{opened_with}
+use Rattle.sqlcipher_tool.specs.Plain.{IsClean}
+use Rattle.sqlcipher_tool.specs.Servable.{CanBeServed, HasTags, IsProbed, IsReading, IsServable, standing}
+use Rattle.sqlcipher_tool.proofs.Completeness.{listed_some}
+use Rattle.sqlcipher_tool.proofs.Databases.{counted_pages}
+use Rattle.sqlcipher_tool.proofs.FileDraws.{both}
+use Rattle.sqlcipher_tool.proofs.MadeFile.{made_clean}
+use Rattle.sqlcipher_tool.proofs.Numbers.{le_true}
+use Rattle.sqlcipher_tool.proofs.OpenedParts.{IsOpen, open_parts}
+
+module _ (profile : Profile) (secret : Secret) (rows : ℕ) (file : File) (fresh : Option File) (listed : IsListed profile) (made : IsMade profile secret rows file.bytes) where
+  abbrev keys : FileKeys
+  keys = keys_of profile secret file.bytes
+
+  is_open : IsOpen keys file.bytes (made_header profile made.count) made.count
+  is_open = open_parts keys file.bytes (made_header profile made.count) made.count made.opens
+
+  whole : whole_pages profile file.bytes ≡ made.count
+  whole = ap (λ (n : ℕ). n / profile.page_size) made.size ∙ mul-div_cancel made.count {n = profile.page_size} (listed_some profile listed)
+
+  has_tags : HasTags profile secret file.bytes
+  has_tags = record {
+    some = omega (arith, le-div 1 (length file.bytes) profile.page_size (listed_some profile listed) (omega (arith, is_open.long)));
+    few = subst (λ (n : ℕ). n * profile.page_size ≤ largest_database) (sym whole) (counted_pages (made_header profile made.count) (length file.bytes) made.count is_open.counts).small;
+    fit = is_open.fit;
+    accepted = λ n number. made.accepted n (subst (λ (count : ℕ). is_number count n ≡ true) whole number);
+  }
+
+  opens : IsOk (opened_with profile secret file.bytes)
+  opens = ap (λ (r : Result Opened OpenError). is_ok r) made.opens
+
+  clean : IsClean keys file.bytes
+  clean = (made_clean profile secret rows file.bytes made).0
+
+  probed : IsProbed secret (standing file fresh)
+  probed = record {
+    no_journal = refl;
+    profile = profile;
+    listed = listed;
+    fit = both (nat_le profile.page_size (length file.bytes)) (fits keys (page_stored keys file.bytes 1)) (le_true profile.page_size (length file.bytes) is_open.long) is_open.fit;
+  }
+
+  pub made_servable : (second : Secret) (command : Command) → IsReading profile command → IsServable command (secret ∷ second ∷ []) (standing file fresh)
+  made_servable second (Tags other) is = subst (λ (p : Profile). IsServable (Tags p) (secret ∷ second ∷ []) (standing file fresh)) (sym is) (record { recovers = refl; holds = has_tags })
+  made_servable second (Header other) is = subst (λ (p : Profile). IsServable (Header p) (secret ∷ second ∷ []) (standing file fresh)) (sym is) (record { recovers = refl; holds = opens })
+  made_servable second (Verify other) is = subst (λ (p : Profile). IsServable (Verify p) (secret ∷ second ∷ []) (standing file fresh)) (sym is) (record { recovers = refl; holds = clean })
+  made_servable second (Export other) is =
+      subst (λ (p : Profile). IsServable (Export p) (secret ∷ second ∷ []) (standing file fresh)) (sym is) (record { recovers = refl; holds = (clean.held, clean.opens) })
+  made_servable second Probe is = probed
+  made_servable second (Recover other) is = refl
+  made_servable second (Stamp other field value) is =
+      subst (λ (p : Profile). IsServable (Stamp p field value) (secret ∷ second ∷ []) (standing file fresh)) (sym is) (record { recovers = refl; holds = opens })
+  made_servable second (Rekey old new) is = subst (λ (p : Profile). IsServable (Rekey p new) (secret ∷ second ∷ []) (standing file fresh)) (sym is) (record { recovers = refl; holds = clean })
+  made_servable second (Migrate old new) is = absurd is
+  made_servable second (Make other count) is = absurd is
+
+-- where no file is there, `recover` has nothing to do
+pub nothing_servable : (left : List ℕ) → CanBeServed (codes "recover" ∷ codes "4" ∷ []) left nothing
+nothing_servable left = record { command = Recover sqlcipher_4; is_form = refl; no_refusal = refl; secrets = []; gave = refl; servable = refl }

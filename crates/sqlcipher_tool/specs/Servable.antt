@@ -1,0 +1,127 @@
+-- Where nothing stands in the way of a command, so that Done alone is due to it.
+use Rattle.std.specs.Prelude.{◌≡◌, ◌⊎◌, ◌<◌, ◌≤◌, ◌*◌, ℕ, true, List, [], ◌∷◌, IsOk, Option, Some, None, Ok}
+use Rattle.btree_model.specs.Content.{Content}
+use Rattle.cipher_profile.specs.declared.keys.Secret.{Secret}
+use Rattle.cipher_profile.specs.declared.profile.Profile.{Profile}
+use Rattle.cipher_profile.specs.Profile.{IsListed, usable}
+use Rattle.db_format.specs.Count.{largest_database}
+use Rattle.edge_model.specs.Causes.{Rose}
+use Rattle.edge_model.specs.Files.{File, Files}
+use Rattle.db_maker.specs.Pages.{made_pages}
+use Rattle.fresh_file.specs.State.{most_pages}
+use Rattle.migrate_job.specs.Bound.{pages_at_most}
+use Rattle.page_codec.specs.Page.{accepts, fits, keys_of}
+use Rattle.pager.specs.File.{main_of, page_stored, whole_pages}
+use Rattle.pager.specs.Pages.{is_number}
+use Rattle.sqlcipher_tool.specs.Answer.{Answer, done}
+use Rattle.sqlcipher_tool.specs.declared.command.Command.{Command}
+use Rattle.sqlcipher_tool.specs.declared.command.Command.TheVariants.{Tags, Header, Verify, Export, Probe, Recover, Stamp, Rekey, Migrate, Make}
+use Rattle.sqlcipher_tool.specs.declared.status.Status.{Status}
+use Rattle.sqlcipher_tool.specs.declared.status.Status.TheVariants.{Done, OutOfMemory}
+use Rattle.sqlcipher_tool.specs.Due.{key_lines, word_refusal}
+use Rattle.sqlcipher_tool.specs.Opening.{opened_with}
+use Rattle.sqlcipher_tool.specs.Plain.{IsClean, Opens}
+use Rattle.sqlcipher_tool.specs.Probe.{is_fitting}
+use Rattle.sqlcipher_tool.specs.Recovered.{recovered_main, recovery_of}
+use Rattle.sqlcipher_tool.specs.Words.{form, keys_taken}
+
+-- ---- what each command asks of the files
+
+-- a fact on the secret of the one key line
+abbrev pub ForOne : List Secret → (Secret → Type 0) → Type 0
+ForOne [] P = ⊥
+ForOne (secret ∷ rest) P = P secret
+
+-- on those of two
+abbrev pub ForTwo : List Secret → (Secret → Secret → Type 0) → Type 0
+ForTwo [] P = ⊥
+ForTwo (first ∷ []) P = ⊥
+ForTwo (first ∷ second ∷ rest) P = P first second
+
+-- the recovery is not refused, and this holds of the recovered file
+pub record AfterRecovery (profile : Profile) (files : Files) (P : List ℕ → Type 0) : Type 0 where
+  pub recovers : IsOk (recovery_of profile files)
+  pub holds : P (recovered_main profile files)
+
+-- the file has a page, and no more than are served; the key fits, and every page is accepted
+pub record HasTags (profile : Profile) (secret : Secret) (file : List ℕ) : Type 0 where
+  pub some : 0 < whole_pages profile file
+  pub few : whole_pages profile file * profile.page_size ≤ largest_database
+  pub fit : fits (keys_of profile secret file) (page_stored (keys_of profile secret file) file 1) ≡ true
+  pub accepted : (n : ℕ) → is_number (whole_pages profile file) n ≡ true
+      → accepts (keys_of profile secret file) n (page_stored (keys_of profile secret file) file n) ≡ true
+
+-- no journal is there, and the key fits under some profile
+pub record IsProbed (secret : Secret) (files : Files) : Type 0 where
+  pub no_journal : files.journal ≡ None
+  pub profile : Profile
+  pub listed : IsListed profile
+  pub fit : is_fitting secret (main_of files) profile ≡ true
+
+-- a new file of this content has no more pages than are served
+abbrev pub HasFewPages : Profile → Content → Type 0
+HasFewPages new held = pages_at_most (usable new) (most_pages new) held ≤ most_pages new
+
+-- neither Main nor Journal is there, and the bound on the pages is within the limit
+pub record IsFree (profile : Profile) (rows : ℕ) (files : Files) : Type 0 where
+  pub no_main : files.main ≡ None
+  pub no_journal : files.journal ≡ None
+  pub few : made_pages (usable profile) rows ≤ most_pages profile
+
+-- nothing stands in the way of the command
+abbrev pub IsServable : Command → List Secret → Files → Type 0
+IsServable (Tags profile) secrets files = ForOne secrets (λ secret. AfterRecovery profile files (HasTags profile secret))
+IsServable (Header profile) secrets files = ForOne secrets (λ secret. AfterRecovery profile files (λ file. IsOk (opened_with profile secret file)))
+IsServable (Verify profile) secrets files = ForOne secrets (λ secret. AfterRecovery profile files (λ file. IsClean (keys_of profile secret file) file))
+IsServable (Export profile) secrets files =
+    ForOne secrets (λ secret. AfterRecovery profile files (λ file. (held : Content) × Opens (keys_of profile secret file) file held))
+IsServable Probe secrets files = ForOne secrets (λ secret. IsProbed secret files)
+IsServable (Recover profile) secrets files = IsOk (recovery_of profile files)
+IsServable (Stamp profile field value) secrets files =
+    ForOne secrets (λ secret. AfterRecovery profile files (λ file. IsOk (opened_with profile secret file)))
+IsServable (Rekey old new) secrets files = ForTwo secrets (λ first second. AfterRecovery old files (λ file. IsClean (keys_of old first file) file))
+IsServable (Migrate old new) secrets files =
+    ForTwo secrets (λ first second. AfterRecovery old files (λ file. (held : Content) × Opens (keys_of old first file) file held × HasFewPages new held))
+IsServable (Make profile rows) secrets files = ForOne secrets (λ secret. IsFree profile rows files)
+
+-- The words make a command that they don't refuse, its key lines give their secrets, and nothing stands in its way.
+pub record CanBeServed (words : List (List ℕ)) (left : List ℕ) (files : Files) : Type 0 where
+  pub command : Command
+  pub is_form : form words ≡ Some command
+  pub no_refusal : word_refusal command ≡ None
+  pub secrets : List Secret
+  pub gave : key_lines (keys_taken command) left ≡ Ok secrets
+  pub servable : IsServable command secrets files
+
+-- ---- a file that stands alone
+
+-- Main is this file, and no journal is there
+abbrev pub standing : File → Option File → Files
+standing file fresh = record { main = Some file; journal = None; fresh = fresh }
+
+-- the command reads a file of this profile, and nothing of what it asks rests on the size of the content
+abbrev pub IsReading : Profile → Command → Type 0
+IsReading profile (Tags other) = other ≡ profile
+IsReading profile (Header other) = other ≡ profile
+IsReading profile (Verify other) = other ≡ profile
+IsReading profile (Export other) = other ≡ profile
+IsReading profile Probe = Unit {0}
+IsReading profile (Recover other) = other ≡ profile
+IsReading profile (Stamp other field value) = other ≡ profile
+IsReading profile (Rekey old new) = old ≡ profile
+IsReading profile (Migrate old new) = ⊥
+IsReading profile (Make other rows) = ⊥
+
+-- ---- what follows
+
+-- one answer is due, which is Done with a report
+abbrev pub IsDoneAlone : List Answer → Type 0
+IsDoneAlone answers = (report : List ℕ) × (answers ≡ done report ∷ [])
+
+-- none of these counts rose, from before to now
+abbrev pub NoneRose : List (ℕ × ℕ) → Type 0
+NoneRose [] = Unit {0}
+NoneRose ((before, now) ∷ rest) = (Rose before now → ⊥) × NoneRose rest
+
+abbrev pub IsDoneOrStarved : Status → Type 0
+IsDoneOrStarved status = (status ≡ Done) ⊎ (status ≡ OutOfMemory)
