@@ -255,6 +255,7 @@ product_files() {
         "$top/tests/stops.sh" "$product/$name.db" recover "${name:1:1}" < /dev/null || differ=$((differ + 1))
     done
     SQLCIPHER4=$program "$top/tests/rekey.sh" "$product" "$table" || differ=$((differ + 1))
+    SQLCIPHER4=$program "$top/tests/migrate.sh" "$product" "$table" || differ=$((differ + 1))
 }
 
 "$top/tests/install_product.sh"
