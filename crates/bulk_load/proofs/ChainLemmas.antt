@@ -1,5 +1,5 @@
 -- A chain grows by a page at its front.
-use Rattle.std.proofs.Common.{◌≡◌, ◌≤◌, ◌<◌, ℕ, zero, suc, ◌+◌, ◌-◌, ◌*◌, ◌/◌, ◌%◌, ◌⊎◌, inl, inr, Bool, true, false, List, [], ◌∷◌, ◌++◌, ◌||◌, ◌==◌, if◌then◌else◌, length, take, drop, refl, ap, sym, subst, ◌∙◌, arith, length-append, length-drop}
+use Rattle.std.proofs.Common.{◌≡◌, ◌≤◌, ◌<◌, ℕ, zero, suc, ◌+◌, ◌-◌, ◌*◌, ◌/◌, ◌%◌, ◌⊎◌, inl, inr, Bool, true, false, List, [], ◌∷◌, ◌++◌, ◌||◌, ◌==◌, length, take, drop, refl, ap, sym, subst, ◌∙◌, arith, length-append, length-drop}
 use Rattle.std.specs.List.{list_any}
 use Rattle.std.proofs.lemmas.List.{append_assoc, append-nil, take-append-drop}
 use Rattle.std.proofs.lemmas.Bool.{eqb-true}
@@ -192,27 +192,3 @@ not_zero n h = grind arith
 pub counted_down : (before after whole size total : ℕ) → after ≡ before + 1 → 0 < whole * size → before + (whole + 0) ≡ total → after + (whole - 1 + 0) ≡ total
 counted_down before after zero size total one some was = let z : zero * size ≡ 0 = omega arith in absurd (omega arith)
 counted_down before after (suc whole) size total one some was = omega arith
-
--- nothing is left, so all pages were taken
-pub all_taken : (count total whole size left : ℕ) → 0 < size → whole * size + left ≡ 0 → count + (whole + (if left == 0 then 0 else 1)) ≡ total → count ≡ total
-all_taken count total zero size left some none taken =
-    let z : zero * size ≡ 0 = omega arith in
-    let gone : left ≡ 0 = omega arith in
-    let t : count + (0 + 0) ≡ total = subst (λ k. count + (0 + (if k == 0 then 0 else 1)) ≡ total) gone taken in omega arith
-all_taken count total (suc whole) size left some none taken = let z : suc whole * size ≡ whole * size + size = suc_times whole size in absurd (omega arith)
-
--- and while some are left, there is room for one more in the count
-pub one_left : (count total whole size left end : ℕ) → 0 < end → end ≡ whole * size + left → count + (whole + (if left == 0 then 0 else 1)) ≡ total → count + 1 ≤ total
-one_left count total whole size left end some is taken = by_left (left == 0) refl
-  where
-    by_whole : (w : ℕ) → whole ≡ w → left ≡ 0 → count + 1 ≤ total
-    by_whole zero none gone = let z : whole * size ≡ 0 = ap (λ k. k * size) none ∙ zero_is size in absurd (omega arith)
-      where
-        zero_is : (s : ℕ) → 0 * s ≡ 0
-        zero_is s = omega arith
-    by_whole (suc w) is_suc gone =
-        let t : count + (whole + 0) ≡ total = subst (λ k. count + (whole + (if k == 0 then 0 else 1)) ≡ total) gone taken in omega arith
-
-    by_left : (b : Bool) → (left == 0) ≡ b → count + 1 ≤ total
-    by_left true gone = by_whole whole refl (eqb-true left 0 gone)
-    by_left false more = let t : count + (whole + 1) ≡ total = subst (λ b. count + (whole + (if b then 0 else 1)) ≡ total) more taken in omega arith

@@ -1,5 +1,5 @@
 -- A schema and its trees, each on pages of its own, are a database.
-use Rattle.std.proofs.Common.{◌≡◌, ◌≤◌, ℕ, ℤ, Bool, true, false, List, [], ◌∷◌, ◌++◌, ◌||◌, ◌==◌, Option, Some, None, map, if◌then◌else◌, refl, ap, ◌∙◌, arith}
+use Rattle.std.proofs.Common.{◌≡◌, ◌≤◌, ℕ, ℤ, true, false, List, [], ◌∷◌, ◌++◌, ◌||◌, ◌==◌, Option, Some, None, map, if◌then◌else◌, refl, ap, ◌∙◌, arith}
 use Rattle.std.specs.Prelude.{is_some}
 use Rattle.std.specs.List.{flat_map, list_all, list_any}
 use Rattle.std.specs.Cmp.Derive.{both_true}
@@ -18,7 +18,7 @@ use Rattle.btree_model.specs.Records.{tree_part}
 use Rattle.btree_model.specs.Schema.{numbers_of, root_fault, root_of, roots, roots_of_row, rowid_or_0, schema_fault, schema_faults, schema_part}
 use Rattle.btree_model.specs.Tree.{root_family, tree_walk}
 use Rattle.btree_model.proofs.RestLemmas.{none_marked}
-use Rattle.btree_model.proofs.UnmarkedLemmas.{or_left}
+use Rattle.btree_model.proofs.UnmarkedLemmas.{or_left, or_right}
 use Rattle.load_model.proofs.StandsLemmas.{not_met}
 use Rattle.bulk_load.specs.Found.{Apart, ArePlans, HasNoFreelist, HasTree, HoldsItems, IsPlanted, NamesTree, OwnTree, SchemaPlan, either, is_record, item_with_tree, own_pages, plan_entry, plan_item}
 use Rattle.bulk_load.specs.Headed.{IsHeaded}
@@ -43,14 +43,6 @@ tree_found pages (Some t) = tree_walk pages t.family nothing t.root ∷ []
 
 abbrev plan_found : Pages → SchemaPlan → List (List Finding)
 plan_found pages plan = tree_found pages plan.tree
-
-either_left : (a b : Bool) → (a || b) ≡ false → a ≡ false
-either_left false b none = refl
-either_left true b none = cc
-
-either_right : (a b : Bool) → (a || b) ≡ false → b ≡ false
-either_right false b none = none
-either_right true b none = cc
 
 plan_records : (pages : Pages) (taken : Test) (plans : List SchemaPlan) → ArePlans pages taken plans → list_all is_record (map plan_entry plans) ≡ true
 plan_records pages taken [] are = refl
@@ -130,8 +122,8 @@ module _ (head : List ℕ) (pages all : Pages) (headed : IsHeaded head pages all
   covered_more values t before taken p covered n free =
       let f : IsFound all t.own t.family t.root t.entries = planted values t p in
       let found : List Finding = tree_walk all t.family nothing t.root in
-      ap (λ b. b || before n) (or_left (list_any (λ m. m == n) (places found)) _ (not_met t.own n found (either_left (t.own n) (taken n) free) f.within))
-      ∙ covered n (either_right (t.own n) (taken n) free)
+      ap (λ b. b || before n) (or_left (list_any (λ m. m == n) (places found)) _ (not_met t.own n found (or_left (t.own n) (taken n) free) f.within))
+      ∙ covered n (or_right (t.own n) (taken n) free)
 
   trees_by : (tree : Option OwnTree) (values : List Datum) (before taken : Test) (plans : List SchemaPlan) → NamesTree pages values tree → Apart (own_pages tree) taken
       → Covered before taken

@@ -1,10 +1,12 @@
 -- Pages of short cells.
-use Rattle.std.proofs.Common.{◌≡◌, ◌≤◌, ◌<◌, ◌+◌, ◌-◌, ◌*◌, ◌^◌, ℕ, List, [], ◌∷◌, ◌++◌, length, replicate, ap, subst, sym, ◌∙◌, arith, length-append}
+use Rattle.std.proofs.Common.{◌≡◌, ◌≤◌, ◌<◌, ◌+◌, ◌-◌, ◌*◌, ◌^◌, ℕ, List, [], ◌∷◌, ◌++◌, length, replicate, Result, Ok, Err, OnOk, ap, subst, sym, ◌∙◌, arith, length-append}
 use Rattle.std.proofs.Math.Nat.{pow-succ'}
 use Rattle.std.proofs.lemmas.List.{length-replicate}
 use Rattle.page_build.specs.Draft.{Draft, with_cell}
 use Rattle.page_build.specs.Written.{content, padded}
-use Rattle.bulk_load.specs.Depth.{AreShort}
+use Rattle.bulk_load.specs.declared.loader.Loader.{Loader}
+use Rattle.bulk_load.specs.Count.{KeepsBack}
+use Rattle.bulk_load.specs.Depth.{AreShort, IsShallow, KeepsShort, closed_below}
 use Rattle.bulk_load.specs.Volume.{filled}
 
 pub short_more : (usable : ℕ) (cells : List (List ℕ)) (cell : List ℕ) → AreShort usable cells → 3 * (length cell + 2) + 12 ≤ usable → AreShort usable (cells ++ cell ∷ [])
@@ -30,3 +32,22 @@ wide_page usable page large short full = go page.cells short full
 
 pub power_more : (n : ℕ) → 3 ^ (n + 1) ≡ 3 * 3 ^ n
 power_more n = ap (λ k. 3 ^ k) (omega arith) ∙ pow-succ' 3 n
+
+-- a loader without levels
+pub shallow_none : (usable from : ℕ) (loader : Loader) → KeepsBack loader → KeepsShort usable loader → closed_below loader.levels.items ≡ 0 → IsShallow usable from from loader
+shallow_none usable from loader back short flat = record { back = back; short = short; closed = omega arith }
+
+-- an answer after which the levels hold no more than was closed since
+pub shallow_ok : {A E : Type 0} (r : Result A E) (usable from old new : ℕ) (before after : Loader) → IsShallow usable from old before
+    → OnOk r (KeepsBack after) → OnOk r (KeepsShort usable after)
+    → OnOk r (closed_below after.levels.items + old ≤ closed_below before.levels.items + new) → OnOk r (IsShallow usable from new after)
+shallow_ok (Ok x) usable from old new before after shallow back short deep =
+    let held : closed_below before.levels.items + from ≤ old = shallow.closed in
+    record { back = back; short = short; closed = omega arith }
+shallow_ok (Err e) usable from old new before after shallow back short deep = tt
+
+-- the count rose from a lower number too
+pub shallow_since : (usable from less to : ℕ) (loader : Loader) → less ≤ from → IsShallow usable from to loader → IsShallow usable less to loader
+shallow_since usable from less to loader le shallow =
+    let held : closed_below loader.levels.items + from ≤ to = shallow.closed in
+    record { back = shallow.back; short = shallow.short; closed = omega arith }

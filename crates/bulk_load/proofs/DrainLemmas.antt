@@ -1,6 +1,5 @@
 -- What waits at a level is put on its page, and the level ends.
 use Rattle.std.proofs.Common.{◌≡◌, ℕ, suc, ℤ, Bool, true, false, List, [], ◌∷◌, ◌++◌, Option, None, Result, OnOk, refl, ap, sym, subst, ◌∙◌}
-use Rattle.std.proofs.lemmas.List.{append-nil}
 use Rattle.btree_page.specs.declared.kind.Kind.{Kind}
 use Rattle.btree_page.specs.Cell.{Cell}
 use Rattle.db_format.specs.Pages.{Pages}
@@ -26,24 +25,6 @@ Drains old new level after above above' kind result =
     → HoldsLevel level old.usable todo → HoldLevels above old.usable kind todos
     → Stands old (family_of kind) last (opened (suc h) todos ++ (at_height h todo ++ back)) pushed
     → OnOk result (IsDrained new after above' old.usable kind h back last pushed)
-
--- nothing waits
-pub drain_none : (pages : Pages) (level after : Level) (above : List Level) (usable : ℕ) (kind : Kind) (todo : List Step) (todos : List (List Step)) (h : ℕ) (back : List Open) (last : Option ℤ) (pushed : List Entry)
-    → level.waiting.items ≡ [] → after.page ≡ level.page → HoldsLevel level usable todo → HoldLevels above usable kind todos
-    → Stands pages (family_of kind) last (opened (suc h) todos ++ (at_height h todo ++ back)) pushed → IsDrained pages after above usable kind h back last pushed
-drain_none pages level after above usable kind todo todos h back last pushed none same hold above_hold st = record {
-  cells = hold.cells;
-  has = subst (λ p. HasCells p usable hold.cells) (sym same) hold.has;
-  rest = record {
-    todos = todos;
-    hold = above_hold;
-    stands =
-        subst (λ l. Stands pages (family_of kind) last (opened (suc h) todos ++ (at_height h l ++ back)) pushed)
-        (hold.is ∙ ap (λ l. steps hold.cells None ++ waiting_steps level.page.kind l hold.between) none
-        ∙ append-nil (steps hold.cells None))
-        st;
-  };
-}
 
 module _ {E : Type 0} (mid new : Pages) (level after : Level) (above above' : List Level) (usable : ℕ) (kind : Kind) (result : Result (Unit {0}) E)
     (todos : List (List Step)) (h : ℕ) (back : List Open) (last : Option ℤ) (pushed : List Entry)

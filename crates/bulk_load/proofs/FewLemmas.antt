@@ -10,8 +10,8 @@ use Rattle.btree_page.specs.declared.kind.Family.{Family}
 use Rattle.btree_model.specs.Content.{Entry}
 use Rattle.bulk_load.specs.declared.loader.Loader.{Loader}
 use Rattle.bulk_load.specs.Bound.{chain_pages, entry_weight, tree_pages, weights}
-use Rattle.bulk_load.specs.Count.{KeepsBack, overflow_pages, weight}
-use Rattle.bulk_load.specs.Depth.{KeepsShort, closed_below}
+use Rattle.bulk_load.specs.Count.{overflow_pages, weight}
+use Rattle.bulk_load.specs.Depth.{IsShallow}
 use Rattle.bulk_load.specs.Few.{TookFew, load_pages}
 use Rattle.bulk_load.specs.Out.{is_load_refusal}
 use Rattle.bulk_load.specs.declared.error.LoadError.{LoadError}
@@ -41,12 +41,11 @@ module _ (family : Family) (usable : ℕ) (entries : List Entry) (entry : Entry)
   -- the count after a push
   module _ (from old new : ℕ) (before : Loader) (few : TookFew family usable from entries old before) where
     -- after Ok
-    pub took_more : (after : Loader) → KeepsBack after → KeepsShort usable after
+    pub took_more : (after : Loader) → IsShallow usable from new after
         → new + weight after ≤ old + (weight before + 2 + overflow_pages family usable (length entry.payload))
         → price usable new + volume after ≤ price usable (old + overflow_pages family usable (length entry.payload)) + (volume before + 6 * entry_weight family usable entry)
-        → closed_below after.levels.items + old ≤ closed_below before.levels.items + new
         → TookFew family usable from (entries ++ entry ∷ []) new after
-    took_more after back short count paid deep =
+    took_more after shallow count paid =
         let chain : ℕ = overflow_pages family usable (length entry.payload) in
         let chains : ℕ = chain_pages family usable entries in
         let a : chain_pages family usable (entries ++ entry ∷ []) ≡ chains + chain = chains_more in
@@ -57,23 +56,21 @@ module _ (family : Family) (usable : ℕ) (entries : List Entry) (entry : Entry)
         let three : price usable (from + chains + chain) ≡ price usable (from + chains) + price usable chain = price_more usable (from + chains) chain in
         let held : price usable old + volume before ≤ price usable (from + chains) + 6 * weights family usable entries = few.paid in
         let counted : old + weight before ≤ from + (2 * length entries + chains) = few.count in
-        let low : closed_below before.levels.items + from ≤ old = few.deep in
-        record { back = back; short = short; count = omega arith; paid = omega arith; deep = omega arith }
+        record { shallow = shallow; count = omega arith; paid = omega arith }
 
     -- the same of an answer
-    pub took_ok : {A E : Type 0} (r : Result A E) (after : Loader) → OnOk r (KeepsBack after) → OnOk r (KeepsShort usable after)
+    pub took_ok : {A E : Type 0} (r : Result A E) (after : Loader) → OnOk r (IsShallow usable from new after)
         → OnOk r (new + weight after ≤ old + (weight before + 2 + overflow_pages family usable (length entry.payload)))
         → OnOk r (price usable new + volume after ≤ price usable (old + overflow_pages family usable (length entry.payload)) + (volume before + 6 * entry_weight family usable entry))
-        → OnOk r (closed_below after.levels.items + old ≤ closed_below before.levels.items + new)
         → OnOk r (TookFew family usable from (entries ++ entry ∷ []) new after)
-    took_ok (Ok x) after back short count paid deep = took_more after back short count paid deep
-    took_ok (Err e) after back short count paid deep = tt
+    took_ok (Ok x) after shallow count paid = took_more after shallow count paid
+    took_ok (Err e) after shallow count paid = tt
 
-pub took_none : (family : Family) (usable from : ℕ) (loader : Loader) → KeepsBack loader → KeepsShort usable loader → weight loader ≡ 0 → volume loader ≡ 0
-    → closed_below loader.levels.items ≡ 0 → TookFew family usable from [] from loader
-took_none family usable from loader back short light void flat =
+pub took_none : (family : Family) (usable from : ℕ) (loader : Loader) → IsShallow usable from from loader → weight loader ≡ 0 → volume loader ≡ 0
+    → TookFew family usable from [] from loader
+took_none family usable from loader shallow light void =
     let none : price usable from ≡ price usable (from + 0) = ap (price usable) (omega arith) in
-    record { back = back; short = short; count = omega arith; paid = omega arith; deep = omega arith }
+    record { shallow = shallow; count = omega arith; paid = omega arith }
 
 -- where both bounds hold, the lesser does; 64 pages more are free
 pub few_pages : (family : Family) (usable from to : ℕ) (entries : List Entry) (more : ℕ) → 1 ≤ usable → more ≤ 64

@@ -1,5 +1,5 @@
 -- A child enters the lowest of the levels.
-use Rattle.std.proofs.Common.{◌≡◌, ℕ, suc, ℤ, true, List, [], ◌∷◌, ◌++◌, Option, Some, None, Result, Ok, Err, OnOk, length, drop, get_or, ◌≤◌, arith, refl, ap, sym, subst, ◌∙◌}
+use Rattle.std.proofs.Common.{◌≡◌, ℕ, suc, ℤ, true, List, [], ◌∷◌, ◌++◌, Option, Some, None, Result, Ok, Err, OnOk, refl, ap, sym, subst, ◌∙◌}
 use Rattle.std.proofs.lemmas.List.{append_assoc}
 use Rattle.btree_page.specs.declared.kind.Kind.{Kind}
 use Rattle.db_format.specs.Pages.{Pages}
@@ -11,8 +11,8 @@ use Rattle.btree_page.specs.Kind.{family_of, is_interior}
 use Rattle.bulk_load.specs.declared.pair.Pair.{Pair}
 use Rattle.bulk_load.specs.declared.level.Level.{Level}
 use Rattle.bulk_load.specs.Settle.{IsPair, on, two}
-use Rattle.bulk_load.specs.Level.{IsReady, HoldsLevel, IsEntered}
-use Rattle.bulk_load.specs.Levels.{AreReady, opened, HoldLevels, AreOpen}
+use Rattle.bulk_load.specs.Level.{HoldsLevel, IsEntered}
+use Rattle.bulk_load.specs.Levels.{opened, HoldLevels, AreOpen}
 use Rattle.bulk_load.proofs.SettleLemmas.{on_interior, up_same}
 
 pub first_level : (level : Level) (above : List Level) (usable : ℕ) (kind : Kind) (todos : List (List Step)) → HoldLevels (level ∷ above) usable kind todos
@@ -99,20 +99,6 @@ pub lowest_kind : (level : Level) (above levels : List Level) (usable : ℕ) (ki
 lowest_kind level above levels usable kind todos parts hold =
     let f = first_level level above usable kind todos (subst (λ l. HoldLevels l usable kind todos) parts hold) in f.3
 
-pub split_first : {A : Type 0} (items rest : List A) (first : A) → 1 ≤ length items → first ≡ get_or items 0 first → rest ≡ drop 1 items → items ≡ first ∷ rest
-split_first [] rest first h is others = absurd (none h)
-  where
-    none : 1 ≤ 0 → ⊥
-    none h = omega arith
-split_first (p ∷ items) rest first h is others = ap (λ q. q ∷ items) (sym is) ∙ ap (λ l. first ∷ l) (sym others)
-
-pub empty_list : {A : Type 0} (items : List A) → length items ≡ 0 → items ≡ []
-empty_list [] h = refl
-empty_list (x ∷ items) h = absurd (none (length items) h)
-  where
-    none : (n : ℕ) → suc n ≡ 0 → ⊥
-    none n h = omega arith
-
 pub on_ok_map : {A E : Type 0} {P Q : Type 0} (result : Result A E) → (P → Q) → OnOk result P → OnOk result Q
 on_ok_map (Ok x) f h = f h
 on_ok_map (Err e) f h = tt
@@ -132,6 +118,3 @@ climb_over pages level items levels usable n kind h todos s back last pushed non
     no_todos : (todos : List (List Step)) → HoldLevels [] usable kind todos → todos ≡ []
     no_todos [] h = refl
     no_todos (t ∷ todos) h = absurd h
-
-pub ready_first : (items rest : List Level) (first : Level) (usable : ℕ) → items ≡ first ∷ rest → AreReady items usable → IsReady first usable × AreReady rest usable
-ready_first items rest first usable parts ready = subst (λ l. AreReady l usable) parts ready

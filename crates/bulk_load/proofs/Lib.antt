@@ -1,3 +1,4 @@
+pub mod CauseLemmas
 pub mod CellLemmas
 pub mod ChainLemmas
 pub mod CloseLemmas

@@ -5,7 +5,7 @@ use Rattle.std.specs.List.{list_all, list_any}
 use Rattle.std.proofs.lemmas.List.{append-nil, get_or_append_left}
 use Rattle.db_format.specs.Bytes.{u16_at, u32_at}
 use Rattle.db_format.specs.declared.defect.Defect.TheVariants.{FreeCount, TrunkFault}
-use Rattle.db_format.specs.Pages.{Pages, Test, also, nothing}
+use Rattle.db_format.specs.Pages.{Pages, Test, nothing}
 use Rattle.db_format.specs.Record.{columns}
 use Rattle.db_format.specs.Value.{Datum}
 use Rattle.btree_page.specs.declared.kind.Family.{Family}
@@ -22,8 +22,7 @@ use Rattle.btree_model.specs.Records.{record_fault, record_faults, tree_part}
 use Rattle.btree_model.specs.Rest.{AreUnmarked}
 use Rattle.btree_model.specs.Tree.{family_or_index, root_family, tree_walk}
 use Rattle.btree_model.proofs.ContextLemmas.{and_left, and_right}
-use Rattle.btree_model.proofs.UnmarkedLemmas.{or_left, tree_walk_stays}
-use Rattle.load_model.proofs.StandsLemmas.{not_met}
+use Rattle.btree_model.proofs.UnmarkedLemmas.{tree_walk_stays}
 use Rattle.bulk_load.specs.Found.{HasNoFreelist, is_record}
 use Rattle.bulk_load.specs.Headed.{IsHeaded}
 use Rattle.bulk_load.proofs.HeadedLemmas.{IsRead, root_read}
@@ -78,12 +77,6 @@ root_is_of pages own family root listed f = family_is family (kind_at root (page
 pub none_of : (own taken : Test) (ns : List ℕ) → ((n : ℕ) → own n ≡ true → taken n ≡ false) → list_all own ns ≡ true → list_any taken ns ≡ false
 none_of own taken [] apart all = refl
 none_of own taken (n ∷ ns) apart all = ap (λ b. b || list_any taken ns) (apart n (and_left _ _ all)) ∙ none_of own taken ns apart (and_right _ _ all)
-
--- the places of one tree more
-pub also_apart : (own other taken : Test) (found : List Finding) → list_all other (places found) ≡ true → ((n : ℕ) → own n ≡ true → other n ≡ false)
-    → ((n : ℕ) → own n ≡ true → taken n ≡ false) → (n : ℕ) → own n ≡ true → also (places found) taken n ≡ false
-also_apart own other taken found all apart before n mine =
-    ap (λ b. b || taken n) (or_left (list_any (λ m. m == n) (places found)) _ (not_met other n found (apart n mine) all)) ∙ before n mine
 
 -- ---- the header
 

@@ -2,6 +2,7 @@
 use Rattle.std.proofs.Common.{◌≡◌, ◌≤◌, ℕ, ◌+◌, Bool, true, false, List, ◌==◌, ◌&&◌, Result, Ok, Err, OnOk, refl, ap, sym, ◌∙◌, arith}
 use Rattle.std.specs.Prelude.{nat_le, nat_lt}
 use Rattle.std.proofs.lemmas.Bool.{eqb-true}
+use Rattle.std.specs.Cmp.Derive.{both_true}
 use Rattle.db_format.specs.Pages.{Pages, Test}
 use Rattle.load_model.specs.Stands.{IsPut}
 use Rattle.bulk_load.specs.Out.{AreAllPut, Faults, Follows, IsPutAs, IsTaken, Keeps, MarksAt, SameBut, SameNumbers, is_new}
@@ -28,10 +29,6 @@ old_one a n k is h = grind arith
 le_and : (a b c d : ℕ) → a ≤ b → c ≤ d → (nat_le a b && nat_le c d) ≡ true
 le_and a b c d h g = grind arith
 
-not_first : (first b : Bool) → b ≡ false → (first && b) ≡ false
-not_first true b h = h
-not_first false b h = refl
-
 new_more_left : (a b c k : ℕ) → b ≤ c → (nat_lt a k && nat_le k b) ≡ true → (nat_lt a k && nat_le k c) ≡ true
 new_more_left a b c k h new = grind arith
 
@@ -57,15 +54,11 @@ fails_too : (b c : Bool) → c ≡ false → (b && c) ≡ false
 fails_too true c h = h
 fails_too false c h = refl
 
-both_true : (b c : Bool) → b ≡ true → c ≡ true → (b && c) ≡ true
-both_true true c h g = g
-both_true false c h g = cc
-
 -- a page of one's own was put
 pub put_own : (own : Test) (old new : Pages) (n : ℕ) → own n ≡ true → IsPut old new n → IsPut (only own old) (only own new) n
 put_own own old new n mine put = record {
   fresh = fails_too (own n) (old.accepts n) put.fresh;
-  put = both_true (own n) (new.accepts n) mine put.put;
+  put = both_true mine put.put;
   size = put.size;
   range = put.range;
   stays = put.stays;

@@ -15,9 +15,6 @@ use Rattle.bulk_load.specs.Volume.{filled, leaf_volume, level_volume, price, siz
 pub price_more : (usable m n : ℕ) → price usable (m + n) ≡ price usable m + price usable n
 price_more usable m n = omega arith
 
-pub price_one : (usable n : ℕ) → price usable (n + 1) ≡ price usable n + 2 * usable
-price_one usable n = omega arith
-
 max_is : (n : ℕ) → max 4 n ≡ n + (4 - n)
 max_is n = grind arith
 

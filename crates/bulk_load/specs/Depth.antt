@@ -4,7 +4,7 @@ use Rattle.btree_page.specs.declared.kind.Kind.{Kind}
 use Rattle.btree_page.specs.declared.kind.Kind.TheVariants.{IndexInterior, IndexLeaf, TableInterior, TableLeaf}
 use Rattle.bulk_load.specs.declared.level.Level.{Level}
 use Rattle.bulk_load.specs.declared.loader.Loader.{Loader}
-use Rattle.bulk_load.specs.Count.{load}
+use Rattle.bulk_load.specs.Count.{KeepsBack, load}
 
 -- three cells as long as each of these fit on a page of this usable size
 abbrev pub AreShort : ℕ → List (List ℕ) → Type 0
@@ -35,3 +35,10 @@ pub record KeepsShort (usable : ℕ) (loader : Loader) : Type 0 where
 abbrev pub closed_below : List Level → ℕ
 closed_below [] = 0
 closed_below (level ∷ levels) = load level + 3 * closed_below levels
+
+-- The count of pages rose from the first number to the second while the levels were filled, and they stand on no more closed pages
+-- than that. So a tree that is too deep has 2^28 pages.
+pub record IsShallow (usable from to : ℕ) (loader : Loader) : Type 0 where
+  pub back : KeepsBack loader
+  pub short : KeepsShort usable loader
+  pub closed : closed_below loader.levels.items + from ≤ to

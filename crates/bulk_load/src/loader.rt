@@ -18,7 +18,7 @@ ghost use Rattle.bulk_load.specs.Cells.{row_len};
 ghost use Rattle.bulk_load.specs.Settle.{up_kind};
 ghost use Rattle.bulk_load.specs.Bound.{entry_weight};
 ghost use Rattle.bulk_load.specs.Few.{TookFew, load_pages};
-ghost use Rattle.bulk_load.specs.Depth.{AreLevelsShort, KeepsShort, closed_below};
+ghost use Rattle.bulk_load.specs.Depth.{AreLevelsShort, IsShallow, KeepsShort, closed_below};
 ghost use Rattle.bulk_load.specs.Volume.{price, volume};
 
 use crate::cells::{entry_pair, key_pair, row_len, write_row};
@@ -106,8 +106,7 @@ impl Loader {
         ensures back { IfOk result (λ loader. KeepsBack loader) }
         ensures light { IfOk result (λ loader. weight loader ≡ 0) }
         ensures void { IfOk result (λ loader. volume loader ≡ 0) }
-        ensures short { IfOk result (KeepsShort usable) }
-        ensures flat { IfOk result (λ loader. closed_below loader.levels.items ≡ 0) }
+        ensures shallow { (from : ℕ) → IfOk result (IsShallow usable from from) }
         ensures none { (from : ℕ) → IfOk result (TookFew Table usable from [] from) }
         ensures empty { (pages : Pages) → pages.usable ≡ usable → IfOk result (λ loader. Loaded pages loader []) }
         ensures cause { IfErr result (λ error. error ≡ LoadError.OutOfMemory) }
@@ -126,8 +125,7 @@ impl Loader {
         ensures back { IfOk result (λ loader. KeepsBack loader) }
         ensures light { IfOk result (λ loader. weight loader ≡ 0) }
         ensures void { IfOk result (λ loader. volume loader ≡ 0) }
-        ensures short { IfOk result (KeepsShort usable) }
-        ensures flat { IfOk result (λ loader. closed_below loader.levels.items ≡ 0) }
+        ensures shallow { (from : ℕ) → IfOk result (IsShallow usable from from) }
         ensures none { (from : ℕ) → IfOk result (TookFew Index usable from [] from) }
         ensures empty { (pages : Pages) → pages.usable ≡ usable → IfOk result (λ loader. Loaded pages loader []) }
         ensures cause { IfErr result (λ error. error ≡ LoadError.OutOfMemory) }
@@ -146,8 +144,7 @@ impl Loader {
         ensures back { IfOk result (λ loader. KeepsBack loader) }
         ensures light { IfOk result (λ loader. weight loader ≡ 0) }
         ensures void { IfOk result (λ loader. volume loader ≡ 0) }
-        ensures short { IfOk result (KeepsShort usable) }
-        ensures flat { IfOk result (λ loader. closed_below loader.levels.items ≡ 0) }
+        ensures shallow { (from : ℕ) → IfOk result (IsShallow usable from from) }
         ensures empty { (pages : Pages) → pages.usable ≡ usable → IfOk result (λ loader. Loaded pages loader []) }
         ensures cause { IfErr result (λ error. error ≡ LoadError.OutOfMemory) }
     {
@@ -210,9 +207,8 @@ impl Loader {
             ≤ price (P.pages out.old).usable ((P.pages out.old).count + overflow_pages (family_of_loader self.old) (P.pages out.old).usable (length payload.now) + 1)
             + (volume self.old + 6 * entry_weight (family_of_loader self.old) (P.pages out.old).usable (record { rowid = rowid; payload = payload.now }))) }
         // and a level more wants three times as many pages
-        ensures short { KeepsShort (P.pages out.old).usable self.old → OnOk result (KeepsShort (P.pages out.old).usable self.new) }
-        ensures deep { KeepsShort (P.pages out.old).usable self.old
-            → OnOk result (closed_below self.new.levels.items + (P.pages out.old).count ≤ closed_below self.old.levels.items + (P.pages out.new).count) }
+        ensures shallow { (from : ℕ) → IsShallow (P.pages out.old).usable from (P.pages out.old).count self.old
+            → OnOk result (IsShallow (P.pages out.old).usable from (P.pages out.new).count self.new) }
         // all pushes added up: no more than the pages of a tree of these entries, also where one more was asked for
         ensures pushed { (from : ℕ) (entries : List Entry) → TookFew (family_of_loader self.old) (P.pages out.old).usable from entries (P.pages out.old).count self.old
             → OnOk result (TookFew (family_of_loader self.old) (P.pages out.old).usable from (entries ++ record { rowid = rowid; payload = payload.now } ∷ []) (P.pages out.new).count self.new) }
@@ -255,7 +251,8 @@ impl Loader {
         ensures asked { (from : ℕ) (entries : List Entry) → TookFew (family_of_loader self) (P.pages out.old).usable from entries (P.pages out.old).count self
             → IfErr result (λ error. is_load_refusal error ≡ true → (P.pages out.new).count + 1 ≤ from + load_pages (family_of_loader self) (P.pages out.old).usable entries) }
         // a tree that is too deep has as many pages
-        ensures deep { KeepsBack self → KeepsShort (P.pages out.old).usable self → result ≡ Err LoadError.TooDeep → 2 ^ 28 ≤ closed_below self.levels.items }
+        ensures deep { (from : ℕ) → IsShallow (P.pages out.old).usable from (P.pages out.old).count self
+            → result ≡ Err LoadError.TooDeep → 2 ^ 28 + from ≤ (P.pages out.old).count }
         ensures one { self.at_one ≡ true → IfOk result (λ root. root ≡ 1) }
         ensures cause { IfErr result (HasEndCause P.pages P.limit P.faults out.old out.new) }
         ensures keeps { Keeps P.pages P.limit P.faults P.well self.at_one out.old out.new }

@@ -1,3 +1,4 @@
+pub mod BoundLaws
 pub mod DatabaseLaws
 pub mod EntryLaws
 pub mod LoadLaws

@@ -1,5 +1,5 @@
 -- Rows of a made database: how long they are, and one more of them.
-use Rattle.std.proofs.Common.{◌≡◌, ℕ, ℤ, pos, ◌+◌, ◌*◌, ◌^◌, ◌<◌, ◌≤◌, Bool, true, false, List, [], ◌∷◌, ◌++◌, length, refl, ap, ◌∙◌, arith, length-append}
+use Rattle.std.proofs.Common.{◌≡◌, ℕ, ℤ, pos, ◌+◌, ◌*◌, ◌^◌, ◌<◌, ◌≤◌, Bool, true, false, List, [], ◌∷◌, ◌++◌, length, refl, arith, length-append}
 use Rattle.std.specs.Prelude.{nat_lt}
 use Rattle.std.specs.List.{position_or_len}
 use Rattle.std.proofs.lemmas.Bool.Decides.{nat_tests}
@@ -55,16 +55,25 @@ number_short n small =
     let most : size_of (integer_type (pos n)) ≤ 8 = size_small (integer_type (pos n)) (type_small (pos n)) in
     omega arith
 
-pub schema_short : (kind name table sql : List ℕ) (root : ℕ) → root < 2 ^ 63 → length kind + length name + length table + length sql ≤ 1000
-    → length (record_bytes (schema_values kind name table root sql)) ≤ max_payload
-schema_short kind name table sql root small few =
+-- a row of the schema, whatever root page it names
+pub row_short : (kind name table sql : List ℕ) (root : ℕ) → root < 2 ^ 63
+    → length (record_bytes (schema_values kind name table root sql)) ≤ 62 + (length kind + (length name + (length table + length sql)))
+row_short kind name table sql root small =
     let number : List ℕ = bytes_of (int (pos root)) in
-    let most : length number ≤ 8 = number_short root small in
-    let body : length (kind ++ (name ++ (table ++ (number ++ (sql ++ []))))) ≡ length kind + (length name + (length table + (length number + (length sql + 0)))) =
-    length-append kind (name ++ (table ++ (number ++ (sql ++ []))))
-    ∙ ap (λ n. length kind + n) (length-append name (table ++ (number ++ (sql ++ [])))
-    ∙ ap (λ n. length name + n) (length-append table (number ++ (sql ++ []))
-    ∙ ap (λ n. length table + n) (length-append number (sql ++ []) ∙ ap (λ n. length number + n) (length-append sql [])))) in
     let whole : length (record_bytes (schema_values kind name table root sql)) ≤ 9 + 9 * 5 + length (kind ++ (name ++ (table ++ (number ++ (sql ++ []))))) =
     record_short (schema_values kind name table root sql) in
-    omega arith
+    let most : length number ≤ 8 = number_short root small in
+    omega (
+      arith,
+      whole,
+      most,
+      length-append kind (name ++ (table ++ (number ++ (sql ++ [])))),
+      length-append name (table ++ (number ++ (sql ++ []))),
+      length-append table (number ++ (sql ++ [])),
+      length-append number (sql ++ []),
+      length-append sql [],
+    )
+
+pub schema_short : (kind name table sql : List ℕ) (root : ℕ) → root < 2 ^ 63 → length kind + length name + length table + length sql ≤ 1000
+    → length (record_bytes (schema_values kind name table root sql)) ≤ max_payload
+schema_short kind name table sql root small few = omega (arith, row_short kind name table sql root small, few)

@@ -1,5 +1,5 @@
 -- The pages of the schema of a made database.
-use Rattle.std.proofs.Common.{subst, sym, ◌≡◌, ◌≤◌, ◌<◌, ◌+◌, ◌-◌, ◌*◌, ◌%◌, pos, ◌/◌, ◌^◌, ℕ, Bool, true, List, [], ◌∷◌, ◌++◌, length, refl, ap, ◌∙◌, arith, rules, length-append, if◌then◌else◌}
+use Rattle.std.proofs.Common.{subst, sym, ◌≡◌, ◌≤◌, ◌<◌, ◌+◌, ◌-◌, ◌*◌, ◌%◌, ◌/◌, ◌^◌, ℕ, Bool, true, List, [], ◌∷◌, length, refl, ap, ◌∙◌, arith, rules, if◌then◌else◌}
 use Rattle.std.specs.Prelude.{Err, IfErr, Ok, OnErr, Result, codes, nat_le, sum}
 use Rattle.std.specs.Result.{IsErrAnd}
 use Rattle.std.proofs.Math.Nat.{min-le_left}
@@ -10,39 +10,20 @@ use Rattle.bulk_load.specs.Count.{overflow_pages, pages_for}
 use Rattle.bulk_load.specs.Few.{TookFew, load_pages}
 use Rattle.bulk_load.specs.declared.loader.Loader.{Loader}
 use Rattle.btree_model.specs.Content.{Entry}
-use Rattle.db_format.specs.Row.{bytes_of, record_bytes}
-use Rattle.db_format.specs.Value.Datum.{int}
+use Rattle.db_format.specs.Row.{record_bytes}
 use Rattle.db_maker.specs.Pages.{schema_pages}
-use Rattle.db_maker.specs.Parts.{part_values, schema_entries, schema_values, view_values}
+use Rattle.db_maker.specs.Parts.{part_values, schema_entries, view_values}
 use Rattle.db_maker.specs.declared.part.Part.{Part}
 use Rattle.db_maker.specs.declared.part.Part.TheVariants.{Items, Names, Codes}
-use Rattle.db_maker.proofs.RowLaws.{number_short, record_short}
+use Rattle.db_maker.proofs.RowLaws.{row_short}
 
-row_short : (kind name table sql : List ℕ) (root : ℕ) → root < 2 ^ 63
-    → length (record_bytes (schema_values kind name table root sql)) ≤ 62 + (length kind + (length name + (length table + length sql)))
-row_short kind name table sql root small =
-    let number : List ℕ = bytes_of (int (pos root)) in
-    let whole : length (record_bytes (schema_values kind name table root sql)) ≤ 9 + 9 * 5 + length (kind ++ (name ++ (table ++ (number ++ (sql ++ []))))) =
-    record_short (schema_values kind name table root sql) in
-    let most : length number ≤ 8 = number_short root small in
-    omega (
-      arith,
-      whole,
-      most,
-      length-append kind (name ++ (table ++ (number ++ (sql ++ [])))),
-      length-append name (table ++ (number ++ (sql ++ []))),
-      length-append table (number ++ (sql ++ [])),
-      length-append number (sql ++ []),
-      length-append sql [],
-    )
-
-no_pages : (size : ℕ) → 1 ≤ size → pages_for size 0 ≡ 0
+pub no_pages : (size : ℕ) → 1 ≤ size → pages_for size 0 ≡ 0
 no_pages size some =
     let whole : 0 / size ≡ 0 = omega arith in
     let rest : 0 % size ≡ 0 = omega arith in
     rw whole (rw rest refl)
 
-local_whole : (len most other : ℕ) → len ≤ most → (if nat_le len most then len else other) ≡ len
+pub local_whole : (len most other : ℕ) → len ≤ most → (if nat_le len most then len else other) ≡ len
 local_whole len most other few =
     let within : nat_le len most ≡ true = search (rules, few) in
     ap (λ (b : Bool). if b then len else other) within

@@ -1,5 +1,5 @@
 // A tree of rows, made and pushed one after another.
-ghost use Rattle.std.specs.Prelude.{◌≡◌, ◌≤◌, ◌+◌, ℕ, true, false, List, [], ◌∷◌, ◌++◌, None, IfOk, IfErr, OnOk, OnErr};
+ghost use Rattle.std.specs.Prelude.{◌≡◌, ◌≤◌, ◌+◌, ◌^◌, ℕ, true, false, List, [], ◌∷◌, ◌++◌, None, Err, IfOk, IfErr, OnOk, OnErr};
 ghost use Rattle.db_format.specs.Pages.{IsUsable, Pages, Test};
 ghost use Rattle.btree_model.specs.Content.{Entry};
 ghost use Rattle.load_model.specs.Stands.{last_after};
@@ -30,6 +30,7 @@ pub(crate) fn load_part<P: PageOut>(
     ensures cause { IfErr result (HasEndCause P.pages P.limit P.faults out.old out.new) }
     ensures few { (P.pages out.new).count ≤ (P.pages out.old).count + part_pages (P.pages out.old).usable part rows }
     ensures asked { IfErr result (λ error. is_load_refusal error ≡ true → (P.pages out.new).count + 1 ≤ (P.pages out.old).count + part_pages (P.pages out.old).usable part rows) }
+    ensures deep { result ≡ Err LoadError.TooDeep → 2 ^ 28 ≤ (P.pages out.new).count }
     ensures keeps { Keeps P.pages P.limit P.faults P.well false out.old out.new }
     ensures follows { OnOk result (Follows P.pages P.limit P.faults P.well false out.old out.new) }
     ensures fresh { P.only_fresh out.old out.new }

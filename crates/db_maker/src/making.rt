@@ -1,5 +1,5 @@
 // A whole database.
-ghost use Rattle.std.specs.Prelude.{◌≡◌, ◌≤◌, ◌+◌, ℕ, false, true, IfOk, IfErr, OnOk};
+ghost use Rattle.std.specs.Prelude.{◌≡◌, ◌≤◌, ◌+◌, ◌^◌, ℕ, false, true, Err, IfOk, IfErr, OnOk};
 ghost use Rattle.bulk_load.specs.Out.{AreAllPut, Follows, HasEndCause, Keeps, is_load_refusal};
 ghost use Rattle.db_maker.specs.Made.{IsMade};
 ghost use Rattle.db_maker.specs.Pages.{filled_pages};
@@ -31,6 +31,8 @@ pub fn fill<P: PageOut>(alloc: Global, out: &mut P, n: u32) -> Result<Made, Load
     // no more pages are taken than such a database has at most beside page 1, also where one more was asked for
     ensures few { (P.pages out.new).count ≤ (P.pages out.old).count + filled_pages (P.pages out.old).usable n }
     ensures asked { IfErr result (λ error. is_load_refusal error ≡ true → (P.pages out.new).count + 1 ≤ (P.pages out.old).count + filled_pages (P.pages out.old).usable n) }
+    // and a tree is too deep only where as many pages are
+    ensures deep { result ≡ Err LoadError.TooDeep → 2 ^ 28 ≤ (P.pages out.new).count }
     // where no number had been taken before, no page is missing
     ensures whole { (P.pages out.old).count ≡ 1 → OnOk result (AreAllPut (P.pages out.new)) }
     ensures keeps { Keeps P.pages P.limit P.faults P.well true out.old out.new }

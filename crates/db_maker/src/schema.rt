@@ -1,5 +1,5 @@
 // The schema of a made database.
-ghost use Rattle.std.specs.Prelude.{◌≡◌, ◌≤◌, ◌+◌, ℕ, false, true, List, [], ◌∷◌, ◌++◌, pos, Some, length, IfOk, IfErr, OnOk, OnErr};
+ghost use Rattle.std.specs.Prelude.{◌≡◌, ◌≤◌, ◌+◌, ◌^◌, ℕ, false, true, List, [], ◌∷◌, ◌++◌, pos, Some, Err, length, IfOk, IfErr, OnOk, OnErr};
 ghost use Rattle.btree_page.specs.declared.kind.Family.TheVariants.{Table};
 ghost use Rattle.btree_page.specs.Payload.{max_payload};
 ghost use Rattle.btree_model.specs.Content.{Entry};
@@ -41,6 +41,7 @@ pub(crate) fn load_schema<P: PageOut>(
     ensures cause { IfErr result (HasEndCause P.pages P.limit P.faults out.old out.new) }
     ensures few { (P.pages out.new).count ≤ (P.pages out.old).count + schema_pages }
     ensures asked { IfErr result (λ error. is_load_refusal error ≡ true → (P.pages out.new).count + 1 ≤ (P.pages out.old).count + schema_pages) }
+    ensures deep { result ≡ Err LoadError.TooDeep → 2 ^ 28 ≤ (P.pages out.new).count }
     ensures keeps { Keeps P.pages P.limit P.faults P.well true out.old out.new }
     ensures follows { OnOk result (Follows P.pages P.limit P.faults P.well true out.old out.new) }
     ensures fresh { P.only_fresh out.old out.new }

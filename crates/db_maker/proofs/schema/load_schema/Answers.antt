@@ -1,4 +1,6 @@
-use Rattle.std.proofs.Common.{◌≡◌, ◌≤◌, ◌+◌, ℕ, true, false, List, [], Err, IfErr, sym, subst, ◌∙◌, arith, rules}
+use Rattle.std.proofs.Common.{◌≡◌, ◌≤◌, ◌+◌, ◌^◌, ℕ, true, false, List, [], Err, IfErr, IsErrAnd, ap, sym, subst, ◌∙◌, arith, rules}
+use Rattle.bulk_load.specs.Depth.{IsShallow}
+use Rattle.bulk_load.specs.declared.error.LoadError.TheVariants.{TooDeep}
 use Rattle.btree_model.specs.Content.{Entry}
 use Rattle.btree_page.specs.declared.kind.Family.{Family}
 use Rattle.bulk_load.specs.Few.{TookFew, load_pages}
@@ -156,3 +158,20 @@ returns-clause-follows g c =
     let at_one : c.push_schema.new.loader.at_one ≡ true = pushed.at_one ∙ c.in_ok-loader.ensures.at_one in
     follows_all p.pages p.limit p.faults p.well true c.args.out.now c.push_schema.new.out c.finish.new.out pushed.follows
     (subst (λ first. Follows p.pages p.limit p.faults p.well first c.push_schema.new.out c.finish.new.out) at_one c.in_ok-finish.ensures.follows)
+
+pub returns-in_err-finish-clause-deep : goal.returns-in_err-finish-clause-deep
+returns-in_err-finish-clause-deep g c is =
+    let p = g.P.PageOut.pages in
+    let from : ℕ = (p c.args.out.now).count in
+    let there = p c.push_schema.new.out in
+    let loader = c.push_schema.new.loader in
+    let pushed = c.in_ok-push_schema.ensures in
+    let none : TookFew Table (p c.args.out.now).usable from [] from c.in_ok-loader.loader =
+    took_at c.usable.result (p c.args.out.now).usable from from [] c.in_ok-loader.loader c.usable.ensures.value (c.in_ok-loader.ensures.none from) in
+    let shallow : IsShallow there.usable from there.count loader = subst (λ (u : ℕ). IsShallow u from there.count loader) (sym pushed.keeps.size) (pushed.pushed none).shallow in
+    let why : LoadError = c.in_err-finish.field-0.0 in
+    let stopped : c.finish.result ≡ Err why = search (rules, c.in_err-finish.was) in
+    let same : TooDeep ≡ why = subst (λ r. IsErrAnd r (λ e. e ≡ why)) is c.from_residual-in_err-finish.ensures.1 in
+    let many : 2 ^ 28 + from ≤ there.count = c.finish.ensures.deep from shallow (stopped ∙ ap Err (sym same)) in
+    let later : there.count ≤ (p c.finish.new.out).count = c.finish.ensures.keeps.count in
+    omega arith
