@@ -32,9 +32,6 @@ also_here n put = grind (arith, nat_tests)
 pub also_more : (n m : ℕ) (put : Test) → m ≢ n → also (n ∷ []) put m ≡ put m
 also_more n m put other = grind (arith, nat_tests, other)
 
-pub also_keeps : (n m : ℕ) (put : Test) → put m ≡ true → also (n ∷ []) put m ≡ true
-also_keeps n m put has = grind (arith, nat_tests, has)
-
 page_range : (pages : Pages) (n : ℕ) → is_page pages n ≡ true → (1 ≤ n) × (n ≤ pages.count)
 page_range pages n is = (grind (arith, nat_tests, is), grind (arith, nat_tests, is))
 
@@ -212,20 +209,6 @@ told_as keys new first last put other fresh after k same_keys same_first told =
 pub page_put : (keys : FileKeys) (first : List ℕ) (put other : Test) (n : ℕ) (plain : List ℕ) (after : Option (List ℕ)) → 2 ≤ n → other ≡ also (n ∷ []) put
     → plain_page keys n (contents after) ≡ plain → fresh_page keys first other after n ≡ plain
 page_put keys first put other n plain after high same is = page_here keys first other n plain after high (ap (λ (t : Test). t n) same ∙ also_here n put) is
-
--- a number more may be given
-pub well_more : (keys : FileKeys) (put : Test) (count more start : ℕ) (tells draws_tell : Bool) (fresh : Option (List ℕ)) (drawn : List ℕ) → count ≤ more
-    → IsWell keys put count start tells draws_tell fresh drawn → IsWell keys put more start tells draws_tell fresh drawn
-well_more keys put count more start tells draws_tell fresh drawn le was = record {
-  told = was.told;
-  paged = record {
-    file = was.paged.file;
-    is = was.paged.is;
-    sealed = was.paged.sealed;
-    short = omega (arith, was.paged.short, mul-le-mul_right keys.profile.page_size le);
-  };
-  owned = was.owned;
-}
 
 -- the same by other words
 pub well_as : (keys : FileKeys) (put other : Test) (count start : ℕ) (tells draws_tell : Bool) (fresh : Option (List ℕ)) (drawn : List ℕ) → other ≡ put

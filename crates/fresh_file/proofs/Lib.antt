@@ -1,5 +1,6 @@
 pub mod DrawLaws
 pub mod FreshLaws
+pub mod HeadLaws
 pub mod HeadedLaws
 pub mod OpeningLaws
 pub mod PageLaws

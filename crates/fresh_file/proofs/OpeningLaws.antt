@@ -16,6 +16,8 @@ use Rattle.page_codec.specs.Page.{FileKeys, accepts, bears_sign, fits, opened}
 use Rattle.pager.specs.File.{first_page, page_stored, whole_pages}
 use Rattle.pager.specs.Opening.{file_header, file_opened}
 use Rattle.pager.specs.Pages.{is_number, opened_pages}
+use Rattle.pager.proofs.BatchLemmas.{number_is}
+use Rattle.pager.proofs.TxnLemmas.{listed_large}
 use Rattle.transaction.specs.Draws.{OwnDraws}
 use Rattle.fresh_file.specs.Draws.{AreOwnDraws}
 use Rattle.fresh_file.specs.Fresh.{IsFinished, contents, sized}
@@ -49,15 +51,6 @@ yes false x y is = cc
 
 both : (a b : Bool) → a ≡ true → b ≡ true → (a && b) ≡ true
 both a b is too = cc
-
-in_range : (count n : ℕ) → 1 ≤ n → n ≤ count → is_number count n ≡ true
-in_range count n one le = grind (arith, nat_tests, one, le)
-
-size_of : (profile : Profile) → IsListed profile → 512 ≤ profile.page_size
-size_of profile (inl is) = omega (arith, ap (λ (p : Profile). p.page_size) is)
-size_of profile (inr (inl is)) = omega (arith, ap (λ (p : Profile). p.page_size) is)
-size_of profile (inr (inr (inl is))) = omega (arith, ap (λ (p : Profile). p.page_size) is)
-size_of profile (inr (inr (inr is))) = omega (arith, ap (λ (p : Profile). p.page_size) is)
 
 -- ---- a header in front of any rest of page 1
 
@@ -117,7 +110,7 @@ module _ (keys : FileKeys) (header : Header) (start : ℕ) (pages : Pages) (draw
   plain_1 = opened keys 1 (page_stored keys file 1)
 
   size : 512 ≤ keys.profile.page_size
-  size = size_of keys.profile listed
+  size = listed_large keys.profile listed
 
   first : plain_1 ≡ head ++ rest
   first = done.first
@@ -126,7 +119,7 @@ module _ (keys : FileKeys) (header : Header) (start : ℕ) (pages : Pages) (draw
   accepted n is = (done.sealed n is).1.accepted
 
   one_is : is_number count 1 ≡ true
-  one_is = in_range count 1 (omega arith) one
+  one_is = number_is count 1 (omega arith) one
 
   module _ (for : IsHeaderFor keys.profile header) (read : header_read (header_bytes (sized header pages.count)) header.page_size header.reserve ≡ Ok (sized header pages.count))
       (most : pages.count ≤ most_pages keys.profile) where

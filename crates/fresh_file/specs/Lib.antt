@@ -1,5 +1,6 @@
 pub mod Beside
 pub mod Draws
 pub mod Fresh
+pub mod Head
 pub mod Sealed
 pub mod State

@@ -1,6 +1,7 @@
 -- A new file that was written to its end is the made one.
-use Rattle.std.proofs.Common.{◌≡◌, ◌+◌, ℕ, Bool, List, [], ◌∷◌, Option, Some, None, Ok, arith, ap, refl, sym, subst}
+use Rattle.std.proofs.Common.{◌≡◌, ◌+◌, ℕ, Bool, List, [], ◌∷◌, Option, Some, None, Ok, arith, ap, refl, subst}
 use Rattle.std.specs.Prelude.{IsTrue}
+use Rattle.std.proofs.Math.Path.{subst₂}
 use Rattle.btree_model.specs.Content.{HoldsContent, kept_fields}
 use Rattle.cipher_profile.specs.Profile.{IsListed, usable}
 use Rattle.db_format.specs.Header.{header_bytes, header_read}
@@ -13,16 +14,13 @@ use Rattle.fresh_file.specs.Draws.{AreOwnDraws}
 use Rattle.fresh_file.specs.Fresh.{IsFinished, sized}
 use Rattle.fresh_file.specs.State.{most_pages, pages_of}
 use Rattle.fresh_file.specs.declared.state.FreshState.{FreshState}
+use Rattle.fresh_file.proofs.HeadLaws.{begins}
 use Rattle.fresh_file.proofs.OpeningLaws.{IsHeaderFor, accepted, is_headed, opens, own_draws}
 use Rattle.make_job.specs.Made.{made_header}
 use Rattle.make_job.specs.Stops.{in_the_way}
 use Rattle.make_job.specs.Written.{IsWritten}
 use Rattle.page_codec.specs.Page.{FileKeys}
 use Rattle.pager.specs.Pages.{opened_pages}
-
--- what is said of two values holds of equal ones
-pub moved : {A B : Type 0} (P : A → B → Type 0) (a b : A) (x y : B) → b ≡ a → y ≡ x → P a x → P b y
-moved P a b x y same_first same_second holds = subst (λ v. P v y) (sym same_first) (subst (P a) (sym same_second) holds)
 
 -- where nothing stands in the way there is no journal
 pub no_journal : (files : Files) → in_the_way files ≡ None → files.journal ≡ None
@@ -42,7 +40,7 @@ module _ (keys : FileKeys) (header : Header) (state : FreshState) (rows start : 
   pages = pages_of state before
 
   ended : IsFinished keys (made_header keys.profile 0) pages start draws_tell fresh drawn
-  ended = moved (λ k h. IsFinished k h pages start draws_tell fresh drawn) state.codec keys header (made_header keys.profile 0) (sym codec) (sym head) done
+  ended = subst₂ (λ k h. IsFinished k h pages start draws_tell fresh drawn) codec head done
 
   for_profile : IsHeaderFor keys.profile (made_header keys.profile 0)
   for_profile = record { page_size = refl; reserve = refl; counts = refl }
@@ -68,6 +66,7 @@ module _ (keys : FileKeys) (header : Header) (state : FreshState) (rows start : 
             opens =
                 opens keys (made_header keys.profile 0) start pages draws_tell fresh drawn listed ended state.counted for_profile (read_as read)
                 (omega (arith, state.within, limit));
+            begins = begins keys (made_header keys.profile 0) pages start draws_tell fresh drawn ended;
             size = ended.size;
             accepted = accepted keys (made_header keys.profile 0) start pages draws_tell fresh drawn listed ended state.counted;
             holds =

@@ -5,6 +5,7 @@ use Rattle.cipher_profile.specs.declared.keys.Secret.{Secret}
 use Rattle.cipher_profile.specs.declared.profile.Profile.{Profile}
 use Rattle.db_format.specs.declared.header.Header.{Header}
 use Rattle.db_maker.specs.Made.{made_items}
+use Rattle.fresh_file.specs.Head.{BeginsWith}
 use Rattle.page_codec.specs.Page.{FileKeys, accepts, keys_of}
 use Rattle.pager.specs.File.{page_stored}
 use Rattle.pager.specs.Opening.{file_opened}
@@ -33,11 +34,12 @@ made_header profile count = record {
 abbrev pub made_content : ℕ → Content
 made_content rows = record { kept = 1 ∷ 4 ∷ 0 ∷ 1 ∷ 0 ∷ 0 ∷ 3045000 ∷ []; rows = made_items rows }
 
--- Under these keys the file opens with that header. It is so many pages and no byte more, each of them is accepted, no part of the
--- database has a defect, and it holds so many rows.
+-- Under these keys the file opens with that header, and begins with its bytes. It is so many pages and no byte more, each of them is
+-- accepted, no part of the database has a defect, and it holds so many rows.
 pub record IsMadeUnder (keys : FileKeys) (rows : ℕ) (file : List ℕ) : Type 0 where
   pub count : ℕ
   pub opens : file_opened keys file ≡ Ok (record { header = made_header keys.profile count; count = count })
+  pub begins : BeginsWith keys (made_header keys.profile count) file
   pub size : length file ≡ count * keys.profile.page_size
   pub accepted : (n : ℕ) → is_number count n ≡ true → accepts keys n (page_stored keys file n) ≡ true
   pub holds : HoldsContent (opened_pages keys file count) (made_content rows)

@@ -20,11 +20,12 @@ is_refusal DiskFault = false
 is_refusal EntropyFault = false
 is_refusal OutOfMemory = false
 
--- How a load that failed stops the command. Rows are pushed in their order, and no tree of so few levels is too deep.
-abbrev pub load_error : LoadError → MakeError
-load_error RowidOrder = OutOfMemory
-load_error (Out (OutPages limit)) = TooManyPages limit
-load_error (Out OutDisk) = DiskFault
-load_error (Out OutEntropy) = EntropyFault
-load_error LoadMemory = OutOfMemory
-load_error TooDeep = OutOfMemory
+-- How a load that failed stops the command. Rows are pushed in their order, and a tree that is too deep has more pages than a file may
+-- have: so neither of these stops it.
+abbrev pub load_error : LoadError → Option MakeError
+load_error RowidOrder = None
+load_error (Out (OutPages limit)) = Some (TooManyPages limit)
+load_error (Out OutDisk) = Some DiskFault
+load_error (Out OutEntropy) = Some EntropyFault
+load_error LoadMemory = Some OutOfMemory
+load_error TooDeep = None

@@ -88,14 +88,16 @@ fn fill_state<T: Side>(
 
 // How a load that failed stops the command.
 fn load_error(error: LoadError) -> MakeError
-    ensures { result ≡ load_error error }
+    requires in_order { error ≡ LoadError.RowidOrder → ⊥ }
+    requires shallow { error ≡ LoadError.TooDeep → ⊥ }
+    ensures { load_error error ≡ Some result }
 {
     match error {
         LoadError::Out(OutError::TooManyPages { limit }) => MakeError::TooManyPages { limit },
         LoadError::Out(OutError::DiskFault) => MakeError::DiskFault,
         LoadError::Out(OutError::EntropyFault) => MakeError::EntropyFault,
-        LoadError::RowidOrder | LoadError::OutOfMemory | LoadError::TooDeep =>
-            MakeError::OutOfMemory,
+        LoadError::OutOfMemory => MakeError::OutOfMemory,
+        LoadError::RowidOrder | LoadError::TooDeep => unreachable!(),
     }
 }
 
