@@ -1,5 +1,5 @@
 -- What the pages that were asked for say of the content that is copied.
-use Rattle.std.proofs.Common.{◌≡◌, ◌≤◌, ◌<◌, ◌+◌, ◌*◌, ◌^◌, ◌∙◌, inl, inr, ℕ, zero, suc, Bool, true, false, List, [], ◌∷◌, ◌++◌, length, map, take, drop, refl, ap, sym, subst, arith}
+use Rattle.std.proofs.Common.{◌≡◌, Some, ◌≤◌, ◌<◌, ◌+◌, ◌*◌, ◌^◌, ◌∙◌, inl, inr, ℕ, zero, suc, Bool, true, false, List, [], ◌∷◌, ◌++◌, length, map, take, drop, refl, ap, sym, subst, arith}
 use Rattle.std.specs.Prelude.{◌⊎◌, nat_lt, slice_index_or, sum}
 use Rattle.std.specs.List.{All}
 use Rattle.std.proofs.Math.Nat.{div-mul-le_self, mul-le-mul_left}
@@ -96,7 +96,7 @@ listed_usable profile (inr (inr (inr is))) = subst (λ p. IsUsable (usable p)) (
 
 -- why the schema was not loaded, where a limit is named
 pub schema_refused : {S : Type 0} (pages : S → Pages) (limit : S → ℕ) (faults : S → Faults) (old new : S) (long : Type 0) (from load most l : ℕ) (error : RowsError)
-    → (pages old).count ≡ from + 1 → rows_error most error ≡ TooManyPages l → HasRowsCause pages limit faults old new error → (error ≡ TooLong → long)
+    → (pages old).count ≡ from + 1 → rows_error most error ≡ Some (TooManyPages l) → HasRowsCause pages limit faults old new error → (error ≡ TooLong → long)
     → ((n : ℕ) → error ≡ Load (Out (NoNumber n)) → (pages new).count + 1 ≤ (pages old).count + load) → long ⊎ (limit old ≤ from + load)
 schema_refused pages limit faults old new long from load most l TooLong starts is cause too asked = inl (too refl)
 schema_refused pages limit faults old new long from load most l (Load RowidOrder) starts is cause too asked = cc

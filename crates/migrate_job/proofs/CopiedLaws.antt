@@ -29,10 +29,6 @@ pub copied_tree : (before pages : Pages) (low high root new : ℕ) → (root ≡
 copied_tree before pages low high zero new some has = absurd (some refl)
 copied_tree before pages low high (suc n) new some has = has
 
-pub copied_none : (before pages : Pages) (low high root new : ℕ) → root ≡ 0 → new ≡ 0 → IsCopiedTree before pages low high root new
-copied_none before pages low high zero new none is = is
-copied_none before pages low high (suc n) new none is = absurd (omega arith)
-
 pub copied_more : (before pages : Pages) (low middle high : ℕ) (rows : List SchemaRow) (roots : List ℕ) (row : SchemaRow) (root : ℕ) → AreCopied before pages low middle rows roots
     → middle ≤ high → IsCopiedTree before pages middle high row.root root → AreCopied before pages low high (rows ++ row ∷ []) (roots ++ root ∷ [])
 copied_more before pages low middle high [] [] row root at more is =

@@ -9,11 +9,10 @@ use Rattle.page_codec.specs.Page.{FileKeys}
 use Rattle.btree_model.specs.Content.{Entry, entry_of}
 use Rattle.std.specs.List.{Contains}
 use Rattle.btree_page.specs.declared.kind.Family.{Family}
-use Rattle.btree_model.specs.Finding.{Finding, Row, place, leaf, entry, key, fault, refused, is_sound, refusals}
+use Rattle.btree_model.specs.Finding.{Finding, Row, is_sound, refusals}
 use Rattle.btree_walk.specs.declared.cursor.Cursor.{Cursor}
 use Rattle.btree_walk.specs.Cursor.{IsAt, IsSameTree, family_or, walked, walked_family}
 use Rattle.btree_walk.specs.Causes.{IsRefused}
-use Rattle.btree_walk.proofs.ChainLemmas.{sound_faults}
 use Rattle.btree_model.specs.Tree.{root_family, tree_walk}
 use Rattle.edge_model.specs.Files.{bytes_of}
 use Rattle.pager.specs.File.{main_of}
@@ -22,6 +21,7 @@ use Rattle.std.specs.Prelude.{IsTrue, unwrap_or}
 use Rattle.pager.specs.Causes.{MayRefuse}
 use Rattle.pager.specs.declared.fill.PageError.{PageError}
 use Rattle.pager.specs.declared.fill.PageError.TheVariants.{OutOfRange, TagRefused, DiskFault as NotRead, EntropyFault as NotSealed, AllPinned}
+use Rattle.schema_map.proofs.SoundParts.{none_contained, sound_faults, sound_refusals}
 use Rattle.migrate_job.specs.declared.error.MigrateError.{MigrateError}
 use Rattle.migrate_job.specs.declared.error.MigrateError.TheVariants.{PageTag, Defect, TooManyPages, DiskFault, EntropyFault, OutOfMemory}
 use Rattle.migrate_job.specs.Copying.{IsOfWalk, page_error}
@@ -79,18 +79,6 @@ refused_of_walk tells pages all (TagRefused n) told at = subst (λ k. Contains (
 refused_of_walk tells pages all NotRead told at = tt
 refused_of_walk tells pages all NotSealed told at = tt
 refused_of_walk tells pages all AllPinned told at = tt
-
-sound_refusals : (xs : List Finding) → is_sound xs ≡ true → refusals xs ≡ []
-sound_refusals [] h = refl
-sound_refusals (place n ∷ xs) h = sound_refusals xs h
-sound_refusals (leaf n ∷ xs) h = sound_refusals xs h
-sound_refusals (entry row ∷ xs) h = sound_refusals xs h
-sound_refusals (key k ∷ xs) h = sound_refusals xs h
-sound_refusals (fault d ∷ xs) h = cc
-sound_refusals (refused n ∷ xs) h = cc
-
-none_contained : {X : Type 0} (x : X) → Contains [] x → ⊥
-none_contained x (k, less, is) = omega arith
 
 -- a sound walk has neither
 pub sound_late : (all : List Finding) (error : MigrateError) → is_sound all ≡ true → IsOfWalk all error → is_early error ≡ false

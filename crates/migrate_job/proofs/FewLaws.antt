@@ -1,5 +1,5 @@
 -- How many pages a copied tree takes.
-use Rattle.std.proofs.Common.{◌≡◌, ◌≤◌, ◌+◌, ◌++◌, ◌∷◌, ℕ, true, List, [], Result, Ok, Err, IfErr, map, arith, refl, ap, sym, subst, ◌∙◌}
+use Rattle.std.proofs.Common.{◌≡◌, ◌≤◌, ◌+◌, ◌++◌, ◌∷◌, ℕ, true, List, [], Some, Result, Ok, Err, IfErr, map, arith, refl, ap, sym, subst, ◌∙◌}
 use Rattle.std.proofs.lemmas.List.{append_assoc, map-append}
 use Rattle.btree_page.specs.declared.kind.Family.{Family}
 use Rattle.btree_model.specs.Content.{Entry, entry_of}
@@ -20,7 +20,7 @@ use Rattle.pager.specs.declared.fill.PageError.{PageError}
 use Rattle.pager.specs.declared.fill.PageError.TheVariants.{OutOfRange, TagRefused, DiskFault as NotRead, EntropyFault as NotSealed, AllPinned}
 use Rattle.migrate_job.specs.declared.error.MigrateError.{MigrateError}
 use Rattle.migrate_job.specs.declared.error.MigrateError.TheVariants.{PageTag, Defect, TooManyPages, DiskFault, EntropyFault, OutOfMemory}
-use Rattle.migrate_job.specs.Copying.{asked_by, load_error, page_error, walk_error}
+use Rattle.migrate_job.specs.Copying.{asked_by, load_error, walk_error}
 
 -- these entries of the walk were given and pushed, and so many numbers given
 pub record IsFewSoFar (before : Pages) (taken : Test) (cursor : Cursor) (seen : Test) (family : Family) (usable from count : ℕ) (loader : Loader) : Type 0 where
@@ -49,13 +49,18 @@ asks_one EntropyFault = omega arith
 asks_one OutOfMemory = omega arith
 
 -- where no page was taken, one more was asked for
-pub asks_refusal : (error : LoadError) (count most : ℕ) → count ≤ most → (is_load_refusal error ≡ true → count + 1 ≤ most) → count + asked_by (load_error error) ≤ most
-asks_refusal RowidOrder count most few asked = omega arith
-asks_refusal (Out (NoNumber limit)) count most few asked = asked refl
-asks_refusal (Out NotWritten) count most few asked = omega arith
-asks_refusal (Out NotDrawn) count most few asked = omega arith
-asks_refusal NoRoomToLoad count most few asked = omega arith
-asks_refusal TooDeep count most few asked = omega arith
+pub asks_refusal : (error : LoadError) (stops : MigrateError) (count most : ℕ) → load_error error ≡ Some stops → count ≤ most → (is_load_refusal error ≡ true → count + 1 ≤ most)
+    → count + asked_by stops ≤ most
+asks_refusal RowidOrder stops count most is few asked = cc
+asks_refusal (Out (NoNumber limit)) stops count most is few asked =
+    let same : TooManyPages limit ≡ stops = cc in subst (λ s. count + asked_by s ≤ most) same (asked refl)
+asks_refusal (Out NotWritten) stops count most is few asked =
+    let same : DiskFault ≡ stops = cc in subst (λ s. count + asked_by s ≤ most) same (omega arith)
+asks_refusal (Out NotDrawn) stops count most is few asked =
+    let same : EntropyFault ≡ stops = cc in subst (λ s. count + asked_by s ≤ most) same (omega arith)
+asks_refusal NoRoomToLoad stops count most is few asked =
+    let same : OutOfMemory ≡ stops = cc in subst (λ s. count + asked_by s ≤ most) same (omega arith)
+asks_refusal TooDeep stops count most is few asked = cc
 
 module _ (family : Family) (usable from count : ℕ) (rows given more : List Row) where
   -- before an entry
@@ -86,10 +91,3 @@ if_err_told (Err error) T X holds = holds
 
 pub if_err_at : {A E : Type 0} (result : Result A E) (error : E) (P : E → Type 0) → result ≡ Err error → IfErr result P → P error
 if_err_at result error P is holds = subst (λ r. IfErr r P) is holds
-
-pub page_asks : (error : PageError) → asked_by (page_error error) ≡ 0
-page_asks OutOfRange = refl
-page_asks (TagRefused n) = refl
-page_asks NotRead = refl
-page_asks NotSealed = refl
-page_asks AllPinned = refl

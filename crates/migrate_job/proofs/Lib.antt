@@ -8,10 +8,9 @@ pub mod CopyLaws
 pub mod EntryLaws
 pub mod FamilyLaws
 pub mod FewLaws
-pub mod FirstLaws
-pub mod HeldLaws
 pub mod LoadLaws
 pub mod MigratedLaws
 pub mod RowLaws
 pub mod SoundRows
 pub mod TargetLaws
+pub mod WalkStops

@@ -1,6 +1,7 @@
 -- A new file that was written to its end is a migrated one.
 use Rattle.std.proofs.Common.{◌≡◌, ◌+◌, ◌*◌, length, ℕ, Bool, true, false, List, [], ◌∷◌, Option, Some, Ok, arith, ap, refl, sym, subst, ◌∙◌}
 use Rattle.std.specs.Prelude.{IsTrue}
+use Rattle.std.proofs.Math.Path.{subst₂}
 use Rattle.btree_model.specs.Content.{HoldsContent, content, kept_fields}
 use Rattle.btree_model.specs.Parts.{is_database}
 use Rattle.bulk_load.specs.Found.{HoldsItems}
@@ -15,14 +16,11 @@ use Rattle.fresh_file.specs.Draws.{AreOwnDraws}
 use Rattle.fresh_file.specs.Fresh.{IsFinished, sized}
 use Rattle.fresh_file.specs.State.{most_pages, pages_of}
 use Rattle.fresh_file.specs.declared.state.FreshState.{FreshState}
+use Rattle.fresh_file.proofs.HeadLaws.{begins}
 use Rattle.fresh_file.proofs.OpeningLaws.{IsHeaderFor, accepted, is_headed, opens, own_draws}
 use Rattle.migrate_job.specs.Migrated.{IsMigratedUnder, migrated_header}
 use Rattle.page_codec.specs.Page.{FileKeys}
 use Rattle.pager.specs.Pages.{opened_pages}
-
--- what is said of two values holds of equal ones
-moved : {A B : Type 0} (P : A → B → Type 0) (a b : A) (x y : B) → b ≡ a → y ≡ x → P a x → P b y
-moved P a b x y same_first same_second holds = subst (λ v. P v y) (sym same_first) (subst (P a) (sym same_second) holds)
 
 -- what no rule breaks is the value
 value_is : {V E : Type 0} (rules : List (Rule E)) (v x : V) → unless_broken rules v ≡ Ok x → v ≡ x
@@ -58,7 +56,7 @@ module _ (keys : FileKeys) (old header : Header) (before : Pages) (state : Fresh
   new_header = migrated_header keys.profile old 0
 
   ended : IsFinished keys new_header pages start draws_tell fresh drawn
-  ended = moved (λ k h. IsFinished k h pages start draws_tell fresh drawn) state.codec keys header new_header (sym codec) (sym head) done
+  ended = subst₂ (λ k h. IsFinished k h pages start draws_tell fresh drawn) codec head done
 
   for_profile : IsHeaderFor keys.profile (migrated_header keys.profile old 0)
   for_profile = record { page_size = refl; reserve = refl; counts = refl }
@@ -85,6 +83,7 @@ module _ (keys : FileKeys) (old header : Header) (before : Pages) (state : Fresh
             opens =
                 opens keys new_header start pages draws_tell fresh drawn listed ended state.counted for_profile (read_as read)
                 (omega (arith, state.within, limit));
+            begins = begins keys new_header pages start draws_tell fresh drawn ended;
             size = ended.size;
             accepted = accepted keys new_header start pages draws_tell fresh drawn listed ended state.counted;
             holds =

@@ -1,5 +1,5 @@
 -- A new file and what it is written through, seen of other values.
-use Rattle.std.proofs.Common.{◌≡◌, ◌≤◌, ◌+◌, ◌&&◌, ℕ, Bool, true, false, List, Option, Result, Err, arith, refl, ap, sym, subst, ◌∙◌}
+use Rattle.std.proofs.Common.{◌≡◌, ◌≤◌, ◌+◌, ◌&&◌, ℕ, Bool, true, false, List, Option, Some, Result, Err, arith, refl, ap, sym, subst, ◌∙◌}
 use Rattle.std.specs.Prelude.{IsTrue, nat_le, nat_lt}
 use Rattle.std.specs.Borrow.{MutBor}
 use Rattle.edge_model.specs.Files.{Files, bytes_of}
@@ -16,7 +16,7 @@ use Rattle.migrate_job.specs.declared.error.MigrateError.TheVariants.{PageTag, D
 use Rattle.pager.specs.File.{main_of}
 use Rattle.pager.specs.Reads.{DiskRead, Untouched}
 use Rattle.migrate_job.specs.Stops.{is_early}
-use Rattle.migrate_job.specs.Copying.{FollowsBeside, FollowsTarget, IsOfWalk, IsTargetWell, KeepsTarget, Target, beside_main, load_error, target_faults, target_limit, target_pages}
+use Rattle.migrate_job.specs.Copying.{FollowsBeside, IsOfWalk, IsTargetWell, Target, beside_main, load_error, target_faults, target_limit, target_pages}
 
 -- what is said of two values holds of equal ones
 pub moved : {A B : Type 0} (P : A → B → Type 0) (a b : A) (x y : B) → b ≡ a → y ≡ x → P a x → P b y
@@ -25,13 +25,13 @@ moved P a b x y same_first same_second holds = subst (λ v. P v y) (sym same_fir
 pub moved_one : {A : Type 0} (P : A → Type 0) (a b : A) → b ≡ a → P a → P b
 moved_one P a b same holds = subst P (sym same) holds
 
--- the same run, where each of these values has such a new file
+-- the same run, where each of these values has such a new file, whether page 1 may be put besides or not
 module _ {T : Type 0} (tells draws_tell : Bool) (fresh : T → Option (List ℕ)) (drawn : T → List ℕ) (disk_faults draw_faults : T → ℕ)
     {S : Type 0} (target : S → Target T) where
-  pub keeps_along : (old new : S)
+  pub keeps_along : {first : Bool} (old new : S)
       → Keeps (λ s. target_pages fresh (target s)) (λ s. target_limit (target s)) (λ s. target_faults disk_faults draw_faults (target s))
-      (λ start s. IsTargetWell tells draws_tell fresh drawn start (target s)) false old new
-      → KeepsTarget tells draws_tell fresh drawn disk_faults draw_faults (target old) (target new)
+      (λ start s. IsTargetWell tells draws_tell fresh drawn start (target s)) first old new
+      → Keeps (target_pages fresh) target_limit (target_faults disk_faults draw_faults) (IsTargetWell tells draws_tell fresh drawn) first (target old) (target new)
   keeps_along old new k = record {
     size = k.size;
     count = k.count;
@@ -43,10 +43,10 @@ module _ {T : Type 0} (tells draws_tell : Bool) (fresh : T → Option (List ℕ)
     entropy = k.entropy;
   }
 
-  pub follows_along : (old new : S)
+  pub follows_along : {first : Bool} (old new : S)
       → Follows (λ s. target_pages fresh (target s)) (λ s. target_limit (target s)) (λ s. target_faults disk_faults draw_faults (target s))
-      (λ start s. IsTargetWell tells draws_tell fresh drawn start (target s)) false old new
-      → FollowsTarget tells draws_tell fresh drawn disk_faults draw_faults (target old) (target new)
+      (λ start s. IsTargetWell tells draws_tell fresh drawn start (target s)) first old new
+      → Follows (target_pages fresh) target_limit (target_faults disk_faults draw_faults) (IsTargetWell tells draws_tell fresh drawn) first (target old) (target new)
   follows_along old new f = record { keeps = keeps_along old new f.keeps; puts = f.puts; puts_first = f.puts_first; told = f.told }
 
 -- a tree whose root does not go to page 1
@@ -107,36 +107,36 @@ late_of_walk all DiskFault late = tt
 late_of_walk all EntropyFault late = tt
 late_of_walk all OutOfMemory late = tt
 
-module _ {A : Type 0} (error : MigrateError) (why : LoadError) (is : error ≡ load_error why) where
+module _ {A : Type 0} (error : MigrateError) (why : LoadError) (is : load_error why ≡ Some error) where
   pub limit_of : (limit : ℕ) → ◌≡◌ {A = Result A MigrateError} (Err error) (Err (TooManyPages limit)) → why ≡ Out (NoNumber limit)
-  limit_of limit h = by_case why (subst (λ e. ◌≡◌ {A = Result A MigrateError} (Err e) (Err (TooManyPages limit))) is h)
+  limit_of limit h = by_case why is h
     where
-      by_case : (e : LoadError) → ◌≡◌ {A = Result A MigrateError} (Err (load_error e)) (Err (TooManyPages limit)) → e ≡ Out (NoNumber limit)
-      by_case RowidOrder h = cc
-      by_case (Out (NoNumber most)) h = cc
-      by_case (Out NotWritten) h = cc
-      by_case (Out NotDrawn) h = cc
-      by_case NoRoomToLoad h = cc
-      by_case TooDeep h = cc
+      by_case : (e : LoadError) → load_error e ≡ Some error → ◌≡◌ {A = Result A MigrateError} (Err error) (Err (TooManyPages limit)) → e ≡ Out (NoNumber limit)
+      by_case RowidOrder so h = cc
+      by_case (Out (NoNumber most)) so h = cc
+      by_case (Out NotWritten) so h = cc
+      by_case (Out NotDrawn) so h = cc
+      by_case NoRoomToLoad so h = cc
+      by_case TooDeep so h = cc
 
   pub disk_of : ◌≡◌ {A = Result A MigrateError} (Err error) (Err DiskFault) → why ≡ Out NotWritten
-  disk_of h = by_case why (subst (λ e. ◌≡◌ {A = Result A MigrateError} (Err e) (Err DiskFault)) is h)
+  disk_of h = by_case why is h
     where
-      by_case : (e : LoadError) → ◌≡◌ {A = Result A MigrateError} (Err (load_error e)) (Err DiskFault) → e ≡ Out NotWritten
-      by_case RowidOrder h = cc
-      by_case (Out (NoNumber most)) h = cc
-      by_case (Out NotWritten) h = refl
-      by_case (Out NotDrawn) h = cc
-      by_case NoRoomToLoad h = cc
-      by_case TooDeep h = cc
+      by_case : (e : LoadError) → load_error e ≡ Some error → ◌≡◌ {A = Result A MigrateError} (Err error) (Err DiskFault) → e ≡ Out NotWritten
+      by_case RowidOrder so h = cc
+      by_case (Out (NoNumber most)) so h = cc
+      by_case (Out NotWritten) so h = refl
+      by_case (Out NotDrawn) so h = cc
+      by_case NoRoomToLoad so h = cc
+      by_case TooDeep so h = cc
 
   pub entropy_of : ◌≡◌ {A = Result A MigrateError} (Err error) (Err EntropyFault) → why ≡ Out NotDrawn
-  entropy_of h = by_case why (subst (λ e. ◌≡◌ {A = Result A MigrateError} (Err e) (Err EntropyFault)) is h)
+  entropy_of h = by_case why is h
     where
-      by_case : (e : LoadError) → ◌≡◌ {A = Result A MigrateError} (Err (load_error e)) (Err EntropyFault) → e ≡ Out NotDrawn
-      by_case RowidOrder h = cc
-      by_case (Out (NoNumber most)) h = cc
-      by_case (Out NotWritten) h = cc
-      by_case (Out NotDrawn) h = refl
-      by_case NoRoomToLoad h = cc
-      by_case TooDeep h = cc
+      by_case : (e : LoadError) → load_error e ≡ Some error → ◌≡◌ {A = Result A MigrateError} (Err error) (Err EntropyFault) → e ≡ Out NotDrawn
+      by_case RowidOrder so h = cc
+      by_case (Out (NoNumber most)) so h = cc
+      by_case (Out NotWritten) so h = cc
+      by_case (Out NotDrawn) so h = refl
+      by_case NoRoomToLoad so h = cc
+      by_case TooDeep so h = cc

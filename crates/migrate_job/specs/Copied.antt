@@ -1,5 +1,5 @@
 -- A schema that is written anew, with the new roots of its trees.
-use Rattle.std.specs.Prelude.{◌+◌, ℕ, zero, suc, ◌≡◌, ◌≤◌, ◌<◌, pos, true, List, [], ◌∷◌, ◌++◌, take, drop, length, map, sum, Some, unwrap_or}
+use Rattle.std.specs.Prelude.{◌+◌, ◌^◌, ℕ, zero, suc, ◌≡◌, ◌≤◌, ◌<◌, pos, true, List, [], ◌∷◌, ◌++◌, take, drop, length, map, sum, Option, Some, None, unwrap_or}
 use Rattle.std.specs.List.{list_all}
 use Rattle.db_format.specs.Pages.{Pages, nothing}
 use Rattle.db_format.specs.Record.{columns}
@@ -19,7 +19,7 @@ use Rattle.bulk_load.specs.declared.error.LoadError.TheVariants.{RowidOrder, Out
 use Rattle.bulk_load.specs.Out.{HasCause}
 use Rattle.migrate_job.specs.Copying.{load_error}
 use Rattle.migrate_job.specs.declared.error.MigrateError.{MigrateError}
-use Rattle.migrate_job.specs.declared.error.MigrateError.TheVariants.{TooManyPages}
+use Rattle.migrate_job.specs.declared.error.MigrateError.TheVariants.{TooManyPages, OutOfMemory as NoMemory}
 use Rattle.migrate_job.specs.declared.rows.RowsError.{RowsError}
 use Rattle.migrate_job.specs.declared.rows.RowsError.TheVariants.{TooLong, Load}
 use Rattle.schema_map.specs.Alone.{tree_rows}
@@ -60,18 +60,23 @@ AreRenamed [] roots = Unit {0}
 AreRenamed (row ∷ rows) [] = Unit {0}
 AreRenamed (row ∷ rows) (root ∷ roots) = IsRenamed row.payload row.root root × AreRenamed rows roots
 
--- why the rows were not loaded: all numbers were given, or a count of failures rose; what else it may be shows nothing
+-- why the rows were not loaded: all numbers were given, a count of failures rose, or there are as many pages as a tree that is too deep
+-- has; what else it may be shows nothing
 abbrev pub HasRowsCause : {S : Type 0} → (S → Pages) → (S → ℕ) → (S → Faults) → S → S → RowsError → Type 0
 HasRowsCause pages limit faults old new TooLong = Unit {0}
 HasRowsCause pages limit faults old new (Load RowidOrder) = Unit {0}
 HasRowsCause pages limit faults old new (Load (Out why)) = HasCause pages limit faults old new why
 HasRowsCause pages limit faults old new (Load OutOfMemory) = Unit {0}
-HasRowsCause pages limit faults old new (Load TooDeep) = Unit {0}
+HasRowsCause pages limit faults old new (Load TooDeep) = 2 ^ 28 ≤ (pages new).count
 
--- how rows that are not loaded stop the command, where there may be so many pages
-abbrev pub rows_error : ℕ → RowsError → MigrateError
-rows_error limit TooLong = TooManyPages limit
-rows_error limit (Load why) = load_error why
+-- How rows that are not loaded stop the command, where there may be so many pages. The rows of a census are in order, and want of memory
+-- stands for that they are not.
+abbrev pub rows_error : ℕ → RowsError → Option MigrateError
+rows_error limit TooLong = Some (TooManyPages limit)
+rows_error limit (Load RowidOrder) = Some NoMemory
+rows_error limit (Load (Out why)) = load_error (Out why)
+rows_error limit (Load OutOfMemory) = Some NoMemory
+rows_error limit (Load TooDeep) = None
 
 -- ---- what is known of the old rows
 

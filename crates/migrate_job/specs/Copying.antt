@@ -1,5 +1,5 @@
 -- A tree of the old file, loaded into the new one.
-use Rattle.std.specs.Prelude.{ℕ, Bool, true, false, List, [], ◌∷◌, ◌++◌, Option, ⊤}
+use Rattle.std.specs.Prelude.{ℕ, Bool, true, false, List, [], ◌∷◌, ◌++◌, Option, Some, None, ⊤}
 use Rattle.std.specs.List.{Contains}
 use Rattle.edge_model.specs.Files.{Files, bytes_of}
 use Rattle.db_format.specs.Pages.{Pages}
@@ -33,14 +33,15 @@ walk_error (Found defect) = Defect defect
 walk_error (Source refusal) = page_error refusal
 walk_error NoRoomToWalk = OutOfMemory
 
--- how an entry that is not loaded stops it; its rowid is above all before it
-abbrev pub load_error : LoadError → MigrateError
-load_error RowidOrder = OutOfMemory
-load_error (Out (NoNumber limit)) = TooManyPages limit
-load_error (Out NotWritten) = DiskFault
-load_error (Out NotDrawn) = EntropyFault
-load_error NoRoomToLoad = OutOfMemory
-load_error TooDeep = OutOfMemory
+-- How an entry that is not loaded stops it. Its rowid is above all before it, and a tree that is too deep has more pages than a file may
+-- have: so neither of these stops it.
+abbrev pub load_error : LoadError → Option MigrateError
+load_error RowidOrder = None
+load_error (Out (NoNumber limit)) = Some (TooManyPages limit)
+load_error (Out NotWritten) = Some DiskFault
+load_error (Out NotDrawn) = Some EntropyFault
+load_error NoRoomToLoad = Some OutOfMemory
+load_error TooDeep = None
 
 -- where it speaks of the old pages, it is a defect or a refused page of this walk
 abbrev pub IsOfWalk : List Finding → MigrateError → Type 0

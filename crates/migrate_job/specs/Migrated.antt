@@ -6,6 +6,7 @@ use Rattle.cipher_profile.specs.declared.keys.Secret.{Secret}
 use Rattle.cipher_profile.specs.declared.profile.Profile.{Profile}
 use Rattle.db_format.specs.Pages.{Pages}
 use Rattle.db_format.specs.declared.header.Header.{Header}
+use Rattle.fresh_file.specs.Head.{BeginsWith}
 use Rattle.page_codec.specs.Page.{FileKeys, accepts, keys_of}
 use Rattle.pager.specs.File.{page_stored}
 use Rattle.pager.specs.Opening.{file_opened}
@@ -31,13 +32,14 @@ migrated_header profile old count = record {
   sqlite_number = old.sqlite_number;
 }
 
--- No part of the old pages has a defect. Under these keys the file opens with that header. It is so many pages and no byte more, each of
--- them is accepted, no part of the database has a defect, and it has the content of the old pages: the kept fields, every schema row but
--- for the number of its root page, and every entry in its order.
+-- No part of the old pages has a defect. Under these keys the file opens with that header, and begins with its bytes. It is so many pages
+-- and no byte more, each of them is accepted, no part of the database has a defect, and it has the content of the old pages: the kept
+-- fields, every schema row but for the number of its root page, and every entry in its order.
 pub record IsMigratedUnder (keys : FileKeys) (old : Header) (before : Pages) (file : List ℕ) : Type 0 where
   pub sound : is_database before ≡ true
   pub count : ℕ
   pub opens : file_opened keys file ≡ Ok (record { header = migrated_header keys.profile old count; count = count })
+  pub begins : BeginsWith keys (migrated_header keys.profile old count) file
   pub size : length file ≡ count * keys.profile.page_size
   pub accepted : (n : ℕ) → is_number count n ≡ true → accepts keys n (page_stored keys file n) ≡ true
   pub holds : HoldsContent (opened_pages keys file count) (content before)

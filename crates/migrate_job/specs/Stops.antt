@@ -3,6 +3,8 @@ use Rattle.std.specs.Prelude.{◌≡◌, ◌<◌, Bool, true, false, ⊤}
 use Rattle.std.specs.List.{Contains}
 use Rattle.btree_model.specs.Content.{content}
 use Rattle.btree_model.specs.Parts.{first_faults, first_refusals, is_database, parts}
+use Rattle.btree_walk.specs.declared.error.WalkError.{WalkError}
+use Rattle.btree_walk.specs.declared.error.WalkError.TheVariants.{Defect as WalkDefect, Source, OutOfMemory as WalkMemory}
 use Rattle.cipher_profile.specs.Profile.{usable}
 use Rattle.cipher_profile.specs.declared.profile.Profile.{Profile}
 use Rattle.db_format.specs.Pages.{Pages}
@@ -10,6 +12,8 @@ use Rattle.fresh_file.specs.State.{most_pages}
 use Rattle.migrate_job.specs.Bound.{pages_at_most}
 use Rattle.migrate_job.specs.declared.error.MigrateError.{MigrateError}
 use Rattle.migrate_job.specs.declared.error.MigrateError.TheVariants.{PageTag, Defect, TooManyPages, DiskFault, EntropyFault, OutOfMemory}
+use Rattle.pager.specs.declared.fill.PageError.{PageError}
+use Rattle.pager.specs.declared.fill.PageError.TheVariants.{OutOfRange, TagRefused, DiskFault as PageFault, EntropyFault as DrawFault, AllPinned}
 
 -- These pages show this error: a defect or a refused page of the earliest part that has one; or none has one, and the new file may have
 -- more pages than it may. What else stops a migration they do not show.
@@ -39,3 +43,17 @@ IsFoundEarly pages (TooManyPages limit) = ⊥
 IsFoundEarly pages DiskFault = ⊤
 IsFoundEarly pages EntropyFault = ⊥
 IsFoundEarly pages OutOfMemory = ⊤
+
+-- a page of the file may be refused so by a call that only reads
+abbrev pub IsReadRefusal : PageError → Type 0
+IsReadRefusal OutOfRange = ⊥
+IsReadRefusal (TagRefused n) = ⊤
+IsReadRefusal PageFault = ⊤
+IsReadRefusal DrawFault = ⊥
+IsReadRefusal AllPinned = ⊤
+
+-- a walk may stop so, which only reads
+abbrev pub IsWalkStop : WalkError PageError → Type 0
+IsWalkStop (WalkDefect d) = ⊤
+IsWalkStop (Source refusal) = IsReadRefusal refusal
+IsWalkStop WalkMemory = ⊤

@@ -1,10 +1,11 @@
 // One entry of the old file is pushed into the new one.
-ghost use Rattle.std.specs.Prelude.{◌≡◌, ◌≤◌, ◌<◌, ◌+◌, ℕ, true, false, List, [], ◌∷◌, ◌++◌, length, Ok, Err, IfOk, IfErr, OnOk, OnErr, IsTrue, map};
+ghost use Rattle.std.specs.Prelude.{◌≡◌, ◌≤◌, ◌<◌, ◌+◌, ℕ, true, false, List, [], ◌∷◌, ◌++◌, length, Some, Ok, Err, IfOk, IfErr, OnOk, OnErr, IsTrue, map};
 ghost use Rattle.btree_model.specs.Content.{Entry, entry_of};
 ghost use Rattle.btree_model.specs.Finding.{Row, entries};
 ghost use Rattle.btree_page.specs.Payload.{max_payload};
 ghost use Rattle.btree_walk.specs.Cursor.{IsAdvanced, IsAt, IsReady, IsSameTree, row_of, row_shown, walked, walked_family};
 ghost use Rattle.btree_walk.specs.Turn.{work};
+ghost use Rattle.bulk_load.specs.Depth.{IsShallow};
 ghost use Rattle.bulk_load.specs.Few.{TookFew, load_pages};
 ghost use Rattle.bulk_load.specs.Loader.{IsLoader, Loaded, family_of_loader, is_for, is_late};
 ghost use Rattle.bulk_load.specs.Own.{Covers, only};
@@ -22,7 +23,7 @@ ghost use Rattle.pager.specs.File.{main_of};
 ghost use Rattle.pager.specs.Held.{pins_of};
 ghost use Rattle.pager.specs.Pages.{opened_pages};
 ghost use Rattle.migrate_job.specs.Copying.{FollowsBeside, FollowsTarget, IsOfWalk, KeepsBeside, KeepsTarget, asked_by, beside_main, load_error, page_error, pushed_then, walk_error};
-ghost use Rattle.migrate_job.specs.Stops.{is_early};
+ghost use Rattle.migrate_job.specs.Stops.{IsReadRefusal, IsWalkStop, is_early};
 
 use crate::error::MigrateError;
 use btree_walk::{Cursor, WalkError};
@@ -77,6 +78,8 @@ pub fn copy_next<'d, D: Disk, E: Entropy>(
     // asked for
     ensures took { (from : ℕ) (list : List Entry) → TookFew (family_of_loader loader.old) (usable fresh.old.codec.profile) from list (fresh.old.taken + 1) loader.old
         → IfOk result (λ more. TookFew (family_of_loader loader.old) (usable fresh.old.codec.profile) from (pushed_then list (row_of cursor.new) more) (fresh.new.taken + 1) loader.new) }
+    ensures shallow { (from : ℕ) → IsShallow (usable fresh.old.codec.profile) from (fresh.old.taken + 1) loader.old
+        → OnOk result (IsShallow (usable fresh.old.codec.profile) from (fresh.new.taken + 1) loader.new) }
     ensures few { IfErr result (λ error. IsTrue D.tells → (taken : Test) (given more : List Row)
         → IsAt (opened_pages pager.old.codec (main_of (D.reads pager.old.disk.now)) pager.old.count) taken given cursor.old (marked seen.old)
         → entries (walked (opened_pages pager.old.codec (main_of (D.reads pager.old.disk.now)) pager.old.count) taken cursor.old) ≡ given ++ more
@@ -135,6 +138,8 @@ fn push_entry<T: Side>(
     ensures limit { (limit : ℕ) → result ≡ Err (MigrateError.TooManyPages limit) → (limit ≡ fresh.old.limit) × (fresh.old.limit ≤ fresh.new.taken + 1) }
     ensures took { (from : ℕ) (list : List Entry) → TookFew (family_of_loader loader.old) (usable fresh.old.codec.profile) from list (fresh.old.taken + 1) loader.old
         → OnOk result (TookFew (family_of_loader loader.old) (usable fresh.old.codec.profile) from (list ++ record { rowid = rowid; payload = payload.now } ∷ []) (fresh.new.taken + 1) loader.new) }
+    ensures shallow { (from : ℕ) → IsShallow (usable fresh.old.codec.profile) from (fresh.old.taken + 1) loader.old
+        → OnOk result (IsShallow (usable fresh.old.codec.profile) from (fresh.new.taken + 1) loader.new) }
     ensures few { (from : ℕ) (list : List Entry) → TookFew (family_of_loader loader.old) (usable fresh.old.codec.profile) from list (fresh.old.taken + 1) loader.old
         → OnErr result (fresh.new.taken + 1 + 1 ≤ from + load_pages (family_of_loader loader.old) (usable fresh.old.codec.profile) (list ++ record { rowid = rowid; payload = payload.now } ∷ [])) }
     ensures disk_fault { result ≡ Err MigrateError.DiskFault → Rose (T.disk_faults side.old) (T.disk_faults side.new) }
@@ -158,19 +163,22 @@ fn push_entry<T: Side>(
 
 /// How a page that is not given stops the command.
 pub(crate) fn page_error(error: PageError) -> MigrateError
+    requires { IsReadRefusal error }
     ensures { result ≡ page_error error }
 {
     match error {
         PageError::TagRefused { page } => MigrateError::PageTag { page },
         PageError::DiskFault => MigrateError::DiskFault,
-        // A walk asks for pages of the file alone, and pins fewer than there are frames.
-        PageError::OutOfRange | PageError::EntropyFault | PageError::AllPinned =>
-            MigrateError::OutOfMemory,
+        // A walk pins fewer pages than there are frames, but no clause of a source of pages says that a frame is left.
+        PageError::AllPinned => MigrateError::OutOfMemory,
+        // A walk asks for pages of the file alone.
+        PageError::OutOfRange | PageError::EntropyFault => unreachable!(),
     }
 }
 
 /// How a walk that failed stops the command.
 pub(crate) fn walk_error(error: WalkError<PageError>) -> MigrateError
+    requires { IsWalkStop error }
     ensures { result ≡ walk_error error }
 {
     match error {
@@ -182,13 +190,15 @@ pub(crate) fn walk_error(error: WalkError<PageError>) -> MigrateError
 
 /// How a load that failed stops the command.
 pub(crate) fn load_error(error: LoadError) -> MigrateError
-    ensures { result ≡ load_error error }
+    requires in_order { error ≡ LoadError.RowidOrder → ⊥ }
+    requires shallow { error ≡ LoadError.TooDeep → ⊥ }
+    ensures { load_error error ≡ Some result }
 {
     match error {
         LoadError::Out(OutError::TooManyPages { limit }) => MigrateError::TooManyPages { limit },
         LoadError::Out(OutError::DiskFault) => MigrateError::DiskFault,
         LoadError::Out(OutError::EntropyFault) => MigrateError::EntropyFault,
-        LoadError::RowidOrder | LoadError::OutOfMemory | LoadError::TooDeep =>
-            MigrateError::OutOfMemory,
+        LoadError::OutOfMemory => MigrateError::OutOfMemory,
+        LoadError::RowidOrder | LoadError::TooDeep => unreachable!(),
     }
 }

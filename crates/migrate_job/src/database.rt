@@ -31,6 +31,7 @@ use crate::copying::load_error;
 use crate::error::MigrateError;
 use crate::rows::{RowsError, load_rows};
 use crate::tree::copy_tree;
+use bulk_load::LoadError;
 use disk_side::Side;
 use edge_model::{Disk, Entropy};
 use fresh_file::FreshState;
@@ -191,10 +192,15 @@ fn load_schema<T: Side>(
 
 // How rows that are not loaded stop the command.
 fn rows_error(error: RowsError, limit: u32) -> MigrateError
-    ensures { result ≡ rows_error limit error }
+    requires { error ≡ RowsError.Load LoadError.TooDeep → ⊥ }
+    ensures { rows_error limit error ≡ Some result }
 {
     match error {
         RowsError::TooLong => MigrateError::TooManyPages { limit },
-        RowsError::Load(why) => load_error(why),
+        // The rows of a census are in order.
+        RowsError::Load(LoadError::RowidOrder | LoadError::OutOfMemory) =>
+            MigrateError::OutOfMemory,
+        RowsError::Load(LoadError::Out(why)) => load_error(LoadError::Out(why)),
+        RowsError::Load(LoadError::TooDeep) => unreachable!(),
     }
 }

@@ -5,6 +5,7 @@ ghost use Rattle.btree_model.specs.Finding.{Row, entries, is_sound};
 ghost use Rattle.btree_model.specs.Tree.{root_family, tree_walk};
 ghost use Rattle.btree_page.specs.declared.kind.Family.{Family};
 ghost use Rattle.btree_walk.specs.Cursor.{IsAt, IsReady, walked, walked_family};
+ghost use Rattle.bulk_load.specs.Depth.{IsShallow};
 ghost use Rattle.bulk_load.specs.Few.{TookFew, load_pages};
 ghost use Rattle.bulk_load.specs.Loader.{IsLoader, Loaded, family_of_loader};
 ghost use Rattle.bulk_load.specs.Found.{HasTree};
@@ -144,6 +145,7 @@ fn new_loader(alloc: Global, usable: usize, family: Family) -> Result<Loader, Lo
     ensures family { IfOk result (λ loader. family_of_loader loader ≡ family) }
     ensures at_one { IfOk result (λ loader. loader.at_one ≡ false) }
     ensures last { IfOk result (λ loader. loader.last ≡ None) }
+    ensures shallow { (from : ℕ) → IfOk result (IsShallow usable from from) }
     ensures none { (from : ℕ) → IfOk result (TookFew family usable from [] from) }
     ensures empty { (pages : Pages) → pages.usable ≡ usable → IfOk result (λ loader. Loaded pages loader []) }
 {
@@ -183,6 +185,8 @@ fn copy_entries<'d, D: Disk, E: Entropy>(
         → IsAt (opened_pages pager.old.codec (main_of (D.reads pager.old.disk.now)) pager.old.count) taken given cursor.old (marked seen.old)
         → family_of_loader loader.old ≡ walked_family (opened_pages pager.old.codec (main_of (D.reads pager.old.disk.now)) pager.old.count) cursor.old
         → IsOfWalk (walked (opened_pages pager.old.codec (main_of (D.reads pager.old.disk.now)) pager.old.count) taken cursor.old) error) }
+    ensures shallow { (from : ℕ) → IsShallow (usable state.old.codec.profile) from (state.old.taken + 1) loader.old
+        → OnOk result (IsShallow (usable state.old.codec.profile) from (state.new.taken + 1) loader.new) }
     ensures took { IsTrue D.tells → (taken : Test) (given more : List Row)
         → IsAt (opened_pages pager.old.codec (main_of (D.reads pager.old.disk.now)) pager.old.count) taken given cursor.old (marked seen.old)
         → entries (walked (opened_pages pager.old.codec (main_of (D.reads pager.old.disk.now)) pager.old.count) taken cursor.old) ≡ given ++ more
@@ -221,6 +225,7 @@ fn finish_tree<T: Side>(
 ) -> Result<u32, MigrateError>
     requires loader { IsLoader loader (usable state.old.codec.profile) }
     requires at_one { loader.at_one ≡ false }
+    requires shallow { IsShallow (usable state.old.codec.profile) 0 (state.old.taken + 1) loader }
     ensures tree { (start : ℕ) → IsWellAs state.old start T.tells T.draws_tell (T.fresh side.old) (T.drawn side.old)
         → (own : Test) → Covers false own (pages_of state.old (T.fresh side.old)) (pages_of state.new (T.fresh side.new))
         → (pushed : List Entry) → Loaded (only own (pages_of state.old (T.fresh side.old))) loader pushed

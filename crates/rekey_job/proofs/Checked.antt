@@ -68,13 +68,13 @@ by_first test from n later false is none zero within = ap test (omega arith) ∙
 by_first test from n later false is none (suc i) within = ap test (omega arith) ∙ later i (omega (arith, within)) (omega (arith, none))
 
 -- none of a range meets a test
-none_counted : (test : Test) (from n : ℕ) → count_by test (range_with_len from n) ≡ 0 → (i : ℕ) → i < n → test (from + i) ≡ false
+pub none_counted : (test : Test) (from n : ℕ) → count_by test (range_with_len from n) ≡ 0 → (i : ℕ) → i < n → test (from + i) ≡ false
 none_counted test from zero none i within = absurd (omega (arith, within))
 none_counted test from (suc n) none i within =
     by_first test from n (λ k lower rest. none_counted test (from + 1) n rest k lower) (test from) refl
     (sym (sum_by-cons (λ m. if test m then 1 else 0) from (range_with_len (from + 1) n)) ∙ none) i within
 
-not_not : (a : Bool) → not a ≡ false → a ≡ true
+pub not_not : (a : Bool) → not a ≡ false → a ≡ true
 not_not true h = refl
 not_not false h = cc
 

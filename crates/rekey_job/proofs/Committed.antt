@@ -1,33 +1,30 @@
 -- What a transaction left that began with a clean file, and what a run of reads before it adds.
 use Rattle.std.proofs.Common.{◌≡◌, inl, inr, ℕ, ◌≤◌, Bool, true, false, IsTrue, List, length, drop, Result, Ok, Err, refl, sym, subst}
-use Rattle.std.specs.Prelude.{IfErr, OnOk}
+use Rattle.std.specs.Prelude.{IfErr}
 use Rattle.edge_model.specs.Files.{Files}
 use Rattle.edge_model.specs.Images.{Each, LeavesOnly, SameImages}
 use Rattle.edge_model.specs.Moments.{and_then, goes_less, started, weaker}
 use Rattle.edge_model.specs.OnlyRead.{OnlyRead}
-use Rattle.btree_model.specs.Plain.{is_leaf, with_zeros}
+use Rattle.btree_model.specs.Plain.{with_zeros}
 use Rattle.db_format.specs.Pages.{Pages}
 use Rattle.page_codec.specs.Page.{FileKeys, salt_of}
 use Rattle.pager.specs.Base.{base_of}
 use Rattle.pager.specs.Changed.{same_layout}
 use Rattle.pager.specs.File.{main_of as file_main}
-use Rattle.pager.specs.Pages.{opened_pages}
+use Rattle.pager.specs.Pages.{is_number, opened_pages}
 use Rattle.pager.specs.UnderWay.{HasNewPages}
+use Rattle.pager.proofs.UnderWayLemmas.{same_main}
 use Rattle.rollback_journal.specs.Playing.{main_of}
 use Rattle.transaction.specs.Commit.{IsCommitted, LeavesChanged}
 use Rattle.transaction.specs.Database.{Base, HoldsEither, HoldsOld, stored_pages}
 use Rattle.transaction.specs.Facts.{IsBegun}
 use Rattle.transaction.proofs.Kept.{begun_pages}
-use Rattle.rekey_job.specs.Rekeyed.{AreOwnDraws, IsRekeyed}
+use Rattle.rekey_job.specs.Draws.{FileDraws}
+use Rattle.rekey_job.specs.Rekeyed.{IsRekeyed}
 use Rattle.rekey_job.specs.Stops.{AreClean, IsLate, IsShown, is_unwritten}
 use Rattle.rekey_job.specs.declared.error.RekeyError.{RekeyError}
 use Rattle.rekey_job.specs.declared.error.RekeyError.TheVariants.{LayoutDiffers, PageTag, Defect, DiskFault, EntropyFault, OutOfMemory}
-use Rattle.rekey_job.proofs.Checked.{first_used}
-use Rattle.rekey_job.proofs.Renewed.{any_base, committed_counts, is_rekeyed, leaves_rekeyed, main_same, own_draws, told_base}
-
-pub ok_both : {T E A B C : Type 0} (r : Result T E) → (A → B → C) → OnOk r A → OnOk r B → OnOk r C
-ok_both (Ok x) f a b = f a b
-ok_both (Err e) f a b = tt
+use Rattle.rekey_job.proofs.Renewed.{any_base, committed_counts, is_rekeyed, leaves_rekeyed, own_draws, told_base}
 
 -- ---- the transaction
 
@@ -49,11 +46,8 @@ module _ (tells : Bool) (keys write : FileKeys) (count : ℕ) (now : Files) (ima
   same_base : any ≡ base
   same_base = told_base tells keys old count told
 
-  first : is_leaf (opened_pages keys old count) 1 ≡ false
-  first = first_used (opened_pages keys old count) clean.sound
-
   was : base.counts (length old) ≡ true
-  was = subst (λ (l : List ℕ). base.counts (length l) ≡ true) (sym (main_same now)) (begun_pages base images now begun here).0.counted
+  was = subst (λ (l : List ℕ). base.counts (length l) ≡ true) (sym (same_main now)) (begun_pages base images now begun here).0.counted
 
   has_told : (main : List ℕ) → HasAny any main → HasAny base main
   has_told main has = subst (λ (b : Base). HasAny b main) same_base has
@@ -62,33 +56,33 @@ module _ (tells : Bool) (keys write : FileKeys) (count : ℕ) (now : Files) (ima
       → IsRekeyed keys write count old (file_main files)
   now_rekeyed files left stands has new =
       let committed : IsCommitted base (main_of files) files = subst (λ (b : Base). IsCommitted b (main_of files) files) same_base (new files stands) in
-      subst (λ (l : List ℕ). IsRekeyed keys write count old l) (sym (main_same files))
-      (is_rekeyed keys write count old draws_told before after layout some room salt first begun.base_is was (main_of files) (has_told (main_of files) has)
+      subst (λ (l : List ℕ). IsRekeyed keys write count old l) (sym (same_main files))
+      (is_rekeyed keys write count old draws_told before after layout some room salt clean begun.base_is was (main_of files) (has_told (main_of files) has)
       (committed_counts base (main_of files) files committed))
 
-  pub now_drawn : (files : Files) → HasAny any (main_of files) → IsTrue draws_told → AreOwnDraws write count (file_main files) (drop (length before) after)
+  pub now_drawn : (files : Files) → HasAny any (main_of files) → IsTrue draws_told → FileDraws write (file_main files) (is_number count) 0 (drop (length before) after)
   now_drawn files has drawing =
-      subst (λ (l : List ℕ). AreOwnDraws write count l (drop (length before) after)) (sym (main_same files))
-      (own_draws keys write count old draws_told before after layout some room salt first begun.base_is was (main_of files) (has_told (main_of files) has) drawing)
+      subst (λ (l : List ℕ). FileDraws write l (is_number count) 0 (drop (length before) after)) (sym (same_main files))
+      (own_draws keys write count old draws_told before after layout some room salt clean begun.base_is was (main_of files) (has_told (main_of files) has) drawing)
 
   pub at_moments : {D : Type 0} (moment : D → ℕ) (since : D → ℕ → Files → Type 0) (start end : D) → LeavesChanged moment since any (HasAny any) start end
       → LeavesChanged moment since base (IsRekeyed keys write count old) start end
   at_moments moment since start end run =
-      leaves_rekeyed keys write count old draws_told before after layout some room salt first begun.base_is was moment since start end
+      leaves_rekeyed keys write count old draws_told before after layout some room salt clean begun.base_is was moment since start end
       (subst (λ (b : Base). LeavesChanged moment since b (HasAny b) start end) same_base run)
 
 -- the same, of the file that is told
 pub told_new : (tells : Bool) (keys : FileKeys) (count : ℕ) (file : List ℕ) (left : Files → Type 0) (files : Files) → IsTrue tells
     → Each left (IsCommitted (any_base tells keys file count) (main_of files)) → Each left (IsCommitted (base_of keys file count) (file_main files))
 told_new tells keys count file left files told new =
-    subst (λ (l : List ℕ). Each left (IsCommitted (base_of keys file count) l)) (sym (main_same files))
+    subst (λ (l : List ℕ). Each left (IsCommitted (base_of keys file count) l)) (sym (same_main files))
     (subst (λ (b : Base). Each left (IsCommitted b (main_of files))) (told_base tells keys file count told) new)
 
 pub told_one : (tells : Bool) (keys : FileKeys) (count : ℕ) (file : List ℕ) {D : Type 0} (moment : D → ℕ) (since : D → ℕ → Files → Type 0) (start end : D) (files : Files) → IsTrue tells
     → LeavesOnly moment since start end (HoldsEither (any_base tells keys file count) (stored_pages (any_base tells keys file count).size (any_base tells keys file count).pages (main_of files)))
     → LeavesOnly moment since start end (HoldsEither (base_of keys file count) (stored_pages keys.profile.page_size count (file_main files)))
 told_one tells keys count file moment since start end files told one =
-    subst (λ (l : List ℕ). LeavesOnly moment since start end (HoldsEither (base_of keys file count) (stored_pages keys.profile.page_size count l))) (sym (main_same files))
+    subst (λ (l : List ℕ). LeavesOnly moment since start end (HoldsEither (base_of keys file count) (stored_pages keys.profile.page_size count l))) (sym (same_main files))
     (subst (λ (b : Base). LeavesOnly moment since start end (HoldsEither b (stored_pages b.size b.pages (main_of files)))) (told_base tells keys file count told) one)
 
 pub told_old : (tells : Bool) (keys : FileKeys) (count : ℕ) (file : List ℕ) {D : Type 0} (moment : D → ℕ) (since : D → ℕ → Files → Type 0) (start end : D) → IsTrue tells

@@ -1,7 +1,7 @@
 -- A file that a transaction left whose pages are all sealed under other keys is a rekeyed file.
-use Rattle.std.proofs.Common.{◌≡◌, inl, inr, ℕ, suc, zero, ◌+◌, ◌-◌, ◌*◌, ◌<◌, ◌≤◌, ◌&&◌, Bool, true, false, IsTrue, List, [], length, take, drop, replicate, Option, Some, None, if◌then◌else◌, refl, sym, ap, subst, ◌∙◌, arith, rules, length-take, length-drop}
-use Rattle.std.specs.Prelude.{nat_lt, unwrap_or}
-use Rattle.std.proofs.Math.Nat.{le-mul_of_pos_right, mul-le-mul_right, mul_comm, suc-mul}
+use Rattle.std.proofs.Common.{◌≡◌, inl, inr, ℕ, ◌+◌, ◌-◌, ◌*◌, ◌<◌, ◌≤◌, ◌&&◌, Bool, true, false, IsTrue, List, length, take, drop, replicate, Option, Some, None, if◌then◌else◌, refl, sym, ap, subst, ◌∙◌, arith, rules, length-take, length-drop}
+use Rattle.std.specs.Prelude.{nat_lt}
+use Rattle.std.proofs.Math.Nat.{le-mul_of_pos_right, mul-le-mul_right, mul_comm}
 use Rattle.std.proofs.Math.Seq.{drop-append_seam}
 use Rattle.std.proofs.lemmas.List.{ext_get_or, get_or-take, get_or-drop, length-replicate, take-take}
 use Rattle.edge_model.specs.Files.{File, Files, bytes_of}
@@ -12,12 +12,13 @@ use Rattle.page_codec.specs.Page.{FileKeys, accepts, opened, salt_of, sealed}
 use Rattle.pager.specs.Base.{base_of, is_some_of}
 use Rattle.pager.specs.Changed.{same_layout}
 use Rattle.pager.specs.Database.{count_by, count_of, counted}
-use Rattle.pager.specs.File.{page_stored, main_of as file_main}
+use Rattle.pager.specs.File.{page_stored}
 use Rattle.pager.specs.Pages.{is_number, opened_pages}
 use Rattle.pager.specs.UnderWay.{HasNewPages}
 use Rattle.pager.proofs.BatchLemmas.{number_in, number_is}
 use Rattle.pager.proofs.TxnLemmas.{layout_same}
 use Rattle.pager.proofs.UnderWayLemmas.{opened_at}
+use Rattle.pager.proofs.WholeReads.{page_end}
 use Rattle.rollback_journal.specs.Playing.{contents, main_of}
 use Rattle.rollback_journal.specs.Recovery.{RecoversTo}
 use Rattle.transaction.specs.Commit.{IsCommitted, LeavesChanged}
@@ -25,7 +26,10 @@ use Rattle.transaction.specs.Database.{Base, HoldsEither, stored_page, stored_pa
 use Rattle.transaction.specs.Draws.{draw_at}
 use Rattle.transaction.specs.Facts.{IsBase}
 use Rattle.transaction.proofs.Pages.{same_pages}
-use Rattle.rekey_job.specs.Rekeyed.{AreOwnDraws, IsRekeyed}
+use Rattle.rekey_job.specs.Draws.{FileDraws}
+use Rattle.rekey_job.specs.Rekeyed.{IsRekeyed}
+use Rattle.rekey_job.specs.Stops.{AreClean}
+use Rattle.rekey_job.proofs.Checked.{first_used}
 use Rattle.rekey_job.proofs.Salt.{salt_stands}
 
 -- ---- what a transaction starts from
@@ -47,7 +51,7 @@ pub base_sizes : (tells : Bool) (keys : FileKeys) (file : List ℕ) (count : ℕ
 base_sizes true keys file count = (refl, refl)
 base_sizes false keys file count = (refl, refl)
 
-some_is : (n : ℕ) (o : Option ℕ) → is_some_of n o ≡ true → o ≡ Some n
+pub some_is : (n : ℕ) (o : Option ℕ) → is_some_of n o ≡ true → o ≡ Some n
 some_is n None is = cc
 some_is n (Some m) is = ap (λ (k : ℕ). Some k) (search rules)
 
@@ -69,14 +73,6 @@ committed_counts base main image is =
     let same : file ≡ main_of image = alone base.size image.main image.journal file is.1 holds.some.1 in
     subst (λ (l : List ℕ). base.counts (length l) ≡ true) same (holds.only file holds.some.1).counted
 
-both_mains : (o : Option File) → unwrap_or (bytes_of o) [] ≡ contents o
-both_mains None = refl
-both_mains (Some file) = refl
-
--- both words for the bytes of Main
-pub main_same : (files : Files) → file_main files ≡ main_of files
-main_same files = both_mains files.main
-
 -- ---- lengths
 
 one_page : (n size : ℕ) → 1 ≤ n → size ≤ n * size
@@ -84,19 +80,13 @@ one_page n size some =
     let each : size ≤ size * n = le-mul_of_pos_right {m = n} size (omega (arith, some)) in
     omega (arith, each, mul_comm size n)
 
-pages_before : (n size : ℕ) → 1 ≤ n → (n - 1) * size + size ≡ n * size
-pages_before zero size some = absurd (omega (arith, some))
-pages_before (suc m) size some =
-    let last : suc m - 1 ≡ m = omega arith in
-    ap (λ (k : ℕ). k * size + size) last ∙ sym (suc-mul m size)
-
 -- a file whose last page is whole has all pages
 last_whole : (n size : ℕ) (main : List ℕ) → 1 ≤ n → 0 < size → length (stored_page size n main) ≡ size → n * size ≤ length main
 last_whole n size main some sized is = omega (
   arith,
   is,
   sized,
-  pages_before n size some,
+  page_end n size some,
   length-take size (drop ((n - 1) * size) main),
   length-drop ((n - 1) * size) main,
 )
@@ -106,7 +96,7 @@ cut_page : (n count size : ℕ) (main : List ℕ) → 1 ≤ n → n ≤ count �
     → stored_page size n (take (count * size) main) ≡ stored_page size n main
 cut_page n count size main one le long =
     let up : n * size ≤ count * size = mul-le-mul_right size le in
-    let here = pages_before n size one in
+    let here = page_end n size one in
     let cut : length (take (count * size) main) ≡ count * size = omega (arith, long, length-take (count * size) main) in
     let first = length-take size (drop ((n - 1) * size) (take (count * size) main)) in
     let second = length-take size (drop ((n - 1) * size) main) in
@@ -134,7 +124,7 @@ same_salt read write is = search (rules, is)
 -- ---- the new file
 
 module _ (keys write : FileKeys) (count : ℕ) (old : List ℕ) (tells : Bool) (before after : List ℕ) (layout : same_layout keys write ≡ true) (some : 1 ≤ count) (room : 16 ≤ keys.profile.page_size)
-    (salt : keys.salt ≡ salt_of old) (first : is_leaf (opened_pages keys old count) 1 ≡ false)
+    (salt : keys.salt ≡ salt_of old) (clean : AreClean (opened_pages keys old count))
     (base : IsBase (base_of keys old count)) (was : (base_of keys old count).counts (length old) ≡ true) where
   abbrev plain : ℕ → List ℕ
   plain = (with_zeros (opened_pages keys old count)).page
@@ -142,6 +132,9 @@ module _ (keys write : FileKeys) (count : ℕ) (old : List ℕ) (tells : Bool) (
   -- what the transaction left
   abbrev pub HasNew : List ℕ → Type 0
   HasNew main = HasNewPages (record { base = base_of keys old count; drawn = before }) write (λ n. true) plain tells after main
+
+  first : is_leaf (opened_pages keys old count) 1 ≡ false
+  first = first_used (opened_pages keys old count) clean.sound
 
   sizes : (write.profile.page_size ≡ keys.profile.page_size) × (write.profile.reserve ≡ keys.profile.reserve)
   sizes = layout_same keys write layout
@@ -190,6 +183,7 @@ module _ (keys write : FileKeys) (count : ℕ) (old : List ℕ) (tells : Bool) (
     with_pages file same begins is = record {
       salt = begins ∙ main_salt;
       was = some_is count (count_of keys old) was;
+      clean = clean;
       is = ap (λ (l : List ℕ). count_by write l (length file)) (same 1 one) ∙ counts_same (length file) ∙ some_is count _ is;
       accepted = λ n num. ap (λ (l : List ℕ). accepts write n l) (same n num) ∙ has.accepted n num refl;
       first = ap (λ (l : List ℕ). opened write 1 l) (same 1 one) ∙ first_opened;
@@ -218,8 +212,8 @@ module _ (keys write : FileKeys) (count : ℕ) (old : List ℕ) (tells : Bool) (
     pub cut_same : stored_pages keys.profile.page_size count main ≡ stored_pages keys.profile.page_size count cut
     cut_same = sym (cut_pages count keys.profile.page_size main main_long)
 
-    pub own_draws : IsTrue tells → AreOwnDraws write count main (drop (length before) after)
-    own_draws told = subst (λ (l : List ℕ). AreOwnDraws write count main l) (sym drawn) (record {
+    pub own_draws : IsTrue tells → FileDraws write main (is_number count) 0 (drop (length before) after)
+    own_draws told = subst (λ (l : List ℕ). FileDraws write main (is_number count) 0 l) (sym drawn) (record {
       place = has.own.place;
       later = λ n num. has.own.later n (sealed_at n num);
       within = λ n num. has.own.within n (sealed_at n num);

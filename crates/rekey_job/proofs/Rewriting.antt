@@ -22,17 +22,16 @@ use Rattle.pager.specs.declared.fill.PageError.{PageError}
 use Rattle.pager.specs.declared.fill.PageError.TheVariants.{OutOfRange, TagRefused, DiskFault, EntropyFault, AllPinned}
 use Rattle.pager.proofs.BatchLemmas.{and_true, number_in, number_is}
 use Rattle.pager.proofs.TxnLemmas.{layout_same}
-use Rattle.pager.proofs.UnderWayLemmas.{same_at}
+use Rattle.pager.proofs.UnderWayLemmas.{same_at, same_main}
 use Rattle.rollback_journal.specs.Playing.{main_of}
 use Rattle.rollback_journal.specs.Writing.{Writing}
 use Rattle.transaction.specs.Commit.{LeavesChanged}
 use Rattle.transaction.specs.Database.{Base, HoldsOld, stored_page}
 use Rattle.transaction.specs.Marks.{is_marked}
 use Rattle.rekey_job.specs.Rewritten.{is_zeroed, rewritten}
-use Rattle.rekey_job.specs.Stops.{AreClean, is_unwritten, page_error}
+use Rattle.rekey_job.specs.Stops.{AreClean, IsChangeRefusal, is_unwritten, page_error}
 use Rattle.rekey_job.specs.declared.error.RekeyError.{RekeyError}
 use Rattle.rekey_job.proofs.Checked.{first_used}
-use Rattle.rekey_job.proofs.Renewed.{main_same}
 use Rattle.rekey_job.proofs.Stopped.{pages_same}
 
 -- ---- no page is refused
@@ -82,6 +81,14 @@ never_opened tells read write file count n marks held a b c d (TagRefused page) 
 never_opened tells read write file count n marks held a b c d DiskFault num unopened refused still = cc
 never_opened tells read write file count n marks held a b c d EntropyFault num unopened refused still = cc
 never_opened tells read write file count n marks held a b c d AllPinned num unopened refused still = refused
+
+-- a page of the file that a call which changes it refused
+pub change_refusal : (tells : Bool) (seen : Pages) (n a b c d : ℕ) (error : PageError) → is_number seen.count n ≡ true → IsRefusedAs tells seen n a b c d error → IsChangeRefusal error
+change_refusal tells seen n a b c d OutOfRange num refused = let no : true ≡ false = sym num ∙ refused in cc
+change_refusal tells seen n a b c d (TagRefused page) num refused = tt
+change_refusal tells seen n a b c d DiskFault num refused = tt
+change_refusal tells seen n a b c d EntropyFault num refused = tt
+change_refusal tells seen n a b c d AllPinned num refused = refused
 
 -- ---- what is seen
 
@@ -251,7 +258,7 @@ all_accepted read file count leaves clean leafs n num unzeroed =
 pub begun_same : (keys keys_now : FileKeys) (files files_now : Files) (count count_now : ℕ) → keys_now ≡ keys → files_now ≡ files → count_now ≡ count
     → opened_pages keys_now (main_of files_now) count_now ≡ opened_pages keys (file_main files) count
 begun_same keys keys_now files files_now count count_now k f c =
-    ap (λ (file : List ℕ). opened_pages keys_now file count_now) (sym (main_same files_now))
+    ap (λ (file : List ℕ). opened_pages keys_now file count_now) (sym (same_main files_now))
     ∙ pages_same keys keys_now files files_now count count_now k f c
 
 usable_same : (read write : FileKeys) → same_layout read write ≡ true → usable write.profile ≡ usable read.profile
@@ -298,7 +305,3 @@ err_told tells (Err e) error is failed = λ told. err_at (λ (x : RekeyError). i
 pub err_both : {T E : Type 0} {P Q R : E → Type 0} (r : Result T E) → IfErr r P → IfErr r Q → ((e : E) → P e → Q e → R e) → IfErr r R
 err_both (Ok x) p q f = p
 err_both (Err e) p q f = f e p q
-
--- a leaf that becomes zeros is not page 1
-pub zeroed_other : (leaves : List Bool) (n : ℕ) → is_zeroed leaves n ≡ true → n ≡ 1 → ⊥
-zeroed_other leaves n zeroed is = let no : is_zeroed leaves 1 ≡ true = subst (λ (k : ℕ). is_zeroed leaves k ≡ true) is zeroed in cc

@@ -1,15 +1,20 @@
 -- What stops a check of the tags, and what its pages are after it.
-use Rattle.std.proofs.Common.{◌≡◌, inr, ℕ, true, refl, ap, subst, ◌∙◌}
+use Rattle.std.proofs.Common.{◌≡◌, ◌≢◌, inr, ℕ, Bool, true, false, refl, sym, ap, subst, ◌∙◌}
 use Rattle.btree_model.specs.Parts.{is_database}
 use Rattle.btree_model.specs.Plain.{is_leaf}
+use Rattle.btree_walk.specs.Causes.{IsGivenBy}
+use Rattle.btree_walk.specs.declared.error.WalkError.{WalkError}
+use Rattle.btree_walk.specs.declared.error.WalkError.TheVariants.{Defect as WalkDefect, Source, OutOfMemory as WalkMemory}
 use Rattle.db_format.specs.Pages.{Pages, Test}
 use Rattle.edge_model.specs.Files.{Files}
 use Rattle.page_codec.specs.Page.{FileKeys}
+use Rattle.pager.specs.Causes.{MayRefuse}
 use Rattle.pager.specs.File.{main_of}
-use Rattle.pager.specs.Pages.{opened_pages}
+use Rattle.pager.specs.Pages.{is_number, opened_pages}
 use Rattle.pager.specs.declared.fill.PageError.{PageError}
 use Rattle.pager.specs.declared.fill.PageError.TheVariants.{OutOfRange, TagRefused, DiskFault, EntropyFault, AllPinned}
-use Rattle.rekey_job.specs.Stops.{IsFirstRefused, IsShown, page_error}
+use Rattle.rekey_job.specs.Stops.{IsFirstRefused, IsReadRefusal, IsShown, IsWalkStop, page_error}
+use Rattle.rekey_job.specs.declared.error.RekeyError.TheVariants.{LayoutDiffers, EntropyFault as RekeyEntropy}
 
 -- a page that is refused behind a census is the first in use
 pub tags_shown : (pages : Pages) (passed : Test) (error : PageError) → is_database pages ≡ true → passed ≡ is_leaf pages
@@ -19,6 +24,31 @@ tags_shown pages passed (TagRefused n) sound same first = inr (sound, subst (λ 
 tags_shown pages passed DiskFault sound same first = tt
 tags_shown pages passed EntropyFault sound same first = tt
 tags_shown pages passed AllPinned sound same first = tt
+
+-- a page of the file that a call which reads refused
+pub read_refusal : (tells : Bool) (pages : Pages) (n : ℕ) (error : PageError) → is_number pages.count n ≡ true → MayRefuse tells pages n error → IsReadRefusal error
+read_refusal tells pages n OutOfRange num refused = let no : true ≡ false = sym num ∙ refused in cc
+read_refusal tells pages n (TagRefused page) num refused = tt
+read_refusal tells pages n DiskFault num refused = tt
+read_refusal tells pages n EntropyFault num refused = refused
+read_refusal tells pages n AllPinned num refused = tt
+
+-- a walk that stopped, over pages that keep their count while they are read
+pub given_stop : {T : Type 0} (tells : Bool) (read : T → T → Type 0) (plain : T → Pages) (before : T) (error : WalkError PageError)
+    → ((s t : T) → read s t → (plain t).count ≡ (plain s).count) → IsGivenBy read plain (MayRefuse tells) before error → IsWalkStop error
+given_stop tells read plain before (WalkDefect d) same given = tt
+given_stop tells read plain before (Source error) same given =
+    read_refusal tells (plain given.state) given.page error
+    (subst (λ (count : ℕ). is_number count given.page ≡ true) (sym (same before given.state given.since)) given.range) given.refused
+given_stop tells read plain before WalkMemory same given = tt
+
+-- and says nothing of the layout or of the entropy
+pub reading_error : (error : PageError) → IsReadRefusal error → (page_error error ≢ LayoutDiffers) × (page_error error ≢ RekeyEntropy)
+reading_error OutOfRange reads = absurd reads
+reading_error (TagRefused page) reads = (λ is. cc, λ is. cc)
+reading_error DiskFault reads = (λ is. cc, λ is. cc)
+reading_error EntropyFault reads = absurd reads
+reading_error AllPinned reads = (λ is. cc, λ is. cc)
 
 -- the same pages, by other names
 pub pages_same : (keys keys_now : FileKeys) (files files_now : Files) (count count_now : ℕ) → keys_now ≡ keys → files_now ≡ files → count_now ≡ count

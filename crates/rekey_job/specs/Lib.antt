@@ -1,3 +1,4 @@
+pub mod Draws
 pub mod Rekeyed
 pub mod Rewritten
 pub mod Stops

@@ -1,26 +1,21 @@
--- What a rekeyed file is to the file of before: the same salt, count and plain pages, under other keys. A leaf of the freelist, whose
--- bytes hold no content, stands as zeros.
+-- What a rekeyed file is to the file of before, which was clean: the same salt, count and plain pages, under other keys. A leaf of the
+-- freelist, whose bytes hold no content, stands as zeros.
 use Rattle.std.specs.Prelude.{◌≡◌, ℕ, true, List, Some}
 use Rattle.btree_model.specs.Plain.{with_zeros}
-use Rattle.page_codec.specs.Page.{FileKeys, accepts, opened, salt_of, sealed}
+use Rattle.page_codec.specs.Page.{FileKeys, accepts, opened, salt_of}
 use Rattle.pager.specs.Database.{count_of}
 use Rattle.pager.specs.File.{page_stored}
 use Rattle.pager.specs.Pages.{is_number, opened_pages}
-use Rattle.transaction.specs.Draws.{OwnDraws}
+use Rattle.rekey_job.specs.Stops.{AreClean}
 
--- the file `after` under the new keys is the file `before`, of so many pages, under the old ones
+-- the file `after` under the new keys is the clean file `before`, of so many pages, under the old ones
 pub record IsRekeyed (old_keys new_keys : FileKeys) (count : ℕ) (before after : List ℕ) : Type 0 where
   pub salt : salt_of after ≡ salt_of before
   pub was : count_of old_keys before ≡ Some count
+  pub clean : AreClean (opened_pages old_keys before count)
   pub is : count_of new_keys after ≡ Some count
   pub accepted : (n : ℕ) → is_number count n ≡ true → accepts new_keys n (page_stored new_keys after n) ≡ true
   -- page 1, with the header, is no leaf
   pub first : opened new_keys 1 (page_stored new_keys after 1) ≡ opened old_keys 1 (page_stored old_keys before 1)
   pub plain : (n : ℕ) → is_number count n ≡ true
       → opened new_keys n (page_stored new_keys after n) ≡ (with_zeros (opened_pages old_keys before count)).page n
-
--- each of so many pages of the file was sealed with bytes of its own of those that were drawn
-abbrev pub AreOwnDraws : FileKeys → ℕ → List ℕ → List ℕ → Type 0
-AreOwnDraws keys count file drawn =
-    OwnDraws keys.profile.reserve 0 drawn (is_number count)
-    (λ n draw. page_stored keys file n ≡ sealed keys n (opened keys n (page_stored keys file n)) draw)

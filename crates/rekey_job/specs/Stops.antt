@@ -51,6 +51,28 @@ IsLate DiskFault = ⊤
 IsLate EntropyFault = ⊤
 IsLate OutOfMemory = ⊤
 
+-- a page of the file may be refused so by a call that only reads
+abbrev pub IsReadRefusal : PageError → Type 0
+IsReadRefusal OutOfRange = ⊥
+IsReadRefusal (TagRefused n) = ⊤
+IsReadRefusal PageFault = ⊤
+IsReadRefusal DrawFault = ⊥
+IsReadRefusal AllPinned = ⊤
+
+-- and so by one that changes it, which needs no frame without a pin
+abbrev pub IsChangeRefusal : PageError → Type 0
+IsChangeRefusal OutOfRange = ⊥
+IsChangeRefusal (TagRefused n) = ⊤
+IsChangeRefusal PageFault = ⊤
+IsChangeRefusal DrawFault = ⊤
+IsChangeRefusal AllPinned = ⊥
+
+-- a walk may stop so, which only reads
+abbrev pub IsWalkStop : WalkError PageError → Type 0
+IsWalkStop (WalkDefect d) = ⊤
+IsWalkStop (Source refusal) = IsReadRefusal refusal
+IsWalkStop WalkMemory = ⊤
+
 -- how a page that is refused stops a rekey; it asks for pages of the file alone, and pins few
 abbrev pub page_error : PageError → RekeyError
 page_error OutOfRange = OutOfMemory

@@ -11,7 +11,7 @@ ghost use Rattle.pager.specs.Held.{pins_of};
 ghost use Rattle.pager.specs.Pages.{opened_pages};
 ghost use Rattle.pager.specs.Reads.{DiskRead, Untouched};
 ghost use Rattle.schema_map.specs.Census.{IsWhole};
-ghost use Rattle.rekey_job.specs.Stops.{AreClean, IsFirstRefused, IsShown, page_error, walk_error};
+ghost use Rattle.rekey_job.specs.Stops.{AreClean, IsFirstRefused, IsReadRefusal, IsShown, IsWalkStop, page_error, walk_error};
 
 use crate::error::RekeyError;
 use btree_walk::WalkError;
@@ -75,7 +75,7 @@ fn check_others<D: Disk, E: Entropy>(
     }
     match check_tags(pager, &leaves) {
         Ok(()) => Ok(leaves),
-        Err(error) => Err(page_error(error)),
+        Err(error) => Err(read_error(error)),
     }
 }
 
@@ -88,7 +88,7 @@ fn check_tags<D: Disk, E: Entropy>(
         → (opened_pages pager.old.codec (main_of (D.reads pager.old.disk.now)) pager.old.count).accepts n ≡ true) }
     ensures refused { IfErr result (λ e. (n : ℕ) → e ≡ PageError.TagRefused n → IsTrue D.tells
         → IsFirstRefused (opened_pages pager.old.codec (main_of (D.reads pager.old.disk.now)) pager.old.count) (marked leaves.now.leaves) n) }
-    ensures undrawn { result ≢ Err PageError.EntropyFault }
+    ensures read { IfErr result IsReadRefusal }
     ensures fault { result ≡ Err PageError.DiskFault → Rose (D.faults pager.old.disk.now) (D.faults pager.new.disk.now) }
     ensures disk { DiskRead D.tells D.reads D.images D.moment D.since D.faults pager.old.disk pager.new.disk }
     ensures entropy { Untouched pager.old.entropy pager.new.entropy }
@@ -96,7 +96,10 @@ fn check_tags<D: Disk, E: Entropy>(
 {
     let pages = pager.pages();
     for done in 0..pages {
-        check_tag(pager, done + 1, leaves)?;
+        match check_tag(pager, done + 1, leaves) {
+            Ok(()) => {}
+            Err(error) => return Err(error),
+        }
     }
     Ok(())
 }
@@ -122,26 +125,29 @@ fn check_tag<D: Disk, E: Entropy>(
     pager.load(n)
 }
 
-/// How a page that is refused stops a rekey.
-pub fn page_error(error: PageError) -> RekeyError
+// How a page that is refused stops the check.
+fn read_error(error: PageError) -> RekeyError
+    requires { IsReadRefusal error }
     ensures { result ≡ page_error error }
 {
     match error {
         PageError::TagRefused { page } => RekeyError::PageTag { page },
         PageError::DiskFault => RekeyError::DiskFault,
-        PageError::EntropyFault => RekeyError::EntropyFault,
-        // All pages are asked for by their numbers, and few are pinned.
-        PageError::OutOfRange | PageError::AllPinned => RekeyError::OutOfMemory,
+        // Few pages are pinned, but no clause of a source of pages says that a frame is left.
+        PageError::AllPinned => RekeyError::OutOfMemory,
+        // All pages are asked for by their numbers.
+        PageError::OutOfRange | PageError::EntropyFault => unreachable!(),
     }
 }
 
 // How a walk does.
 fn walk_error(error: &WalkError<PageError>) -> RekeyError
+    requires { IsWalkStop error.now }
     ensures { result ≡ walk_error error.now }
 {
     match error {
         WalkError::Defect(defect) => RekeyError::Defect(*defect),
-        WalkError::Source(refusal) => page_error(*refusal),
+        WalkError::Source(refusal) => read_error(*refusal),
         WalkError::OutOfMemory => RekeyError::OutOfMemory,
     }
 }

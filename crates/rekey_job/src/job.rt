@@ -12,11 +12,12 @@ ghost use Rattle.pager.specs.Base.{base_of};
 ghost use Rattle.pager.specs.Changed.{same_layout};
 ghost use Rattle.pager.specs.File.{main_of};
 ghost use Rattle.pager.specs.Held.{pins_of};
-ghost use Rattle.pager.specs.Pages.{opened_pages};
+ghost use Rattle.pager.specs.Pages.{is_number, opened_pages};
 ghost use Rattle.transaction.specs.Commit.{IsCommitted, LeavesChanged};
 ghost use Rattle.transaction.specs.Database.{HoldsEither, HoldsOld, stored_pages};
 ghost use Rattle.transaction.specs.Facts.{IsBegun, SameFresh};
-ghost use Rattle.rekey_job.specs.Rekeyed.{AreOwnDraws, IsRekeyed};
+ghost use Rattle.rekey_job.specs.Draws.{FileDraws};
+ghost use Rattle.rekey_job.specs.Rekeyed.{IsRekeyed};
 ghost use Rattle.rekey_job.specs.Stops.{AreClean, IsLate, IsShown, is_unwritten};
 
 use crate::check::check_pages;
@@ -44,7 +45,7 @@ pub fn rekey<'d, D: Disk, E: Entropy>(
     // what Ok comes to: a clean file was rekeyed, and is all that is left
     ensures rekeyed { OnOk result.2 (IsTrue D.tells → IsRekeyed pager.entry.codec write pager.entry.count (main_of (D.reads pager.entry.disk.now)) (main_of (D.reads result.0.now))) }
     ensures own_draws { OnOk result.2 (IsTrue D.tells → IsTrue E.tells
-        → AreOwnDraws write pager.entry.count (main_of (D.reads result.0.now)) (drop (length (E.drawn pager.entry.entropy.now)) (E.drawn result.1.now))) }
+        → FileDraws write (main_of (D.reads result.0.now)) (is_number pager.entry.count) 0 (drop (length (E.drawn pager.entry.entropy.now)) (E.drawn result.1.now))) }
     ensures new { OnOk result.2 (IsTrue D.tells
         → Each (D.images result.0.now) (IsCommitted (base_of pager.entry.codec (main_of (D.reads pager.entry.disk.now)) pager.entry.count) (main_of (D.reads result.0.now)))) }
     ensures clean { OnOk result.2 (IsTrue D.tells → AreClean (opened_pages pager.entry.codec (main_of (D.reads pager.entry.disk.now)) pager.entry.count)) }
@@ -99,7 +100,7 @@ fn rekey_clean<'d, D: Disk, E: Entropy>(
     ensures entropy { result.1.ghost_name ≡ pager.entry.entropy.ghost_name }
     ensures rekeyed { OnOk result.2 (IsTrue D.tells → IsRekeyed pager.entry.codec write pager.entry.count (main_of (D.reads pager.entry.disk.now)) (main_of (D.reads result.0.now))) }
     ensures own_draws { OnOk result.2 (IsTrue D.tells → IsTrue E.tells
-        → AreOwnDraws write pager.entry.count (main_of (D.reads result.0.now)) (drop (length (E.drawn pager.entry.entropy.now)) (E.drawn result.1.now))) }
+        → FileDraws write (main_of (D.reads result.0.now)) (is_number pager.entry.count) 0 (drop (length (E.drawn pager.entry.entropy.now)) (E.drawn result.1.now))) }
     ensures new { OnOk result.2 (IsTrue D.tells
         → Each (D.images result.0.now) (IsCommitted (base_of pager.entry.codec (main_of (D.reads pager.entry.disk.now)) pager.entry.count) (main_of (D.reads result.0.now)))) }
     ensures any_moment { IsTrue D.tells → LeavesChanged D.moment D.since (base_of pager.entry.codec (main_of (D.reads pager.entry.disk.now)) pager.entry.count)

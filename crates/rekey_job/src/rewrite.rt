@@ -15,13 +15,12 @@ ghost use Rattle.transaction.specs.Commit.{IsCommitted, LeavesChanged};
 ghost use Rattle.transaction.specs.Database.{HoldsEither, HoldsOld, stored_pages};
 ghost use Rattle.transaction.specs.Facts.{IsBase, IsBegun, SameFresh};
 ghost use Rattle.rekey_job.specs.Rewritten.{is_zeroed, rewritten};
-ghost use Rattle.rekey_job.specs.Stops.{AreClean, IsLate, is_unwritten, page_error};
+ghost use Rattle.rekey_job.specs.Stops.{AreClean, IsChangeRefusal, IsLate, is_unwritten, page_error};
 
-use crate::check::page_error;
 use crate::error::RekeyError;
 use edge_model::{Disk, Entropy};
 use page_codec::Codec;
-use pager::{CommitFault, PageError, Pager, Txn};
+use pager::{BeginError, CommitFault, PageError, Pager, Txn};
 use space_map::FreeMap;
 use std::alloc::Global;
 
@@ -68,11 +67,21 @@ pub fn rewrite_pages<'d, D: Disk, E: Entropy>(
 {
     match pager.begin(alloc, write, FRAMES) {
         Ok(txn) => rewrite(txn, leaves),
-        // The layout is that of the file, so memory ran out.
-        Err((pager, _)) => {
+        Err((pager, error)) => {
             let (disk, entropy) = pager.into_parts();
-            (disk, entropy, Err(RekeyError::OutOfMemory))
+            (disk, entropy, Err(begin_error(error)))
         }
+    }
+}
+
+// A transaction with the layout of the file does not begin for want of memory alone.
+fn begin_error(error: BeginError) -> RekeyError
+    requires { error ≢ BeginError.LayoutDiffers }
+    ensures { result ≡ RekeyError.OutOfMemory }
+{
+    match error {
+        BeginError::OutOfMemory => RekeyError::OutOfMemory,
+        BeginError::LayoutDiffers => unreachable!(),
     }
 }
 
@@ -165,6 +174,7 @@ fn give_up<'d, D: Disk, E: Entropy>(
     requires sizes { (txn.write.profile.page_size ≡ start.base.size) × (txn.count ≡ start.base.pages) }
     requires base_is { IsBase start.base }
     requires refused { is_failure error ≡ false → IsReadyFor txn.recorded txn.writer × (IsTrue D.tells → ⊥) }
+    requires asked { IsChangeRefusal error }
     ensures disk { result.0.ghost_name ≡ txn.entry.disk.ghost_name }
     ensures entropy { (result.1.ghost_name ≡ txn.entry.entropy.ghost_name) × (result.1.now ≡ txn.entry.entropy.now) }
     ensures told { IsTrue D.tells → (result.0.now ≡ txn.entry.disk.now) × (result.2 ≡ Err (page_error error)) }
@@ -173,12 +183,26 @@ fn give_up<'d, D: Disk, E: Entropy>(
 {
     if is_failure(error) {
         let (disk, entropy) = txn.into_parts();
-        return (disk, entropy, Err(page_error(error)));
+        return (disk, entropy, Err(change_error(error)));
     }
     let (disk, entropy, undone) = txn.abandon();
     match undone {
-        Ok(()) => (disk, entropy, Err(page_error(error))),
+        Ok(()) => (disk, entropy, Err(change_error(error))),
         Err(_) => (disk, entropy, Err(RekeyError::DiskFault)),
+    }
+}
+
+// How a page that is refused stops the transaction.
+fn change_error(error: PageError) -> RekeyError
+    requires { IsChangeRefusal error }
+    ensures { result ≡ page_error error }
+{
+    match error {
+        PageError::TagRefused { page } => RekeyError::PageTag { page },
+        PageError::DiskFault => RekeyError::DiskFault,
+        PageError::EntropyFault => RekeyError::EntropyFault,
+        // All pages are asked for by their numbers, and none is pinned.
+        PageError::OutOfRange | PageError::AllPinned => unreachable!(),
     }
 }
 
@@ -213,6 +237,7 @@ fn reseal_pages<D: Disk, E: Entropy>(
     ensures under_way { OnOk result (IsTrue D.tells → IsUnderWay start txn.new.write txn.new.recorded txn.new.writer (D.reads txn.new.disk.now)
         (D.images txn.new.disk.now) E.tells (E.drawn txn.new.entropy.now)) }
     ensures refused { IfErr result (λ e. is_failure e ≡ false → IsReadyFor txn.new.recorded txn.new.writer × (IsTrue D.tells → ⊥)) }
+    ensures asked { IfErr result IsChangeRefusal }
     ensures disk_fault { result ≡ Err PageError.DiskFault → Rose (D.faults txn.old.disk.now) (D.faults txn.new.disk.now) }
     ensures entropy_fault { result ≡ Err PageError.EntropyFault → Rose (E.faults txn.old.entropy.now) (E.faults txn.new.entropy.now) }
     ensures any_moment { IsTrue D.tells → LeavesOnly D.moment D.since txn.old.disk.now txn.new.disk.now (HoldsOld start.base) }
@@ -254,6 +279,7 @@ fn reseal<D: Disk, E: Entropy>(
     ensures under_way { OnOk result (IsTrue D.tells → IsUnderWay start txn.new.write txn.new.recorded txn.new.writer (D.reads txn.new.disk.now)
         (D.images txn.new.disk.now) E.tells (E.drawn txn.new.entropy.now)) }
     ensures refused { IfErr result (λ e. is_failure e ≡ false → IsReadyFor txn.new.recorded txn.new.writer × (IsTrue D.tells → ⊥)) }
+    ensures asked { IfErr result IsChangeRefusal }
     ensures disk_fault { result ≡ Err PageError.DiskFault → Rose (D.faults txn.old.disk.now) (D.faults txn.new.disk.now) }
     ensures entropy_fault { result ≡ Err PageError.EntropyFault → Rose (E.faults txn.old.entropy.now) (E.faults txn.new.entropy.now) }
     ensures any_moment { IsTrue D.tells → LeavesOnly D.moment D.since txn.old.disk.now txn.new.disk.now (HoldsOld start.base) }

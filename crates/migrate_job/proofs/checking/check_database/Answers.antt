@@ -3,7 +3,11 @@ use Rattle.migrate_job.specs.Stops.{IsFoundEarly}
 use Rattle.migrate_job.proofs.CheckedLaws.{found_early}
 use Rattle.pager.specs.File.{main_of}
 use Rattle.pager.specs.Pages.{opened_pages}
+use Rattle.migrate_job.proofs.WalkStops.{given_stop}
 use Rattle.migrate_job.proofs.checking.check_database.Goals as goal
+
+pub walk_error-requires : goal.walk_error-requires
+walk_error-requires g c = given_stop g.D.Disk.tells _ _ _ c.in-Err.error (λ s t read. read.4) c.in-Err.ensures.given
 
 pub returns-in-Err-clause-found : goal.returns-in-Err-clause-found
 returns-in-Err-clause-found g c told =

@@ -20,7 +20,11 @@ use Rattle.pager.specs.Pages.{opened_pages}
 use Rattle.migrate_job.specs.Copying.{IsTargetWell, asked_by, beside_main, target_faults, target_limit, target_pages}
 use Rattle.migrate_job.proofs.FamilyLaws.{given_is_for}
 use Rattle.migrate_job.proofs.TargetLaws.{follows_along, follows_read, fresh_read, keeps_along, late_of_walk, moved_one, well_read}
+use Rattle.migrate_job.proofs.WalkStops.{given_stop}
 use Rattle.migrate_job.proofs.copying.copy_next.Goals as goal
+
+pub walk_error-requires : goal.walk_error-requires
+walk_error-requires g c = given_stop g.D.Disk.tells _ _ _ c.in-Err.error (λ s t read. read.4) c.in-Err.ensures.given
 
 pub returns-in-Ok-clause-pushed : goal.returns-in-Ok-clause-pushed
 returns-in-Ok-clause-pushed g c start was own covers pushed loaded =

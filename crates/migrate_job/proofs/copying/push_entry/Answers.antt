@@ -1,9 +1,10 @@
-use Rattle.std.proofs.Common.{◌≡◌, ◌≤◌, ◌+◌, ◌++◌, ◌∷◌, [], false, List, Err, arith, rules, ap, sym}
+use Rattle.std.proofs.Common.{◌≡◌, ◌≤◌, ◌+◌, ◌++◌, ◌∷◌, [], true, false, List, Err, arith, rules, ap, sym}
 use Rattle.edge_model.specs.Causes.{Rose}
 use Rattle.btree_model.specs.Content.{Entry}
 use Rattle.bulk_load.specs.declared.out.OutError.TheVariants.{TooManyPages as NoNumber, DiskFault as NotWritten, EntropyFault as NotDrawn}
+use Rattle.bulk_load.specs.Depth.{IsShallow}
 use Rattle.bulk_load.specs.Few.{TookFew, load_pages}
-use Rattle.bulk_load.specs.Loader.{Loaded, family_of_loader}
+use Rattle.bulk_load.specs.Loader.{Loaded, family_of_loader, is_late}
 use Rattle.bulk_load.proofs.FewLemmas.{few_late}
 use Rattle.cipher_profile.specs.Profile.{usable}
 use Rattle.bulk_load.specs.Own.{Covers, only}
@@ -122,3 +123,21 @@ returns-in-Err-clause-few g c from list few =
     moved_one (λ (state : FreshState). state.taken + 1 + 1 ≤ from + load_pages family (usable c.args.fresh.now.codec.profile) more) to.state.now c.fresh-1.given.0 (search rules)
     (moved_one (λ (state : FreshState). to.state.now.taken + 1 + 1 ≤ from + load_pages family (usable state.codec.profile) more) out.state.now c.args.fresh.now (sym same.0)
     (c.in-Err.ensures.few from list (moved_one (λ (state : FreshState). TookFew family (usable state.codec.profile) from list (state.taken + 1) c.args.loader.now) c.args.fresh.now out.state.now same.0 few)))
+
+pub returns-in-Ok-clause-shallow : goal.returns-in-Ok-clause-shallow
+returns-in-Ok-clause-shallow g c from shallow =
+    let out = c.out-out.result in
+    let to = c.push.new.out in
+    let same = c.out-out.ensures.same in
+    moved_one (λ (state : FreshState). IsShallow (usable c.args.fresh.now.codec.profile) from (state.taken + 1) c.push.new.self) to.state.now c.fresh-1.given.0 (search rules)
+    (moved_one (λ (state : FreshState). IsShallow (usable state.codec.profile) from (to.state.now.taken + 1) c.push.new.self) out.state.now c.args.fresh.now (sym same.0)
+    (c.in-Ok.ensures.shallow from (moved_one (λ (state : FreshState). IsShallow (usable state.codec.profile) from (state.taken + 1) c.args.loader.now) c.args.fresh.now out.state.now same.0 shallow)))
+
+pub load_error-requires-clause-in_order : goal.load_error-requires-clause-in_order
+load_error-requires-clause-in_order g c is =
+    let late : is_late c.args.loader.now c.args.rowid ≡ true = c.in-Err.ensures.order.0 (ap Err is) in
+    let early : is_late c.args.loader.now c.args.rowid ≡ false = c.requires.above in
+    cc
+
+pub load_error-requires-clause-shallow : goal.load_error-requires-clause-shallow
+load_error-requires-clause-shallow g c is = c.in-Err.ensures.flat (ap Err is)

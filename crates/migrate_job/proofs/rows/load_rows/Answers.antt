@@ -1,7 +1,8 @@
-use Rattle.std.proofs.Common.{◌≡◌, ◌≤◌, ◌+◌, ℕ, List, [], true, false, sym, subst, ◌∙◌}
+use Rattle.std.proofs.Common.{◌≡◌, ◌≤◌, ◌+◌, ◌^◌, ℕ, List, [], Err, true, false, arith, ap, sym, subst, ◌∙◌}
 use Rattle.btree_page.specs.declared.kind.Family.TheVariants.{Table}
 use Rattle.btree_page.specs.declared.kind.Family.{Family}
 use Rattle.btree_model.specs.Content.{Entry}
+use Rattle.bulk_load.specs.Depth.{IsShallow}
 use Rattle.bulk_load.specs.Few.{TookFew, load_pages}
 use Rattle.bulk_load.specs.Found.{HasTree}
 use Rattle.bulk_load.specs.Out.{Follows, Keeps}
@@ -9,7 +10,7 @@ use Rattle.bulk_load.specs.Loader.{family_of_loader}
 use Rattle.bulk_load.specs.Own.{Covers, only}
 use Rattle.bulk_load.proofs.PutLemmas.{covers_before, covers_behind, follows_all, keeps_after}
 use Rattle.migrate_job.specs.Copied.{new_entries}
-use Rattle.migrate_job.proofs.LoadLaws.{is_refused}
+use Rattle.migrate_job.proofs.LoadLaws.{cause_since, is_refused}
 use Rattle.migrate_job.proofs.rows.load_rows.Goals as goal
 
 pub returns-in-Ok-finish-clause-tree : goal.returns-in-Ok-finish-clause-tree
@@ -63,3 +64,18 @@ returns-in-Err-finish-clause-asked g c limit is =
     (is_refused c.in-Err-finish.error limit is) in
     subst (λ (f : Family). (pages c.finish.new.out).count + 1 ≤ from + load_pages f size listed) pushed.family
     (subst (λ u. (pages c.finish.new.out).count + 1 ≤ from + load_pages (family_of_loader loader) u listed) same asked)
+
+pub returns-in-Err-finish-clause-cause : goal.returns-in-Err-finish-clause-cause
+returns-in-Err-finish-clause-cause g c =
+    let p = g.P.PageOut in
+    let from : ℕ = (p.pages c.args.out.now).count in
+    let size : ℕ = (p.pages c.args.out.now).usable in
+    let there = p.pages c.push_rows.new.out in
+    let loader = c.push_rows.new.loader in
+    let pushed = c.in_ok-push_rows.ensures in
+    let keeps = pushed.follows.keeps in
+    let none : TookFew Table size from [] from c.in-Ok.loader = subst (λ u. TookFew Table u from [] from c.in-Ok.loader) c.usable.ensures.value (c.in-Ok.ensures.none from) in
+    let shallow : IsShallow there.usable from there.count loader = subst (λ (u : ℕ). IsShallow u from there.count loader) (sym keeps.size) (pushed.pushed from none).shallow in
+    let later : there.count ≤ (p.pages c.finish.new.out).count = c.in-Err-finish.ensures.keeps.count in
+    cause_since p.pages p.limit p.faults c.args.out.now c.push_rows.new.out c.finish.new.out c.in-Err-finish.error keeps.limit_is keeps.disk keeps.entropy c.in-Err-finish.ensures.cause
+    (λ is. let many : 2 ^ 28 + from ≤ there.count = c.in-Err-finish.ensures.deep from shallow (ap Err is) in omega arith)

@@ -5,6 +5,7 @@ use Rattle.btree_page.specs.declared.kind.Family.{Family}
 use Rattle.btree_page.specs.declared.kind.Family.TheVariants.{Table}
 use Rattle.btree_model.specs.Content.{Entry}
 use Rattle.bulk_load.specs.Few.{TookFew, load_pages}
+use Rattle.migrate_job.proofs.LoadLaws.{push_cause}
 use Rattle.migrate_job.proofs.rows.push_payload.Goals as goal
 
 pub returns-in-Ok-clause-pushed : goal.returns-in-Ok-clause-pushed
@@ -26,3 +27,7 @@ returns-in-Err-clause-asked g c from list few =
     subst (λ (more : List Entry). (pages c.push.new.out).count + 1 ≤ from + load_pages Table size more) named
     (subst (λ (family : Family). (pages c.push.new.out).count + 1 ≤ from + load_pages family size found) c.requires.family
     (c.in-Err.ensures.few from list (subst (λ (family : Family). TookFew family size from list (pages c.args.out.now).count c.args.loader.now) (sym c.requires.family) few)))
+
+pub returns-in-Err-clause-cause : goal.returns-in-Err-clause-cause
+returns-in-Err-clause-cause g c =
+    let p = g.P.PageOut in push_cause p.pages p.limit p.faults c.args.out.now c.push.new.out c.in-Err.error c.in-Err.ensures.cause c.in-Err.ensures.flat

@@ -7,6 +7,7 @@ use Rattle.btree_model.specs.Content.{entry_of}
 use Rattle.btree_model.specs.Finding.{Row, entries, is_sound}
 use Rattle.btree_walk.specs.Cursor.{IsAdvanced, IsAt, IsEnd, IsNext, row_of, walked, walked_family}
 use Rattle.btree_walk.proofs.CursorLemmas.{walked_same}
+use Rattle.bulk_load.specs.Depth.{IsShallow}
 use Rattle.bulk_load.specs.Few.{TookFew, load_pages}
 use Rattle.bulk_load.specs.Loader.{IsLoader, Loaded, family_of_loader}
 use Rattle.std.proofs.lemmas.List.{append_assoc}
@@ -42,6 +43,7 @@ entries-init g c =
       follows = follows_same (target_pages (λ out. bytes_of (d.reads out.disk).fresh)) target_limit (target_faults (λ out. d.faults out.disk) (λ out. e.faults out.entropy))
           (IsTargetWell d.tells e.tells (λ out. bytes_of (d.reads out.disk).fresh) (λ out. e.drawn out.entropy)) (beside_main c.args.state.now c.args.pager.now.disk.now c.args.pager.now.entropy.now);
       on = λ told taken given at. record { given = given; at = at; loaded = λ start was own covers loaded. loaded };
+      shallow = λ from shallow. shallow;
       few = λ told taken given more at order from few. record { given = given; more = more; at = at; order = order; took = few };
     }
 
@@ -92,6 +94,9 @@ entries-preserved g c =
                 (n.pushed start (i.follows.told start was) own (covers_behind false own old mid new i.follows.keeps.count covers) (map entry_of so.given)
                 (so.loaded start was own (covers_before false own old mid new n.follows.keeps.count covers) loaded)));
           };
+      shallow = λ from shallow.
+          subst (λ codec. IsShallow (usable codec.profile) from (to.fresh.taken + 1) to.loader) i.codec
+          (n.shallow from (subst (λ codec. IsShallow (usable codec.profile) from (c.entries.state.taken + 1) c.entries.loader) (sym i.codec) (i.shallow from shallow)));
       few = λ told taken given more at order from few.
           let before : Pages = opened_pages first.codec (main_of (d.reads first.disk.now)) first.count in
           let now : Pages = opened_pages pager.codec (main_of (d.reads pager.disk.now)) pager.count in
@@ -277,3 +282,10 @@ returns-in-Err-clause-few g c told taken given more at order from few =
     (ap (λ p. entries (walked p taken c.entries.cursor)) same ∙ so.order) from
     (moved (λ f u. TookFew f u from (map entry_of so.given) (c.entries.state.taken + 1) c.entries.loader)
     family (family_of_loader c.entries.loader) size (usable c.entries.state.codec.profile) i.family same_size so.took))))
+
+pub returns-in-Ok-false-clause-shallow : goal.returns-in-Ok-false-clause-shallow
+returns-in-Ok-false-clause-shallow g c from shallow =
+    let i = c.entries.invariant in
+    let to = c.copy_next.new in
+    subst (λ codec. IsShallow (usable codec.profile) from (to.fresh.taken + 1) to.loader) i.codec
+    (c.in-Ok-false.ensures.shallow from (subst (λ codec. IsShallow (usable codec.profile) from (c.entries.state.taken + 1) c.entries.loader) (sym i.codec) (i.shallow from shallow)))

@@ -16,6 +16,7 @@ use Rattle.pager.specs.File.{main_of}
 use Rattle.pager.specs.Held.{pins_of}
 use Rattle.pager.specs.Pages.{opened_pages}
 use Rattle.migrate_job.specs.Copying.{FollowsBeside, beside_main}
+use Rattle.bulk_load.specs.Depth.{IsShallow}
 use Rattle.bulk_load.specs.Few.{TookFew}
 use Rattle.migrate_job.proofs.CopyLaws.{IsSoFar}
 use Rattle.migrate_job.proofs.FewLaws.{IsFewSoFar}
@@ -45,6 +46,7 @@ invariant-entries g l =
           → (own : Test) → Covers false own (pages_of l.fn.state (bytes_of (g.D.Disk.reads l.fn.pager.disk.now).fresh)) (pages_of l.state (bytes_of (g.D.Disk.reads l.pager.disk.now).fresh))
           → Loaded (only own (pages_of l.fn.state (bytes_of (g.D.Disk.reads l.fn.pager.disk.now).fresh))) l.fn.loader (map entry_of given)
           → Loaded (only own (pages_of l.state (bytes_of (g.D.Disk.reads l.pager.disk.now).fresh))) l.loader pushed);
+      shallow : (from : ℕ) → IsShallow (usable l.fn.state.codec.profile) from (l.fn.state.taken + 1) l.fn.loader → IsShallow (usable l.fn.state.codec.profile) from (l.state.taken + 1) l.loader;
       few : IsTrue g.D.Disk.tells → (taken : Test) (given more : List Row)
           → IsAt (opened_pages l.fn.pager.codec (main_of (g.D.Disk.reads l.fn.pager.disk.now)) l.fn.pager.count) taken given l.fn.cursor (marked l.fn.seen)
           → entries (walked (opened_pages l.fn.pager.codec (main_of (g.D.Disk.reads l.fn.pager.disk.now)) l.fn.pager.count) taken l.fn.cursor) ≡ given ++ more

@@ -8,7 +8,9 @@ use Rattle.btree_model.specs.Finding.{entries, is_sound}
 use Rattle.btree_model.specs.Tree.{tree_walk}
 use Rattle.btree_walk.specs.Cursor.{IsAt, walked}
 use Rattle.btree_walk.proofs.CursorLemmas.{at_made, ready_made}
+use Rattle.bulk_load.specs.Depth.{IsShallow}
 use Rattle.bulk_load.specs.Few.{TookFew, load_pages}
+use Rattle.bulk_load.proofs.DepthLemmas.{shallow_since}
 use Rattle.bulk_load.specs.Loader.{Loaded, family_of_loader}
 use Rattle.cipher_profile.specs.Profile.{usable}
 use Rattle.btree_walk.proofs.CauseLemmas.{if_err_map}
@@ -220,3 +222,14 @@ returns-clause-asked g c =
     (sym (copied.family ∙ c.in-Ok-new_loader.ensures.family)) (sym same_size) held) in
     omega arith)
     (c.finish_tree.ensures.asked from list took))
+
+pub finish_tree-requires-clause-shallow : goal.finish_tree-requires-clause-shallow
+finish_tree-requires-clause-shallow g c =
+    let from : ℕ = c.args.state.now.taken + 1 in
+    let size : ℕ = usable c.args.state.now.codec.profile in
+    let copied = c.in-Ok-copy_entries.ensures in
+    let loader = c.copy_entries.new.loader in
+    let state = c.copy_entries.new.state in
+    let none : IsShallow size from from c.in-Ok-new_loader.loader = subst (λ (u : ℕ). IsShallow u from from c.in-Ok-new_loader.loader) c.usable.ensures.value (c.in-Ok-new_loader.ensures.shallow from) in
+    let here : IsShallow size 0 (state.taken + 1) loader = shallow_since size from 0 (state.taken + 1) loader (omega arith) (copied.shallow from none) in
+    subst (λ codec. IsShallow (usable codec.profile) 0 (state.taken + 1) loader) (sym copied.codec) here

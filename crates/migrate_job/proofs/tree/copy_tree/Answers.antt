@@ -25,6 +25,7 @@ use Rattle.migrate_job.specs.Copying.{IsOfWalk, IsTargetWell, asked_by, beside_m
 use Rattle.migrate_job.specs.Stops.{is_early}
 use Rattle.migrate_job.proofs.CopyLaws.{before_same, on_ok_map, refused_of_walk, sound_late}
 use Rattle.migrate_job.proofs.TargetLaws.{follows_read, fresh_read, moved_one, well_read}
+use Rattle.migrate_job.proofs.WalkStops.{read_refusal}
 use Rattle.migrate_job.proofs.tree.copy_tree.Goals as goal
 
 pub returns-in-Ok-clause-tree : goal.returns-in-Ok-clause-tree
@@ -96,6 +97,12 @@ pub returns-in-Ok-clause-beside : goal.returns-in-Ok-clause-beside
 returns-in-Ok-clause-beside g c =
     let read = c.in-Ok.ensures.reads in
     beside_joins g.met.D.Disk.counts_now (read_beside g.met.D.Disk.only_now g.met.D.Disk.counts_now read.0 read.1) c.copy_family.ensures.beside
+
+pub page_error-requires : goal.page_error-requires
+page_error-requires g c =
+    let pager = c.args.pager.now in
+    let before : Pages = opened_pages pager.codec (main_of (g.D.Disk.reads pager.disk.now)) pager.count in
+    read_refusal g.D.Disk.tells before c.args.root c.in-Err.refusal (number_is_page before c.args.root c.requires.low c.requires.high) c.in-Err.ensures.refused
 
 pub returns-in-Err-clause-cause : goal.returns-in-Err-clause-cause
 returns-in-Err-clause-cause g c told =

@@ -1,7 +1,9 @@
-use Rattle.std.proofs.Common.{◌≤◌, ◌+◌, false, List, rules, sym, subst}
+use Rattle.std.proofs.Common.{◌≤◌, ◌+◌, ◌^◌, false, List, Err, arith, rules, ap, sym, subst}
 use Rattle.btree_model.specs.Content.{Entry}
 use Rattle.bulk_load.specs.Loader.{Loaded, family_of_loader}
+use Rattle.bulk_load.proofs.CauseLemmas.{in_order}
 use Rattle.bulk_load.specs.Found.{HasTree}
+use Rattle.bulk_load.specs.Depth.{IsShallow}
 use Rattle.bulk_load.specs.Few.{TookFew, load_pages}
 use Rattle.cipher_profile.specs.Profile.{usable}
 use Rattle.fresh_file.specs.declared.state.FreshState.{FreshState}
@@ -97,5 +99,19 @@ returns-in-Err-clause-asked g c from list few =
     let took = moved_one (λ (state : FreshState). TookFew family (usable state.codec.profile) from list (state.taken + 1) c.args.loader) c.args.state.now out.state.now same.0 few in
     moved_one (λ (state : FreshState). state.taken + 1 + asked_by c.load_error.result ≤ from + load_pages family (usable c.args.state.now.codec.profile) list) to.state.now c.state-1.given.0 (search rules)
     (moved_one (λ (state : FreshState). to.state.now.taken + 1 + asked_by c.load_error.result ≤ from + load_pages family (usable state.codec.profile) list) out.state.now c.args.state.now (sym same.0)
-    (subst (λ error. to.state.now.taken + 1 + asked_by error ≤ from + load_pages family (usable out.state.now.codec.profile) list) (sym c.load_error.ensures)
-    (asks_refusal c.in-Err.error (to.state.now.taken + 1) (from + load_pages family (usable out.state.now.codec.profile) list) (c.in-Err.ensures.few from list took) (c.in-Err.ensures.asked from list took))))
+    (asks_refusal c.in-Err.error c.load_error.result (to.state.now.taken + 1) (from + load_pages family (usable out.state.now.codec.profile) list) c.load_error.ensures
+    (c.in-Err.ensures.few from list took) (c.in-Err.ensures.asked from list took)))
+
+-- so deep a tree has more pages than a file may have
+pub load_error-requires-clause-shallow : goal.load_error-requires-clause-shallow
+load_error-requires-clause-shallow g c is =
+    let state : FreshState = c.out-out.result.state.now in
+    let shallow = moved_one (λ (s : FreshState). IsShallow (usable s.codec.profile) 0 (s.taken + 1) c.args.loader) c.args.state.now state c.out-out.ensures.same.0 c.requires.shallow in
+    let many : 2 ^ 28 + 0 ≤ state.taken + 1 = c.in-Err.ensures.deep 0 shallow (ap Err is) in
+    absurd (omega (arith, state.within, state.limit_small))
+
+pub load_error-requires-clause-in_order : goal.load_error-requires-clause-in_order
+load_error-requires-clause-in_order g c is =
+    let side = g.T.Side in
+    in_order (λ s. pages_of s.state.now (side.fresh s.side.now)) (λ s. s.state.now.limit) (λ s. record { disk = side.disk_faults s.side.now; entropy = side.draw_faults s.side.now })
+    c.out-out.result c.finish.new.out c.in-Err.error c.in-Err.ensures.cause is

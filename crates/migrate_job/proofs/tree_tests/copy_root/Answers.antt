@@ -1,7 +1,7 @@
 use Rattle.std.proofs.Common.{ap, ◌∙◌}
 use Rattle.page_cache.specs.Pages.{Pages}
 use Rattle.pager.specs.Held.{pins_of}
-use Rattle.migrate_job.proofs.HeldLaws.{no_held_pins}
+use Rattle.pager.proofs.UnreadLemmas.{no_held_pins}
 use Rattle.migrate_job.proofs.tree_tests.copy_root.Goals as goal
 
 pub copy_tree-requires-clause-unpinned : goal.copy_tree-requires-clause-unpinned

@@ -1,8 +1,8 @@
-use Rattle.std.proofs.Common.{◌≡◌, ◌≤◌, ◌+◌, Some, rules, ap, sym, ◌∙◌}
+use Rattle.std.proofs.Common.{◌+◌, Some, rules, ap, ◌∙◌}
 use Rattle.page_cache.specs.Pages.{Pages}
 use Rattle.btree_walk.proofs.CursorLemmas.{ready_made}
 use Rattle.pager.specs.Held.{pins_of}
-use Rattle.migrate_job.proofs.HeldLaws.{no_held_pins}
+use Rattle.pager.proofs.UnreadLemmas.{no_held_pins}
 use Rattle.migrate_job.proofs.tree_tests.first_into_table.Goals as goal
 
 pub copy_next-requires-clause-cursor : goal.copy_next-requires-clause-cursor

@@ -1,4 +1,4 @@
-use Rattle.std.proofs.Common.{◌∙◌, sym, ap, subst}
+use Rattle.std.proofs.Common.{◌∙◌, ◌≢◌, sym, ap, subst}
 use Rattle.db_format.specs.Pages.{Test}
 use Rattle.db_format.specs.Seen.{marked}
 use Rattle.pager.specs.File.{main_of}
@@ -6,8 +6,9 @@ use Rattle.pager.specs.Pages.{opened_pages}
 use Rattle.pager.proofs.BatchLemmas.{number_in}
 use Rattle.rekey_job.specs.Stops.{IsShown}
 use Rattle.rekey_job.specs.declared.error.RekeyError.{RekeyError}
+use Rattle.rekey_job.specs.declared.error.RekeyError.TheVariants.{LayoutDiffers, EntropyFault}
 use Rattle.rekey_job.proofs.Checked.{all_met, leaves_are}
-use Rattle.rekey_job.proofs.Stopped.{tags_shown}
+use Rattle.rekey_job.proofs.Stopped.{reading_error, tags_shown}
 use Rattle.rekey_job.proofs.check.check_others.Goals as goal
 
 pub returns-then-unused-eq0-clause-clean : goal.returns-then-unused-eq0-clause-clean
@@ -42,6 +43,9 @@ returns-clause-shown g c told =
     let p = c.args.pager.now in
     let pages = opened_pages p.codec (main_of (g.D.Disk.reads p.disk.now)) p.count in
     let whole = c.requires.whole told in
-    subst (λ (e : RekeyError). IsShown pages e) (sym c.page_error.ensures)
+    subst (λ (e : RekeyError). IsShown pages e) (sym c.read_error.ensures)
     (tags_shown pages (marked c.args.census.leaves.leaves) c.in-Err.error whole.sound (leaves_are pages c.args.census whole)
     (λ n is. c.in-Err.ensures.refused n is told))
+
+pub returns-clause-reading : goal.returns-clause-reading
+returns-clause-reading g c = subst (λ (e : RekeyError). (e ≢ LayoutDiffers) × (e ≢ EntropyFault)) (sym c.read_error.ensures) (reading_error c.in-Err.error c.in-Err.ensures.read)

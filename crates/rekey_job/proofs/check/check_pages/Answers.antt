@@ -7,7 +7,7 @@ use Rattle.pager.specs.Reads.{disk_then_read}
 use Rattle.pager.proofs.UnderWayLemmas.{ok_map}
 use Rattle.schema_map.specs.Census.{IsWhole}
 use Rattle.rekey_job.specs.Stops.{AreClean}
-use Rattle.rekey_job.proofs.Stopped.{pages_same}
+use Rattle.rekey_job.proofs.Stopped.{given_stop, pages_same}
 use Rattle.rekey_job.proofs.check.check_pages.Goals as goal
 
 pub check_others-requires : goal.check_others-requires
@@ -41,3 +41,6 @@ returns-in-Ok-clause-leaves g c =
 
 pub returns-in-Ok-clause-disk : goal.returns-in-Ok-clause-disk
 returns-in-Ok-clause-disk g c = disk_then_read c.in-Ok.ensures.reads.0 c.check_others.ensures.disk
+
+pub walk_error-requires : goal.walk_error-requires
+walk_error-requires g c = given_stop g.D.Disk.tells _ _ _ c.in-Err.error (λ s t read. read.4) c.in-Err.ensures.given

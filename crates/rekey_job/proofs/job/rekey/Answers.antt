@@ -9,13 +9,14 @@ use Rattle.page_codec.specs.Page.{FileKeys, salt_of}
 use Rattle.pager.specs.Base.{base_of}
 use Rattle.pager.specs.Changed.{same_layout}
 use Rattle.pager.specs.File.{main_of}
-use Rattle.pager.specs.Pages.{opened_pages}
+use Rattle.pager.specs.Pages.{is_number, opened_pages}
 use Rattle.pager.specs.Reads.{not_read}
 use Rattle.pager.proofs.UnderWayLemmas.{ok_map}
 use Rattle.transaction.specs.Commit.{IsCommitted, LeavesChanged}
 use Rattle.transaction.specs.Database.{HoldsEither, HoldsOld, stored_pages}
 use Rattle.transaction.specs.Facts.{IsBegun, SameFresh}
-use Rattle.rekey_job.specs.Rekeyed.{AreOwnDraws, IsRekeyed}
+use Rattle.rekey_job.specs.Draws.{FileDraws}
+use Rattle.rekey_job.specs.Rekeyed.{IsRekeyed}
 use Rattle.rekey_job.specs.Stops.{AreClean}
 use Rattle.rekey_job.specs.declared.error.RekeyError.{RekeyError}
 use Rattle.rekey_job.specs.declared.error.RekeyError.TheVariants.{DiskFault}
@@ -37,8 +38,8 @@ returns-in-Ok-clause-own_draws g c =
     let main = main_of (g.D.Disk.reads c.rekey_clean.result.0.now) in
     let after = g.E.Entropy.drawn c.rekey_clean.result.1.now in
     ok_map c.rekey_clean.result.2 c.rekey_clean.ensures.own_draws (λ own told drawing.
-    subst (λ (n : ℕ). AreOwnDraws c.args.write n main (drop (length (g.E.Entropy.drawn c.args.pager.entropy.now)) after)) c.check_pages.ensures.file.1
-    (subst (λ (e : _). AreOwnDraws c.args.write q.count main (drop (length (g.E.Entropy.drawn e)) after)) c.check_pages.ensures.entropy.value (own told drawing)))
+    subst (λ (n : ℕ). FileDraws c.args.write main (is_number n) 0 (drop (length (g.E.Entropy.drawn c.args.pager.entropy.now)) after)) c.check_pages.ensures.file.1
+    (subst (λ (e : _). FileDraws c.args.write main (is_number q.count) 0 (drop (length (g.E.Entropy.drawn e)) after)) c.check_pages.ensures.entropy.value (own told drawing)))
 
 pub returns-in-Ok-clause-new : goal.returns-in-Ok-clause-new
 returns-in-Ok-clause-new g c =

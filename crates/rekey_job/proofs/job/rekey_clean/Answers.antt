@@ -3,7 +3,8 @@ use Rattle.pager.specs.File.{main_of}
 use Rattle.pager.proofs.UnderWayLemmas.{ok_map}
 use Rattle.transaction.specs.Database.{Base}
 use Rattle.transaction.specs.Facts.{IsBegun}
-use Rattle.rekey_job.proofs.Committed.{at_moments, now_drawn, now_rekeyed, ok_both, told_new, told_old, told_one}
+use Rattle.rollback_journal.proofs.WriterRuns.{ok_two}
+use Rattle.rekey_job.proofs.Committed.{at_moments, now_drawn, now_rekeyed, told_new, told_old, told_one}
 use Rattle.rekey_job.proofs.Renewed.{base_sizes, is_base, told_base}
 use Rattle.rekey_job.proofs.job.rekey_clean.Goals as goal
 
@@ -40,7 +41,7 @@ returns-clause-rekeyed g c =
     let p = c.args.pager in
     let r = c.requires in
     let end = c.rewrite_pages.result.0.now in
-    ok_both c.rewrite_pages.result.2 (λ changed new told. now_rekeyed g.D.Disk.tells p.codec c.args.write p.count (g.D.Disk.reads p.disk.now) (g.D.Disk.images p.disk.now)
+    ok_two c.rewrite_pages.result.2 (λ changed new told. now_rekeyed g.D.Disk.tells p.codec c.args.write p.count (g.D.Disk.reads p.disk.now) (g.D.Disk.images p.disk.now)
     g.E.Entropy.tells (g.E.Entropy.drawn p.entropy.now) (g.E.Entropy.drawn c.rewrite_pages.result.1.now) r.layout p.some (omega (arith, p.lendable.least)) told (g.met.D.Disk.reads_now p.disk.now)
     (r.salt told) (r.begun told) (r.clean told) (g.D.Disk.reads end) (g.D.Disk.images end) (g.met.D.Disk.reads_now end) (changed told) (new told))
     c.rewrite_pages.ensures.changed c.rewrite_pages.ensures.new

@@ -114,6 +114,9 @@ overflow_add-done g c = omega arith
 pub returns-in-Err-clause-refused : goal.returns-in-Err-clause-refused
 returns-in-Err-clause-refused g c = c.in-Err.ensures.refused
 
+pub returns-in-Err-clause-asked : goal.returns-in-Err-clause-asked
+returns-in-Err-clause-asked g c = c.in-Err.ensures.asked
+
 pub returns-in-Err-clause-names : goal.returns-in-Err-clause-names
 returns-in-Err-clause-names g c = (c.reseal.ensures.names.0 ∙ c.loop-done.invariant.names.0, c.reseal.ensures.names.1 ∙ c.loop-done.invariant.names.1)
 
