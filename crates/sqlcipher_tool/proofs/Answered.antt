@@ -104,7 +104,7 @@ pub printed_one : (answer : Answer) (status : Status) (tells : Bool) (before aft
     → (IsTrue tells → Puts status answer.text before after) → AnswersOne (answer ∷ []) status tells before after
 printed_one answer status tells before after = printed_among (answer ∷ []) answer status tells before after (0, omega arith, refl)
 
-abbrev keys_ok : List Secret → Result (List Secret) KeyError
+abbrev pub keys_ok : List Secret → Result (List Secret) KeyError
 keys_ok secrets = Ok secrets
 
 abbrev keys_err : KeyError → Result (List Secret) KeyError

@@ -14,6 +14,7 @@ use Rattle.sqlcipher_tool.specs.Recovered.{recovered_answers}
 use Rattle.sqlcipher_tool.specs.declared.change.Change.{Change}
 use Rattle.sqlcipher_tool.specs.declared.change.Change.TheVariants.{Stamp as StampOf, Rekey as RekeyOf, Migrate as MigrateOf}
 use Rattle.pager.specs.File.{main_of}
+use Rattle.sqlcipher_tool.specs.Promises.{takes_keys}
 use Rattle.sqlcipher_tool.specs.Words.{draws, keys_taken, lacks_tags, layouts_differ}
 use Rattle.sqlcipher_tool.specs.declared.status.Refusal.TheVariants.{NoTags, LayoutDiffers}
 use Rattle.sqlcipher_tool.specs.declared.command.Command.{Command}
@@ -21,9 +22,7 @@ use Rattle.sqlcipher_tool.specs.declared.command.Command.TheVariants.{Tags, Head
 use Rattle.sqlcipher_tool.specs.declared.status.Refusal.{Refusal}
 use Rattle.sqlcipher_tool.specs.declared.status.Status.{Status}
 use Rattle.sqlcipher_tool.specs.declared.status.Status.TheVariants.{Done, Refused, OutputFault}
-
-abbrev keys_ok : List Secret → Result (List Secret) KeyError
-keys_ok secrets = Ok secrets
+use Rattle.sqlcipher_tool.proofs.Answered.{keys_ok}
 
 -- a refusal is not Done
 pub refusal_not_done : (refusal : Refusal) (status : Status) → (status ≡ Refused refusal) ⊎ (status ≡ OutputFault) → status ≡ Done → ⊥
@@ -91,6 +90,16 @@ undrawn status draws a b d e f g causes same = record {
   entropy_later = omega (arith, same);
 }
 
+-- a command of one key line takes one
+pub takes_one : (command : Command) → keys_taken command ≡ 1 → takes_keys command ≡ true
+takes_one command is = ap (λ (n : ℕ). not (n == 0)) is
+
+pub takes_some : (command : Command) → keys_taken command ≡ 1 → takes_keys command ≡ false → ⊥
+takes_some command is none = never (sym (takes_one command is) ∙ none)
+  where
+    never : true ≡ false → ⊥
+    never is = cc
+
 -- ---- what the words refuse
 
 -- a command that they don't refuse has the tags that it asks for, and pages of one layout
@@ -123,11 +132,6 @@ pub two_answers : (change : Change) (renewal : Renewal) (files last : Files) →
 two_answers (StampOf field value) renewal files last keyed = cc
 two_answers RekeyOf renewal files last keyed = refl
 two_answers MigrateOf renewal files last keyed = refl
-
-pub two_draws : (change : Change) (old new : Profile) → draws (command_of change old new) ≡ true
-two_draws (StampOf field value) old new = refl
-two_draws RekeyOf old new = refl
-two_draws MigrateOf old new = refl
 
 pub two_renewal : (change : Change) (old new : Profile) (secrets : List Secret) → keys_taken (command_of change old new) ≡ 2 → renewal (command_of change old new) secrets ≡ two_keys old new secrets
 two_renewal (StampOf field value) old new secrets keyed = cc

@@ -6,7 +6,7 @@ use Rattle.disk_side.specs.Published.{IsNew as IsAlone}
 use Rattle.edge_model.specs.Causes.{Rose}
 use Rattle.edge_model.specs.Files.{Files}
 use Rattle.rollback_journal.specs.Recovery.{IsDone, recovered}
-use Rattle.sqlcipher_tool.specs.Answer.{Answer, HasDrawnCauses, IsEarly, IsFault, IsStopStatus, done}
+use Rattle.sqlcipher_tool.specs.Answer.{Answer, HasDrawnCauses, IsAnswer, IsEarly, IsFault, IsStopStatus, done}
 use Rattle.sqlcipher_tool.specs.Change.{IsLateChange, change_answer, change_status, stop_status}
 use Rattle.sqlcipher_tool.specs.Promises.{AnswersOne, PutsSo}
 use Rattle.sqlcipher_tool.specs.Stop.{IsLate, stop_answer}
@@ -17,9 +17,9 @@ use Rattle.sqlcipher_tool.specs.declared.opening.Stop.TheVariants.{Refused as St
 use Rattle.sqlcipher_tool.specs.declared.status.Status.{Status}
 use Rattle.sqlcipher_tool.specs.declared.status.Status.TheVariants.{Done, Usage, Refused, KeyRefused, DiskFault, OutputFault, InputFault, EntropyFault, OutOfMemory}
 use Rattle.sqlcipher_tool.proofs.Answered.{first_due}
-use Rattle.sqlcipher_tool.proofs.Changing.{IsPrinted}
 use Rattle.sqlcipher_tool.proofs.Conclusions.{no_part}
-use Rattle.sqlcipher_tool.proofs.Stamping.{rose_from, stop_not_done}
+use Rattle.sqlcipher_tool.proofs.Stamping.{rose_from}
+use Rattle.sqlcipher_tool.proofs.Changing.{stop_not_done}
 
 -- ---- what is answered
 
@@ -57,13 +57,13 @@ silent_one answers status tells before after some fault same =
 -- the status of a stop, or the output failed
 pub stop_last : (stop : Stop) (last : Status) → ((answer : Answer) → stop_answer stop ≡ Some answer → (last ≡ answer.status) ⊎ (last ≡ OutputFault))
     → (stop ≡ StopDisk → last ≡ DiskFault) → (stop ≡ StopMemory → last ≡ OutOfMemory)
-    → (last ≡ stop_status stop) ⊎ ((last ≡ OutputFault) × IsPrinted (stop_status stop))
+    → (last ≡ stop_status stop) ⊎ ((last ≡ OutputFault) × IsAnswer (stop_status stop))
 stop_last (StopRefused refusal) last answered failed starved = ⊎_elim (λ same. inl same) (λ out. inr (out, tt)) (answered _ refl)
 stop_last StopKey last answered failed starved = ⊎_elim (λ same. inl same) (λ out. inr (out, tt)) (answered _ refl)
 stop_last StopDisk last answered failed starved = inl (failed refl)
 stop_last StopMemory last answered failed starved = inl (starved refl)
 
-pub last_not_done : (stop : Stop) (last : Status) → (last ≡ stop_status stop) ⊎ ((last ≡ OutputFault) × IsPrinted (stop_status stop)) → last ≡ Done → ⊥
+pub last_not_done : (stop : Stop) (last : Status) → (last ≡ stop_status stop) ⊎ ((last ≡ OutputFault) × IsAnswer (stop_status stop)) → last ≡ Done → ⊥
 last_not_done stop last is done = ⊎_elim (λ same. stop_not_done stop (sym same ∙ done)) (λ out. output_not_done (sym out.0 ∙ done)) is
   where
     output_not_done : OutputFault ≡ Done → ⊥

@@ -1,31 +1,25 @@
 -- A change of the file as its disk shows it: old or new at every moment, and at the exit by the status.
-use Rattle.std.proofs.Common.{◌≡◌, ◌⊎◌, ⊎_elim, inl, inr, ◌≤◌, ℕ, List, Some, None, refl, sym, subst}
+use Rattle.std.proofs.Common.{◌≡◌, ◌⊎◌, ⊎_elim, inl, inr, ◌≤◌, ℕ, List, Some, None, Err, refl, sym, subst}
 use Rattle.edge_model.specs.Files.{Files, bytes_of}
 use Rattle.edge_model.specs.Images.{Each, From, LeavesOnly}
-use Rattle.edge_model.specs.Moments.{and_then, at_exit, goes_less, started, weaker}
+use Rattle.edge_model.specs.Moments.{and_then, at_exit, weaker}
 use Rattle.edge_model.specs.OnlyRead.{OnlyRead}
 use Rattle.transaction.specs.Commit.{IsCommitted, LeavesChanged}
 use Rattle.transaction.specs.Database.{Base, HoldsEither, HoldsOld, HoldsOnly, stored_pages}
 use Rattle.transaction.specs.Facts.{SameFresh}
-use Rattle.sqlcipher_tool.specs.Change.{Commits, KeepsOld, KeepsOrCommits}
+use Rattle.rekey_job.proofs.Committed.{while_read}
+use Rattle.sqlcipher_tool.specs.Change.{Commits, KeepsOld, KeepsOrCommits, change_status, stop_status}
 use Rattle.sqlcipher_tool.specs.Crash.{AtExit, StaysOrRenews}
 use Rattle.sqlcipher_tool.specs.Holding.{disk_run}
 use Rattle.sqlcipher_tool.specs.declared.status.Status.{Status}
 use Rattle.sqlcipher_tool.specs.declared.status.Status.TheVariants.{Done, Usage, Refused, KeyRefused, DiskFault, OutputFault, InputFault, EntropyFault, OutOfMemory}
+use Rattle.sqlcipher_tool.specs.Answer.{IsAnswer}
+use Rattle.sqlcipher_tool.specs.declared.opening.ChangeError.{ChangeError}
+use Rattle.sqlcipher_tool.specs.declared.opening.ChangeError.TheVariants.{EntropyFault as EntropyFails, Stopped}
+use Rattle.sqlcipher_tool.specs.declared.opening.Stop.{Stop}
+use Rattle.sqlcipher_tool.specs.declared.opening.Stop.TheVariants.{DiskFault as StopDisk, KeyRefused as StopKey, OutOfMemory as StopMemory, Refused as StopRefused}
 
--- an answer that is printed
-abbrev pub IsPrinted : Status → Type 0
-IsPrinted Done = Unit {0}
-IsPrinted Usage = Unit {0}
-IsPrinted (Refused refusal) = Unit {0}
-IsPrinted KeyRefused = Unit {0}
-IsPrinted DiskFault = ⊥
-IsPrinted OutputFault = ⊥
-IsPrinted InputFault = ⊥
-IsPrinted EntropyFault = ⊥
-IsPrinted OutOfMemory = ⊥
-
-output_exit : (status : Status) (old new images : Files → Type 0) → IsPrinted status → AtExit status old new images → AtExit OutputFault old new images
+output_exit : (status : Status) (old new images : Files → Type 0) → IsAnswer status → AtExit status old new images → AtExit OutputFault old new images
 output_exit Done old new images printed now = inr now
 output_exit Usage old new images printed now = inl now
 output_exit (Refused refusal) old new images printed now = inl now
@@ -35,6 +29,17 @@ output_exit OutputFault old new images printed now = absurd printed
 output_exit InputFault old new images printed now = absurd printed
 output_exit EntropyFault old new images printed now = absurd printed
 output_exit OutOfMemory old new images printed now = absurd printed
+
+-- what stops a command is no success
+pub stop_not_done : (stop : Stop) → stop_status stop ≡ Done → ⊥
+stop_not_done (StopRefused refusal) is = cc
+stop_not_done StopKey is = cc
+stop_not_done StopDisk is = cc
+stop_not_done StopMemory is = cc
+
+pub error_not_done : (error : ChangeError) → change_status (Err error) ≡ Done → ⊥
+error_not_done (Stopped stop) is = stop_not_done stop is
+error_not_done EntropyFails is = cc
 
 output_not_done : OutputFault ≡ Done → ⊥
 output_not_done is = cc
@@ -47,7 +52,7 @@ module _ {D : Type 0} (reads : D → Files) (images : D → Files → Type 0) (m
     (only_now : (disk : D) (c : Files) → since disk (moment disk) c → images disk c) where
   -- the disk was only read
   pub read_only : {old new : D} {P : Files → Type 0} → Each (images old) P → OnlyRead reads images moment since old new → LeavesOnly moment since old new P
-  read_only {old} {new} {P} start read = goes_less counts_now (started only_now old P start) read.time (λ c now. read.same_images.no_more c now)
+  read_only {old} {new} {P} start read = while_read reads images moment since counts_now only_now P old new start read
 
   pub read_fresh : {old new : D} → OnlyRead reads images moment since old new → LeavesOnly moment since old new (From SameFresh (images old))
   read_fresh {old} read = read_only (λ c now. (c, now, refl)) read
@@ -92,7 +97,7 @@ module _ {D : Type 0} (reads : D → Files) (images : D → Files → Type 0) (m
         })) next
 
     -- its last line is printed, or the output fails
-    pub printed : {old new : D} (status last : Status) → (last ≡ status) ⊎ ((last ≡ OutputFault) × IsPrinted status)
+    pub printed : {old new : D} (status last : Status) → (last ≡ status) ⊎ ((last ≡ OutputFault) × IsAnswer status)
         → KeepsOrCommits reads images moment since status is_new P Q old new → KeepsOrCommits reads images moment since last is_new P Q old new
     printed {old} {new} status last is was = ⊎_elim
         (λ (same : last ≡ status). subst (λ (s : Status). KeepsOrCommits reads images moment since s is_new P Q old new) (sym same) was)

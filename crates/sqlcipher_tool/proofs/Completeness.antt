@@ -26,6 +26,7 @@ use Rattle.pager.specs.Opening.{Opened, file_header, file_opened, first_broken, 
 use Rattle.pager.specs.Pages.{opened_pages}
 use Rattle.pager.specs.declared.opening.OpenError.{OpenError}
 use Rattle.pager.specs.declared.opening.OpenError.TheVariants.{Empty, Short, KeyRefused}
+use Rattle.pager.proofs.BatchLemmas.{number_is}
 use Rattle.rollback_journal.specs.declared.recovery.Recovery.{Recovery}
 use Rattle.rollback_journal.specs.declared.recovery.RecoverError.{RecoverError}
 use Rattle.sqlcipher_tool.specs.Answer.{Answer, IsFault, done, first_of, refused}
@@ -53,10 +54,8 @@ use Rattle.sqlcipher_tool.specs.Stamp.{stamp_answer, stamped_answer}
 use Rattle.sqlcipher_tool.specs.Tags.{file_answer, is_refused, pages_answer, refused_pages, tags_answer, tags_causes}
 use Rattle.sqlcipher_tool.specs.Text.{header_report, made_report, migrated_report, probe_report, recovery_line, rekeyed_report, stamped_report, tags_report, verify_report}
 use Rattle.sqlcipher_tool.specs.Words.{IsServed}
-use Rattle.sqlcipher_tool.proofs.Databases.{no_more}
 use Rattle.sqlcipher_tool.proofs.DoneAnswers.{export_done, made_fits, migrate_done, migrate_fits, rekey_done, verify_done}
-use Rattle.sqlcipher_tool.proofs.FileDraws.{number_is}
-use Rattle.sqlcipher_tool.proofs.Numbers.{true_le}
+use Rattle.sqlcipher_tool.proofs.Numbers.{no_more, true_le}
 use Rattle.sqlcipher_tool.proofs.Served.{form_served}
 use Rattle.sqlcipher_tool.proofs.Verified.{none_where}
 
@@ -352,7 +351,7 @@ faulted InputFault a b d e f g h i fault input output entropy disk none = absurd
 faulted EntropyFault a b d e f g h i fault input output entropy disk none = absurd (none.1.1.0 (entropy refl))
 faulted OutOfMemory a b d e f g h i fault input output entropy disk none = inr refl
 
-one_is : (x y : Answer) → Contains (x ∷ []) y → x ≡ y
+pub one_is : (x y : Answer) → Contains (x ∷ []) y → x ≡ y
 one_is x y (zero, within, is) = is
 one_is x y (suc k, within, is) = absurd (omega (arith, within))
 

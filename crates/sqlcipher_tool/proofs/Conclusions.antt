@@ -54,16 +54,6 @@ outcome_text outcome due status before after is text failed starved =
     (λ rest. ⊎_elim (λ (memory : outcome ≡ Err StopMemory). nothing_fed due.text before after status (starved memory))
     (λ (same : outcome_answer outcome ≡ Some due). text due same) rest) is
 
--- the answer of an outcome that no want of memory leads to
-pub told_text : (outcome : Result (List ℕ) Stop) (due : Answer) (status : Status) (before after : List ℕ)
-    → (outcome ≡ Err StopDisk) ⊎ (outcome_answer outcome ≡ Some due)
-    → ((answer : Answer) → outcome_answer outcome ≡ Some answer → Puts status answer.text before after)
-    → (outcome ≡ Err StopDisk → (status ≡ DiskFault) × (after ≡ before))
-    → Puts status due.text before after
-told_text outcome due status before after is text failed =
-    ⊎_elim (λ (disk : outcome ≡ Err StopDisk). nothing_put due.text before after status (failed disk))
-    (λ (same : outcome_answer outcome ≡ Some due). text due same) is
-
 -- what is answered to a recovery that stops
 pub refused_is : (r : Result Recovery RecoverError) (given : Answer) (otherwise : Answer) → Some given ≡ refused_answer r → given ≡ after_recovery r otherwise
 refused_is (Ok did) given otherwise is = cc

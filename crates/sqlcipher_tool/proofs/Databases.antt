@@ -1,5 +1,5 @@
 -- A database as a transaction names it, by its stored pages, and as the tool does, by its keys too.
-use Rattle.std.proofs.Common.{◌≡◌, ◌==◌, ◌≤◌, ◌+◌, ◌-◌, ◌*◌, ◌/◌, ◌%◌, ◌&&◌, not, ℕ, suc, zero, Bool, true, false, List, [], ◌∷◌, length, map, take, drop, Option, Some, None, Ok, refl, sym, ap, subst, ◌∙◌, arith, rules}
+use Rattle.std.proofs.Common.{◌≡◌, ◌==◌, ◌≤◌, ◌+◌, ◌-◌, ◌*◌, ◌/◌, ◌%◌, ◌&&◌, not, ℕ, suc, zero, Bool, true, false, List, [], ◌∷◌, length, map, take, drop, Option, Some, Ok, refl, sym, ap, subst, ◌∙◌, arith, rules}
 use Rattle.std.specs.Prelude.{if◌then◌else◌, nat_lt, replicate, IsTrue}
 use Rattle.std.specs.List.{range_with_len, slice_index_or}
 use Rattle.std.proofs.lemmas.List.{drop-drop, length-replicate}
@@ -19,7 +19,9 @@ use Rattle.pager.specs.UnderWay.{Start}
 use Rattle.rollback_journal.specs.Recovery.{Recovers, RecoversTo}
 use Rattle.transaction.specs.Database.{Base, stored_pages, IsDatabase, HoldsOld, HoldsOnly as HoldsPages}
 use Rattle.transaction.specs.Facts.{IsBase}
+use Rattle.rekey_job.proofs.Renewed.{some_is}
 use Rattle.sqlcipher_tool.specs.Holding.{HoldsOnly, held_by}
+use Rattle.sqlcipher_tool.proofs.Numbers.{no_less, no_more}
 
 -- ---- pages
 
@@ -76,12 +78,6 @@ unbroken : (a b c : Bool) (x y z : CountRefusal) (v : ℕ) → a ≡ false → b
     → unless_broken ((a, x) ∷ (b, y) ∷ (c, z) ∷ []) v ≡ Ok v
 unbroken a b c x y z v no_a no_b no_c = rw (no_a, no_b, no_c) refl
 
-no_less : (a b : ℕ) → nat_lt a b ≡ false → b ≤ a
-no_less a b is = search rules
-
-pub no_more : (a b : ℕ) → b ≤ a → nat_lt a b ≡ false
-no_more a b le = search (rules, le)
-
 is_zero : (a : ℕ) → a ≡ 0 → (a == 0) ≡ true
 is_zero a is = rw is refl
 
@@ -131,10 +127,6 @@ whole_count h len n size is =
     not_short = no_more whole (page_count h whole * h.page_size) (subst (λ (k : ℕ). k * h.page_size ≤ whole) (sym same) (omega arith))
 
 -- ---- what a transaction starts from
-
-pub some_is : (n : ℕ) (o : Option ℕ) → is_some_of n o ≡ true → o ≡ Some n
-some_is n None is = cc
-some_is n (Some m) is = ap (λ (k : ℕ). Some k) (search rules)
 
 pub is_some_is : (n : ℕ) (o : Option ℕ) → o ≡ Some n → is_some_of n o ≡ true
 is_some_is n o is = rw is (itself n)

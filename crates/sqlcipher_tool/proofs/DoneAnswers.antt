@@ -1,5 +1,5 @@
 -- What `verify`, `rekey`, `migrate` and `export` answer of a file in which nothing stands in the way.
-use Rattle.std.proofs.Common.{◌≡◌, ◌≤◌, ℕ, Bool, true, false, List, [], ◌∷◌, Option, Some, None, Result, Ok, Err, if◌then◌else◌, length, sym, ap, subst, refl, ◌∙◌, rules}
+use Rattle.std.proofs.Common.{◌≡◌, ◌≤◌, ℕ, Bool, true, false, List, [], ◌∷◌, Some, None, Result, Ok, Err, if◌then◌else◌, length, sym, ap, subst, refl, ◌∙◌}
 use Rattle.std.specs.Prelude.{nat_lt}
 use Rattle.cipher_profile.specs.declared.keys.Secret.{Secret}
 use Rattle.cipher_profile.specs.declared.profile.Profile.{Profile}
@@ -40,12 +40,10 @@ use Rattle.sqlcipher_tool.specs.Rekey.{rekey_answers, rekey_due}
 use Rattle.sqlcipher_tool.proofs.Migrating.{whole_pages_due}
 use Rattle.sqlcipher_tool.proofs.Rekeying.{report_alone}
 use Rattle.sqlcipher_tool.proofs.Verified.{some_is, tags_next, whole_due}
+use Rattle.sqlcipher_tool.proofs.Numbers.{no_more}
+use Rattle.sqlcipher_tool.proofs.OpenedParts.{past}
 
 -- ---- the count of a file that opens
-
-unless_ok : (o : Option OpenError) (r : Result Opened OpenError) (x : Opened) → unless o r ≡ Ok x → r ≡ Ok x
-unless_ok None r x is = is
-unless_ok (Some error) r x is = cc
 
 long_enough : (empty short : Bool) (e e' : OpenError) (r : Result Opened OpenError) (x : Opened)
     → unless (first_broken ((empty, e) ∷ (short, e') ∷ [])) r ≡ Ok x → short ≡ false
@@ -63,10 +61,10 @@ header_kept len (Err refusal) x is = cc
 
 opened_count : (keys : FileKeys) (file : List ℕ) (x : Opened) → file_opened keys file ≡ Ok x → count_of keys file ≡ Some x.count
 opened_count keys file x is =
-    let inner = unless_ok (first_broken (length_rules keys.profile.page_size file)) _ x is in
-    let last = unless_ok (first_broken (key_rules keys file)) _ x inner in
+    let inner = past (first_broken (length_rules keys.profile.page_size file)) _ x is in
+    let last = past (first_broken (key_rules keys file)) _ x inner.1 in
     ap (λ b. if b then None else counted (length file) (file_header keys file)) (long_enough _ (nat_lt (length file) keys.profile.page_size) _ _ _ x is)
-    ∙ header_kept (length file) (file_header keys file) x last
+    ∙ header_kept (length file) (file_header keys file) x last.1
 
 -- ---- the answer
 
@@ -121,12 +119,9 @@ migrate_done old new secret count file x held is opens =
     ∙ whole_pages_due new count pages (subst (λ (n : ℕ). is_database (opened_pages keys file n) ≡ true) same opens.sound)
     ∙ ap (λ (c : Content). done (migrated_report count) ∷ too_many new c) (subst (λ (n : ℕ). content (with_zeros (opened_pages keys file n)) ≡ held) same opens.is)
 
-not_less : (a b : ℕ) → b ≤ a → nat_lt a b ≡ false
-not_less a b le = search (rules, le)
-
 pub migrate_fits : (new : Profile) (held : Content) → pages_at_most (usable new) (most_pages new) held ≤ most_pages new → too_many new held ≡ []
-migrate_fits new held fits = ap (λ (b : Bool). if b then refused (TooManyPages (most_pages new)) ∷ [] else []) (not_less (most_pages new) _ fits)
+migrate_fits new held fits = ap (λ (b : Bool). if b then refused (TooManyPages (most_pages new)) ∷ [] else []) (no_more (most_pages new) _ fits)
 
 pub made_fits : (profile : Profile) (rows : ℕ) → made_pages (usable profile) rows ≤ most_pages profile → made_answers profile rows ≡ done (made_report rows (total_len rows)) ∷ []
 made_fits profile rows fits =
-    ap (λ (b : Bool). done (made_report rows (total_len rows)) ∷ (if b then refused (TooManyPages (most_pages profile)) ∷ [] else [])) (not_less (most_pages profile) _ fits)
+    ap (λ (b : Bool). done (made_report rows (total_len rows)) ∷ (if b then refused (TooManyPages (most_pages profile)) ∷ [] else [])) (no_more (most_pages profile) _ fits)

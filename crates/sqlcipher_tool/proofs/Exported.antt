@@ -164,6 +164,10 @@ stopped_one told_disk pages error stop status tells before mid after told same c
     stopped_by told_disk pages error status tells before mid after told causes defect checked part
     (λ answer h. is answer (ap stop_answer same ∙ h)) (λ answer h. text answer (ap stop_answer same ∙ h)) (λ h. disk (same ∙ h)) (λ h. memory (same ∙ h))
 
+-- what holds of an error of the walk holds of the walk's
+pub of_walk : (P : WalkError PageError → Type 0) (stopped : ExportError PageError) (error : WalkError PageError) → stopped ≡ Walk error → IfWalk P stopped → P error
+of_walk P stopped error is holds = subst (IfWalk P) is holds
+
 -- the cause of an export that a walk stopped
 pub causes_of : (told_disk : Bool) (pages : Pages) (stopped : ExportError PageError) (error : WalkError PageError) → stopped ≡ Walk error → IsTrue told_disk
     → IfWalk (λ e. IsTrue told_disk → IsEarliest (MayRefuse told_disk) pages (parts pages) e) stopped → IsEarliest (MayRefuse told_disk) pages (parts pages) error

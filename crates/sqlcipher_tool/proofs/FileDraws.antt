@@ -1,18 +1,13 @@
 -- The pages that a transaction changed were sealed with bytes of their own.
-use Rattle.std.proofs.Common.{◌≡◌, ◌≤◌, ◌&&◌, ℕ, Bool, true, List, IsTrue, length, drop, refl, sym, ap, subst, ◌∙◌, rules}
+use Rattle.std.proofs.Common.{◌≡◌, ◌&&◌, ℕ, Bool, true, List, IsTrue, length, drop, sym, ap, subst, ◌∙◌}
 use Rattle.std.proofs.Math.Seq.{drop-append_seam}
+use Rattle.std.specs.Cmp.Derive.{both_true}
 use Rattle.db_format.specs.Pages.{Test}
 use Rattle.page_codec.specs.Page.{FileKeys, sealed}
 use Rattle.pager.specs.Pages.{is_number}
 use Rattle.pager.specs.UnderWay.{HasNewPages, Start}
 use Rattle.transaction.specs.Draws.{draw_at}
-use Rattle.sqlcipher_tool.specs.Draws.{FileDraws}
-
-pub number_is : (count n : ℕ) → 1 ≤ n → n ≤ count → is_number count n ≡ true
-number_is count n one le = search (rules, one, le)
-
-pub both : (a b : Bool) → a ≡ true → b ≡ true → (a && b) ≡ true
-both a b one two = rw (one, two) refl
+use Rattle.rekey_job.specs.Draws.{FileDraws}
 
 pub file_draws : (start : Start) (keys : FileKeys) (touched : ℕ → Bool) (plain : ℕ → List ℕ) (tells : Bool) (drawn main : List ℕ) → HasNewPages start keys touched plain tells drawn main
     → IsTrue tells → (pages : Test) → ((n : ℕ) → pages n ≡ true → (is_number start.base.pages n ≡ true) × (touched n ≡ true))
@@ -30,4 +25,4 @@ file_draws start keys touched plain tells drawn main has told pages changed = su
     since = ap (λ (l : List ℕ). drop (length start.drawn) l) (has.since told) ∙ drop-append_seam start.drawn has.draws
 
     sealed_so : (n : ℕ) → pages n ≡ true → (is_number start.base.pages n && touched n) ≡ true
-    sealed_so n is = both (is_number start.base.pages n) (touched n) (changed n is).0 (changed n is).1
+    sealed_so n is = both_true (changed n is).0 (changed n is).1

@@ -1,6 +1,7 @@
 pub mod PagesAnswer
 pub mod RefusedPages
 pub mod Conclusions
+pub mod LeftAlone
 pub mod Recoveries
 pub mod Answered
 pub mod Batches
@@ -11,6 +12,8 @@ pub mod Verified
 pub mod VerifiedFile
 pub mod SamePages
 pub mod DoneAnswers
+pub mod DueReports
+pub mod DoneRuns
 pub mod StampedFields
 pub mod OpenedParts
 pub mod Databases

@@ -2,15 +2,16 @@
 use Rattle.std.proofs.Common.{List, ◌≡◌, ℕ, ◌≤◌, ◌*◌, ◌/◌, true, [], ◌∷◌, length, Option, Result, refl, sym, ap, subst, ◌∙◌, arith}
 use Rattle.std.proofs.Math.Nat.{mul-div_cancel}
 use Rattle.std.proofs.lemmas.Nat.{le-div}
-use Rattle.std.specs.Prelude.{IsOk, codes, is_ok, nat_le}
+use Rattle.std.specs.Prelude.{IsOk, codes, is_ok}
+use Rattle.std.specs.Cmp.Derive.{both_true}
 use Rattle.cipher_profile.specs.declared.keys.Secret.{Secret}
 use Rattle.cipher_profile.specs.declared.profile.Profile.{Profile}
 use Rattle.cipher_profile.specs.Profile.{IsListed, sqlcipher_4}
 use Rattle.db_format.specs.Count.{largest_database}
 use Rattle.edge_model.specs.Files.{File, nothing}
 use Rattle.make_job.specs.Made.{IsMade, made_header}
-use Rattle.page_codec.specs.Page.{FileKeys, fits, keys_of}
-use Rattle.pager.specs.File.{page_stored, whole_pages}
+use Rattle.page_codec.specs.Page.{FileKeys, keys_of}
+use Rattle.pager.specs.File.{whole_pages}
 use Rattle.pager.specs.Opening.{Opened}
 use Rattle.pager.specs.Pages.{is_number}
 use Rattle.pager.specs.declared.opening.OpenError.{OpenError}
@@ -21,7 +22,6 @@ use Rattle.sqlcipher_tool.specs.Plain.{IsClean}
 use Rattle.sqlcipher_tool.specs.Servable.{CanBeServed, HasTags, IsProbed, IsReading, IsServable, standing}
 use Rattle.sqlcipher_tool.proofs.Completeness.{listed_some}
 use Rattle.sqlcipher_tool.proofs.Databases.{counted_pages}
-use Rattle.sqlcipher_tool.proofs.FileDraws.{both}
 use Rattle.sqlcipher_tool.proofs.MadeFile.{made_clean}
 use Rattle.sqlcipher_tool.proofs.Numbers.{le_true}
 use Rattle.sqlcipher_tool.proofs.OpenedParts.{IsOpen, open_parts}
@@ -55,7 +55,7 @@ module _ (profile : Profile) (secret : Secret) (rows : ℕ) (file : File) (fresh
     no_journal = refl;
     profile = profile;
     listed = listed;
-    fit = both (nat_le profile.page_size (length file.bytes)) (fits keys (page_stored keys file.bytes 1)) (le_true profile.page_size (length file.bytes) is_open.long) is_open.fit;
+    fit = both_true (le_true profile.page_size (length file.bytes) is_open.long) is_open.fit;
   }
 
   pub made_servable : (second : Secret) (command : Command) → IsReading profile command → IsServable command (secret ∷ second ∷ []) (standing file fresh)

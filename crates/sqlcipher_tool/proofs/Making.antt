@@ -28,8 +28,10 @@ use Rattle.sqlcipher_tool.specs.declared.opening.Stop.TheVariants.{DiskFault as 
 use Rattle.sqlcipher_tool.specs.declared.status.Refusal.TheVariants.{FileThere, JournalThere, TooManyPages}
 use Rattle.sqlcipher_tool.specs.declared.status.Status.{Status}
 use Rattle.sqlcipher_tool.specs.declared.status.Status.TheVariants.{Done, DiskFault}
-use Rattle.sqlcipher_tool.proofs.Changing.{commits_done, commits_failed, read_only}
-use Rattle.sqlcipher_tool.proofs.Migrating.{above_due, is_less}
+use Rattle.sqlcipher_tool.proofs.Changing.{commits_done, commits_failed, error_not_done, read_only}
+use Rattle.sqlcipher_tool.proofs.Migrating.{above_due}
+use Rattle.sqlcipher_tool.proofs.Numbers.{lt_true}
+use Rattle.sqlcipher_tool.proofs.Verified.{some_is}
 
 -- ---- what is answered
 
@@ -82,9 +84,6 @@ not_journal limit is = cc
 not_disk : (limit : ℕ) → PagesEnd limit ≡ DiskFails → ⊥
 not_disk limit is = cc
 
-answer_is : (a b : Answer) → Some a ≡ Some b → a ≡ b
-answer_is a b is = cc
-
 -- what was made is one of the answers
 pub made_due : {T : Type 0} (result : Result T MakeError) (made : T) (files : Files) (profile : Profile) (rows given bytes : ℕ) → result ≡ Ok made
     → ((e : MakeError) → in_the_way files ≡ Some e → (result ≡ Err e) ⊎ (result ≡ Err DiskFails)) → given ≡ rows → bytes ≡ total_len rows
@@ -92,7 +91,7 @@ pub made_due : {T : Type 0} (result : Result T MakeError) (made : T) (files : Fi
 made_due result made files profile rows given bytes is stands one two answer same =
     free_due (is_some files.main) (is_some files.journal) profile rows answer
     (none_stands result (is_some files.main) (is_some files.journal) (ok_differs result made MainStands is) (ok_differs result made JournalStands is) (ok_differs result made DiskFails is) stands)
-    (0, omega arith, (ap (λ (n : ℕ). done (made_report n (total_len rows))) (sym one) ∙ ap (λ (n : ℕ). done (made_report given n)) (sym two)) ∙ answer_is _ answer same)
+    (0, omega arith, (ap (λ (n : ℕ). done (made_report n (total_len rows))) (sym one) ∙ ap (λ (n : ℕ). done (made_report given n)) (sym two)) ∙ some_is _ answer same)
 
 -- and so is why nothing was
 pub unmade_due : {T : Type 0} (result : Result T MakeError) (e : MakeError) (files : Files) (profile : Profile) (rows : ℕ) → result ≡ Err e
@@ -100,15 +99,15 @@ pub unmade_due : {T : Type 0} (result : Result T MakeError) (e : MakeError) (fil
     → ((limit : ℕ) → result ≡ Err (PagesEnd limit) → (limit ≡ most_pages profile) × (most_pages profile < made_pages (usable profile) rows))
     → (answer : Answer) → change_answer (Err (make_error e)) ≡ Some answer → Contains (make_answers profile rows files) answer
 unmade_due result MainStands files profile rows is stands there most answer same =
-    subst (λ (a : Answer). Contains (make_answers profile rows files) a) (answer_is (refused FileThere) answer same) (main_due (is_some files.main) (is_some files.journal) profile rows (there refl))
+    subst (λ (a : Answer). Contains (make_answers profile rows files) a) (some_is (refused FileThere) answer same) (main_due (is_some files.main) (is_some files.journal) profile rows (there refl))
 unmade_due result JournalStands files profile rows is stands there most answer same =
-    subst (λ (a : Answer). Contains (make_answers profile rows files) a) (answer_is (refused JournalThere) answer same) (journal_due (is_some files.main) (is_some files.journal) profile rows (there refl))
+    subst (λ (a : Answer). Contains (make_answers profile rows files) a) (some_is (refused JournalThere) answer same) (journal_due (is_some files.main) (is_some files.journal) profile rows (there refl))
 unmade_due result (PagesEnd limit) files profile rows is stands there most answer same =
     free_due (is_some files.main) (is_some files.journal) profile rows answer
     (none_stands result (is_some files.main) (is_some files.journal) (λ other. not_main limit (err_same result (PagesEnd limit) MainStands is other))
     (λ other. not_journal limit (err_same result (PagesEnd limit) JournalStands is other)) (λ other. not_disk limit (err_same result (PagesEnd limit) DiskFails is other)) stands)
-    (subst (λ (a : Answer). Contains (made_answers profile rows) a) (ap (λ (n : ℕ). refused (TooManyPages n)) (sym (most limit is).0) ∙ answer_is (refused (TooManyPages limit)) answer same)
-    (above_due (most_pages profile) (done (made_report rows (total_len rows))) _ (is_less (most_pages profile) (made_pages (usable profile) rows) (most limit is).1)))
+    (subst (λ (a : Answer). Contains (made_answers profile rows) a) (ap (λ (n : ℕ). refused (TooManyPages n)) (sym (most limit is).0) ∙ some_is (refused (TooManyPages limit)) answer same)
+    (above_due (most_pages profile) (done (made_report rows (total_len rows))) _ (lt_true (most_pages profile) (made_pages (usable profile) rows) (most limit is).1)))
 unmade_due result DiskFails files profile rows is stands there most answer same = cc
 unmade_due result DrawFails files profile rows is stands there most answer same = cc
 unmade_due result MemoryEnds files profile rows is stands there most answer same = cc
@@ -147,14 +146,6 @@ make_entropy DrawFails is = refl
 make_entropy MemoryEnds is = cc
 
 -- ---- the disk
-
-refused_not_done : (e : MakeError) → change_status (Err (make_error e)) ≡ Done → ⊥
-refused_not_done MainStands is = cc
-refused_not_done JournalStands is = cc
-refused_not_done (PagesEnd limit) is = cc
-refused_not_done DiskFails is = cc
-refused_not_done DrawFails is = cc
-refused_not_done MemoryEnds is = cc
 
 -- a file is in the way
 pub read_stays : {D : Type 0} (reads : D → Files) (images : D → Files → Type 0) (moment : D → ℕ) (since : D → ℕ → Files → Type 0)
@@ -195,10 +186,10 @@ module _ {D : Type 0} (reads : D → Files) (images : D → Files → Type 0) (m
   pub unmade_there : {is_new : List ℕ → Type 0} (e : MakeError) → ((e ≡ DiskFails → ⊥) → LeavesOld reads images moment since old new)
       → LeavesOld reads images moment since old new ⊎ MayTakePlace images moment since is_new old new
       → KeepsOrCommits reads images moment since (change_status (Err (make_error e))) is_new HasNoMain IsNew old new
-  unmade_there {is_new} DiskFails stays may = ⊎_elim (λ was. inl (none_there DiskFault (refused_not_done DiskFails) was))
+  unmade_there {is_new} DiskFails stays may = ⊎_elim (λ was. inl (none_there DiskFault (error_not_done (make_error DiskFails)) was))
       (λ has. inr (commits_failed reads images moment since counts_now only_now has.file.bytes has.is (may_be {images = images} free {is_new = is_new} has))) may
-  unmade_there MainStands stays may = inl (none_there _ (refused_not_done MainStands) (stays (λ is. cc)))
-  unmade_there JournalStands stays may = inl (none_there _ (refused_not_done JournalStands) (stays (λ is. cc)))
-  unmade_there (PagesEnd limit) stays may = inl (none_there _ (refused_not_done (PagesEnd limit)) (stays (λ is. cc)))
-  unmade_there DrawFails stays may = inl (none_there _ (refused_not_done DrawFails) (stays (λ is. cc)))
-  unmade_there MemoryEnds stays may = inl (none_there _ (refused_not_done MemoryEnds) (stays (λ is. cc)))
+  unmade_there MainStands stays may = inl (none_there _ (error_not_done (make_error MainStands)) (stays (λ is. cc)))
+  unmade_there JournalStands stays may = inl (none_there _ (error_not_done (make_error JournalStands)) (stays (λ is. cc)))
+  unmade_there (PagesEnd limit) stays may = inl (none_there _ (error_not_done (make_error (PagesEnd limit))) (stays (λ is. cc)))
+  unmade_there DrawFails stays may = inl (none_there _ (error_not_done (make_error DrawFails)) (stays (λ is. cc)))
+  unmade_there MemoryEnds stays may = inl (none_there _ (error_not_done (make_error MemoryEnds)) (stays (λ is. cc)))

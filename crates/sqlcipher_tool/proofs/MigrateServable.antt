@@ -1,6 +1,6 @@
 -- Nothing stands in the way of `migrate` on a file that was made without rows.
-use Rattle.std.proofs.Common.{◌≡◌, ⊎_elim, ℕ, zero, suc, ◌+◌, ◌-◌, ◌*◌, ◌/◌, ◌^◌, ◌<◌, ◌≤◌, Bool, true, List, [], ◌∷◌, ◌++◌, length, map, Option, if◌then◌else◌, refl, sym, ap, subst, ◌∙◌, arith, rules, length-append}
-use Rattle.std.specs.Prelude.{codes, max, min, nat_le, pos}
+use Rattle.std.proofs.Common.{◌≡◌, ⊎_elim, ℕ, zero, suc, ◌+◌, ◌-◌, ◌/◌, ◌^◌, ◌<◌, ◌≤◌, Bool, true, List, [], ◌∷◌, length, map, Option, if◌then◌else◌, refl, sym, ap, subst, ◌∙◌, arith, rules}
+use Rattle.std.specs.Prelude.{codes, max, min, nat_le}
 use Rattle.std.specs.List.{range_with_len}
 use Rattle.btree_model.specs.Content.{Content, without_fourth}
 use Rattle.btree_page.specs.declared.kind.Family.{Family}
@@ -10,9 +10,8 @@ use Rattle.bulk_load.specs.Count.{overflow_pages, pages_for}
 use Rattle.cipher_profile.specs.declared.keys.Secret.{Secret}
 use Rattle.cipher_profile.specs.declared.profile.Profile.{Profile}
 use Rattle.cipher_profile.specs.Profile.{IsListed, sqlcipher_1, sqlcipher_2, sqlcipher_3, sqlcipher_4, usable}
-use Rattle.db_format.specs.Row.{bytes_of, record_bytes}
-use Rattle.db_format.specs.Value.Datum.{int}
-use Rattle.db_maker.proofs.RowLaws.{number_short, record_short}
+use Rattle.db_format.specs.Row.{record_bytes}
+use Rattle.db_maker.proofs.RowLaws.{row_short}
 use Rattle.db_maker.specs.Parts.{part_values, schema_values, view_values}
 use Rattle.db_maker.specs.declared.part.Part.TheVariants.{Items, Names, Codes}
 use Rattle.edge_model.specs.Files.{File}
@@ -24,24 +23,6 @@ use Rattle.sqlcipher_tool.specs.Servable.{HasFewPages, IsServable, standing}
 use Rattle.sqlcipher_tool.proofs.MadeFile.{made_clean}
 
 -- ---- a row of the schema has no overflow page, whichever root page it names
-
-row_short : (kind name table sql : List ℕ) (root : ℕ) → root < 2 ^ 63
-    → length (record_bytes (schema_values kind name table root sql)) ≤ 62 + (length kind + (length name + (length table + length sql)))
-row_short kind name table sql root small =
-    let number : List ℕ = bytes_of (int (pos root)) in
-    let whole : length (record_bytes (schema_values kind name table root sql)) ≤ 9 + 9 * 5 + length (kind ++ (name ++ (table ++ (number ++ (sql ++ []))))) =
-    record_short (schema_values kind name table root sql) in
-    let most : length number ≤ 8 = number_short root small in
-    omega (
-      arith,
-      whole,
-      most,
-      length-append kind (name ++ (table ++ (number ++ (sql ++ [])))),
-      length-append name (table ++ (number ++ (sql ++ []))),
-      length-append table (number ++ (sql ++ [])),
-      length-append number (sql ++ []),
-      length-append sql [],
-    )
 
 -- a payload that fits stays in its cell
 fits_whole : (len most size other : ℕ) → len ≤ most → pages_for size 0 ≡ 0 → pages_for size (len - (if nat_le len most then len else other)) ≡ 0

@@ -1,6 +1,6 @@
 -- What `migrate` answers, and a new file in the place of Main, as its disk shows it.
-use Rattle.std.proofs.Common.{◌≡◌, ◌⊎◌, ⊎_elim, inl, inr, ◌≤◌, ◌<◌, ◌*◌, ◌/◌, ℕ, Bool, true, false, List, [], ◌∷◌, length, Option, Some, Result, Ok, Err, if◌then◌else◌, refl, sym, ap, subst, ◌∙◌, arith, rules}
-use Rattle.std.specs.Prelude.{IfOk, nat_lt, unwrap_or}
+use Rattle.std.proofs.Common.{◌≡◌, ◌⊎◌, ⊎_elim, inl, inr, ◌≤◌, ◌<◌, ◌*◌, ◌/◌, ℕ, Bool, true, false, List, [], ◌∷◌, length, Option, Some, Result, Ok, Err, if◌then◌else◌, refl, sym, ap, subst, ◌∙◌, arith}
+use Rattle.std.specs.Prelude.{IfOk, unwrap_or}
 use Rattle.std.specs.List.{Contains}
 use Rattle.std.proofs.Math.Nat.{mul-div_cancel}
 use Rattle.btree_model.specs.Content.{Content, content}
@@ -32,16 +32,15 @@ use Rattle.sqlcipher_tool.specs.Migrate.{migrate_due, migrate_error, too_many}
 use Rattle.sqlcipher_tool.specs.Renewal.{pages_of}
 use Rattle.sqlcipher_tool.specs.Text.{migrated_report}
 use Rattle.sqlcipher_tool.specs.Verify.{stop_answers}
-use Rattle.sqlcipher_tool.specs.declared.opening.ChangeError.TheVariants.{Stopped, EntropyFault as EntropyFails}
-use Rattle.sqlcipher_tool.specs.declared.opening.Stop.TheVariants.{DiskFault as StopDisk}
 use Rattle.sqlcipher_tool.specs.declared.status.Refusal.TheVariants.{PageTag, Defect as RefusedDefect, TooManyPages}
 use Rattle.sqlcipher_tool.specs.declared.status.Status.{Status}
 use Rattle.sqlcipher_tool.specs.declared.status.Status.TheVariants.{Done, DiskFault}
-use Rattle.sqlcipher_tool.proofs.Changing.{commits_done, commits_failed}
+use Rattle.sqlcipher_tool.proofs.Changing.{commits_done, commits_failed, error_not_done}
 use Rattle.sqlcipher_tool.proofs.Databases.{alone_holds}
 use Rattle.sqlcipher_tool.proofs.OpenedParts.{open_count, open_parts}
 use Rattle.sqlcipher_tool.proofs.Rekeying.{no_parts}
 use Rattle.sqlcipher_tool.proofs.Verified.{among_pages, among_stops, else_left, some_is}
+use Rattle.sqlcipher_tool.proofs.Numbers.{lt_true}
 
 -- ---- what is due
 
@@ -54,9 +53,6 @@ pub above_due : (limit : ℕ) (first : Answer) (b : Bool) → b ≡ true → Con
 above_due limit first true is = (1, omega arith, refl)
 above_due limit first false is = cc
 
-pub is_less : (a b : ℕ) → a < b → nat_lt a b ≡ true
-is_less a b less = search (rules, less)
-
 -- what stopped a migration is due
 pub unmigrated_due : (profile : Profile) (count : ℕ) (pages : Pages) (error : MigrateError) (answer : Answer) → IsShown profile pages error
     → ((limit : ℕ) → error ≡ PagesEnd limit → limit ≡ most_pages profile) → change_answer (Err (migrate_error error)) ≡ Some answer → Contains (migrate_due profile count pages) answer
@@ -67,7 +63,7 @@ unmigrated_due profile count pages (MigrateDefect d) answer shown most is = subs
 unmigrated_due profile count pages (PagesEnd limit) answer shown most is =
     subst (λ (a : Answer). Contains (migrate_due profile count pages) a) (ap (λ (n : ℕ). refused (TooManyPages n)) (sym (most limit refl)) ∙ some_is (refused (TooManyPages limit)) answer is)
     (subst (λ (l : List Answer). Contains l (refused (TooManyPages (most_pages profile)))) (sym (whole_pages_due profile count pages shown.0))
-    (above_due (most_pages profile) (done (migrated_report count)) _ (is_less (most_pages profile) _
+    (above_due (most_pages profile) (done (migrated_report count)) _ (lt_true (most_pages profile) _
     (subst (λ (c : Content). most_pages profile < pages_at_most (usable profile) (most_pages profile) c) (sym (zeros_content pages shown.0)) shown.1))))
 unmigrated_due profile count pages DiskFails answer shown most is = cc
 unmigrated_due profile count pages DrawFails answer shown most is = cc
@@ -104,31 +100,7 @@ migrate_late DiskFails = tt
 migrate_late DrawFails = tt
 migrate_late MemoryEnds = tt
 
-pub migrate_disk : (error : MigrateError) → migrate_error error ≡ Stopped StopDisk → error ≡ DiskFails
-migrate_disk (MigrateTag page) is = cc
-migrate_disk (MigrateDefect defect) is = cc
-migrate_disk (PagesEnd limit) is = cc
-migrate_disk DiskFails is = refl
-migrate_disk DrawFails is = cc
-migrate_disk MemoryEnds is = cc
-
-pub migrate_entropy : (error : MigrateError) → migrate_error error ≡ EntropyFails → error ≡ DrawFails
-migrate_entropy (MigrateTag page) is = cc
-migrate_entropy (MigrateDefect defect) is = cc
-migrate_entropy (PagesEnd limit) is = cc
-migrate_entropy DiskFails is = cc
-migrate_entropy DrawFails is = refl
-migrate_entropy MemoryEnds is = cc
-
 -- ---- the disk
-
-stopped_not_done : (error : MigrateError) → change_status (Err (migrate_error error)) ≡ Done → ⊥
-stopped_not_done (MigrateTag page) is = cc
-stopped_not_done (MigrateDefect defect) is = cc
-stopped_not_done (PagesEnd limit) is = cc
-stopped_not_done DiskFails is = cc
-stopped_not_done DrawFails is = cc
-stopped_not_done MemoryEnds is = cc
 
 -- each image at the start has the old file alone
 module _ {D : Type 0} (reads : D → Files) (images : D → Files → Type 0) (moment : D → ℕ) (since : D → ℕ → Files → Type 0)
@@ -170,10 +142,10 @@ module _ {D : Type 0} (reads : D → Files) (images : D → Files → Type 0) (m
   pub stopped_migrate : {is_one : List ℕ → Type 0} (error : MigrateError) → ((error ≡ DiskFails → ⊥) → LeavesOld reads images moment since old new)
       → LeavesOld reads images moment since old new ⊎ MayTakePlace images moment since is_one old new
       → KeepsOrCommits reads images moment since (change_status (Err (migrate_error error))) is_one Old New old new
-  stopped_migrate {is_one} DiskFails stays may = ⊎_elim (λ was. inl (kept DiskFault (stopped_not_done DiskFails) was))
+  stopped_migrate {is_one} DiskFails stays may = ⊎_elim (λ was. inl (kept DiskFault (error_not_done (migrate_error DiskFails)) was))
       (λ has. inr (commits_failed reads images moment since counts_now only_now has.file.bytes has.is (weaker (old_or_new has.file) has.any_moment))) may
-  stopped_migrate (MigrateTag page) stays may = inl (kept _ (stopped_not_done (MigrateTag page)) (stays (λ is. cc)))
-  stopped_migrate (MigrateDefect defect) stays may = inl (kept _ (stopped_not_done (MigrateDefect defect)) (stays (λ is. cc)))
-  stopped_migrate (PagesEnd limit) stays may = inl (kept _ (stopped_not_done (PagesEnd limit)) (stays (λ is. cc)))
-  stopped_migrate DrawFails stays may = inl (kept _ (stopped_not_done DrawFails) (stays (λ is. cc)))
-  stopped_migrate MemoryEnds stays may = inl (kept _ (stopped_not_done MemoryEnds) (stays (λ is. cc)))
+  stopped_migrate (MigrateTag page) stays may = inl (kept _ (error_not_done (migrate_error (MigrateTag page))) (stays (λ is. cc)))
+  stopped_migrate (MigrateDefect defect) stays may = inl (kept _ (error_not_done (migrate_error (MigrateDefect defect))) (stays (λ is. cc)))
+  stopped_migrate (PagesEnd limit) stays may = inl (kept _ (error_not_done (migrate_error (PagesEnd limit))) (stays (λ is. cc)))
+  stopped_migrate DrawFails stays may = inl (kept _ (error_not_done (migrate_error DrawFails)) (stays (λ is. cc)))
+  stopped_migrate MemoryEnds stays may = inl (kept _ (error_not_done (migrate_error MemoryEnds)) (stays (λ is. cc)))

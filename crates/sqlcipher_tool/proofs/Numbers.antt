@@ -1,9 +1,11 @@
--- A number of the command line, as it is parsed.
+-- Tests of numbers, and a number of the command line, as it is parsed.
 use Rattle.std.proofs.Common.{◌≡◌, ◌==◌, ◌&&◌, ◌≤◌, ◌<◌, ◌^◌, ℕ, Bool, true, false, cond, List, [], ◌∷◌, length, drop, Some, None, refl, sym, ap, subst, ◌∙◌, arith, rules}
 use Rattle.std.specs.Prelude.{slice_index, nat_le, nat_lt, if◌then◌else◌}
 use Rattle.std.specs.Char.{digit_value}
 use Rattle.std.specs.List.{list_all}
 use Rattle.std.specs.Str.Parse.{AllDigits, IsNumeral, digits_value, without_leading_plus}
+use Rattle.std.specs.Cmp.Derive.{both_true}
+use Rattle.pager.proofs.BatchLemmas.{and_true}
 use Rattle.sqlcipher_tool.specs.Words.{is_number, number_named}
 
 pub le_true : (a b : ℕ) → a ≤ b → nat_le a b ≡ true
@@ -12,28 +14,28 @@ le_true a b le = search (rules, le)
 pub true_le : (a b : ℕ) → nat_le a b ≡ true → a ≤ b
 true_le a b is = search rules
 
-lt_true : (a b : ℕ) → a < b → nat_lt a b ≡ true
+pub lt_true : (a b : ℕ) → a < b → nat_lt a b ≡ true
 lt_true a b less = search (rules, less)
 
 true_lt : (a b : ℕ) → nat_lt a b ≡ true → a < b
 true_lt a b is = search rules
 
-both : (a b : Bool) → a ≡ true → b ≡ true → (a && b) ≡ true
-both a b one two = rw (one, two) refl
+pub no_less : (a b : ℕ) → nat_lt a b ≡ false → b ≤ a
+no_less a b is = search rules
 
-apart : (a b : Bool) → (a && b) ≡ true → (a ≡ true) × (b ≡ true)
-apart true true is = (refl, refl)
-apart true false is = cc
-apart false b is = cc
+pub no_more : (a b : ℕ) → b ≤ a → nat_lt a b ≡ false
+no_more a b le = search (rules, le)
+
+-- ---- a number of the command line
 
 tested : (w : List ℕ) → AllDigits 10 w → list_all (λ digit. nat_lt (digit_value digit) 10) w ≡ true
 tested [] all = refl
-tested (c ∷ cs) all = both (nat_lt (digit_value c) 10) (list_all (λ digit. nat_lt (digit_value digit) 10) cs) (lt_true (digit_value c) 10 all.0) (tested cs all.1)
+tested (c ∷ cs) all = both_true (lt_true (digit_value c) 10 all.0) (tested cs all.1)
 
 all_digits : (w : List ℕ) → list_all (λ digit. nat_lt (digit_value digit) 10) w ≡ true → AllDigits 10 w
 all_digits [] is = tt
 all_digits (c ∷ cs) is =
-    let two = apart (nat_lt (digit_value c) 10) (list_all (λ digit. nat_lt (digit_value digit) 10) cs) is in
+    let two = and_true (nat_lt (digit_value c) 10) (list_all (λ digit. nat_lt (digit_value digit) 10) cs) is in
     (true_lt (digit_value c) 10 two.0, all_digits cs two.1)
 
 -- no plus stands first
@@ -45,9 +47,7 @@ Parses w = IsNumeral 10 w × (digits_value 10 w < 2 ^ 32)
 
 is_named : (w : List ℕ) → length w ≤ 10 → Parses w → is_number w ≡ true
 is_named w few parses =
-    both (nat_le 1 (length w) && nat_le (length w) 10 && list_all (λ digit. nat_lt (digit_value digit) 10) w) (nat_le (digits_value 10 w) 4294967295)
-    (both (nat_le 1 (length w) && nat_le (length w) 10) (list_all (λ digit. nat_lt (digit_value digit) 10) w)
-    (both (nat_le 1 (length w)) (nat_le (length w) 10) (le_true 1 (length w) parses.0.0) (le_true (length w) 10 few)) (tested w parses.0.1))
+    both_true (both_true (both_true (le_true 1 (length w) parses.0.0) (le_true (length w) 10 few)) (tested w parses.0.1))
     (le_true (digits_value 10 w) 4294967295 (below (digits_value 10 w) parses.1))
   where
     below : (n : ℕ) → n < 2 ^ 32 → n ≤ 4294967295
@@ -55,9 +55,9 @@ is_named w few parses =
 
 parses_so : (w : List ℕ) → is_number w ≡ true → Parses w
 parses_so w is =
-    let one = apart (nat_le 1 (length w) && nat_le (length w) 10 && list_all (λ digit. nat_lt (digit_value digit) 10) w) (nat_le (digits_value 10 w) 4294967295) is in
-    let two = apart (nat_le 1 (length w) && nat_le (length w) 10) (list_all (λ digit. nat_lt (digit_value digit) 10) w) one.0 in
-    let three = apart (nat_le 1 (length w)) (nat_le (length w) 10) two.0 in
+    let one = and_true (nat_le 1 (length w) && nat_le (length w) 10 && list_all (λ digit. nat_lt (digit_value digit) 10) w) (nat_le (digits_value 10 w) 4294967295) is in
+    let two = and_true (nat_le 1 (length w) && nat_le (length w) 10) (list_all (λ digit. nat_lt (digit_value digit) 10) w) one.0 in
+    let three = and_true (nat_le 1 (length w)) (nat_le (length w) 10) two.0 in
     ((true_le 1 (length w) three.0, all_digits w two.1), above (digits_value 10 w) (true_le (digits_value 10 w) 4294967295 one.1))
   where
     above : (n : ℕ) → n ≤ 4294967295 → n < 2 ^ 32

@@ -16,7 +16,9 @@ use Rattle.pager.specs.File.{first_page, page_stored}
 use Rattle.pager.specs.Opening.{Opened, file_header, file_opened, first_broken, key_rules, length_rules, unless, with_count, with_header}
 use Rattle.pager.specs.declared.opening.OpenError.{OpenError}
 use Rattle.pager.specs.declared.opening.OpenError.TheVariants.{Empty, Short}
+use Rattle.rekey_job.proofs.Checked.{not_not}
 use Rattle.sqlcipher_tool.proofs.StampedFields.{none_broken}
+use Rattle.sqlcipher_tool.proofs.Numbers.{no_less}
 
 pub record IsOpen (keys : FileKeys) (file : List ℕ) (header : Header) (n : ℕ) : Type 0 where
   pub long : keys.profile.page_size ≤ length file
@@ -24,7 +26,7 @@ pub record IsOpen (keys : FileKeys) (file : List ℕ) (header : Header) (n : ℕ
   pub read : header_read (opened keys 1 (page_stored keys file 1)) keys.profile.page_size keys.profile.reserve ≡ Ok header
   pub counts : count_of_pages header (length file) ≡ Ok n
 
-past : (o : Option OpenError) (r : Result Opened OpenError) (x : Opened) → unless o r ≡ Ok x → (o ≡ None) × (r ≡ Ok x)
+pub past : (o : Option OpenError) (r : Result Opened OpenError) (x : Opened) → unless o r ≡ Ok x → (o ≡ None) × (r ≡ Ok x)
 past None r x is = (refl, is)
 past (Some error) r x is = cc
 
@@ -41,18 +43,11 @@ with_its_count : (header : Header) (c : Result ℕ CountRefusal) (x : Opened) �
 with_its_count header (Ok n) x is = (cc, cc)
 with_its_count header (Err refusal) x is = cc
 
-with_both : (len : ℕ) (r : Result Header HeaderRefusal) (x : Opened) → with_header len r ≡ Ok x → (r ≡ Ok x.header) × (count_of_pages x.header len ≡ Ok x.count)
+pub with_both : (len : ℕ) (r : Result Header HeaderRefusal) (x : Opened) → with_header len r ≡ Ok x → (r ≡ Ok x.header) × (count_of_pages x.header len ≡ Ok x.count)
 with_both len (Ok header) x is =
     let both = with_its_count header (count_of_pages header len) x is in
     (ap (λ (h : Header). Ok h) both.0, ap (λ (h : Header). count_of_pages h len) (sym both.0) ∙ both.1)
 with_both len (Err refusal) x is = cc
-
-not_true : (b : Bool) → not b ≡ false → b ≡ true
-not_true true is = refl
-not_true false is = cc
-
-no_less : (a b : ℕ) → nat_lt a b ≡ false → b ≤ a
-no_less a b is = search rules
 
 pub open_parts : (keys : FileKeys) (file : List ℕ) (header : Header) (n : ℕ) → file_opened keys file ≡ Ok (record { header = header; count = n })
     → IsOpen keys file header n
@@ -63,7 +58,7 @@ open_parts keys file header n is =
     let key = past (first_broken (key_rules keys file)) _ x lengths.1 in
     let both = with_both (length file) (file_header keys file) x key.1 in record {
       long = no_less (length file) size (second_of (length file == 0) (nat_lt (length file) size) Empty (Short (length file)) lengths.0);
-      fit = not_true (fits keys (first_page keys.profile file)) (first_is (not (fits keys (first_page keys.profile file))) _ key.0);
+      fit = not_not (fits keys (first_page keys.profile file)) (first_is (not (fits keys (first_page keys.profile file))) _ key.0);
       read = both.0;
       counts = both.1;
     }
@@ -99,7 +94,7 @@ pub header_size : (plain : List ℕ) (size reserve : ℕ) (h : Header) → heade
 header_size plain size reserve h is =
     let fields = none_broken (header_rules plain size reserve) (header_fields plain) h (header_fields plain) is in
     let first = first_passed (not (page_size_of (u16_at plain 16) == size)) (HeaderFault 16 (u16_at plain 16)) (later_of (header_rules plain size reserve)) (header_fields plain) h is in
-    (fields.0, ap (λ (h : Header). h.page_size) (sym fields.0) ∙ same (page_size_of (u16_at plain 16)) size (not_true (page_size_of (u16_at plain 16) == size) first))
+    (fields.0, ap (λ (h : Header). h.page_size) (sym fields.0) ∙ same (page_size_of (u16_at plain 16)) size (not_not (page_size_of (u16_at plain 16) == size) first))
   where
     later_of : List (Rule HeaderRefusal) → List (Rule HeaderRefusal)
     later_of [] = []

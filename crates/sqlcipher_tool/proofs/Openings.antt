@@ -1,9 +1,9 @@
 -- What a file that is opened comes to.
-use Rattle.std.proofs.Common.{◌≡◌, ◌⊎◌, ⊎_elim, inl, inr, ℕ, List, length, Option, Some, Result, Ok, Err, refl, sym, ap, ◌∙◌}
+use Rattle.std.proofs.Common.{◌≡◌, ◌⊎◌, ⊎_elim, inl, inr, ℕ, List, Some, Result, Ok, Err, refl, sym, ap, ◌∙◌}
 use Rattle.cipher_profile.specs.declared.keys.Secret.{Secret}
 use Rattle.cipher_profile.specs.declared.profile.Profile.{Profile}
 use Rattle.page_codec.specs.Page.{FileKeys, keys_of}
-use Rattle.pager.specs.Opening.{Opened, IsRefusedBy, file_header, file_opened, first_broken, key_rules, length_rules, unless, with_header}
+use Rattle.pager.specs.Opening.{Opened, IsRefusedBy, file_opened}
 use Rattle.pager.specs.declared.opening.OpenError.{OpenError}
 use Rattle.pager.specs.declared.opening.OpenError.TheVariants.{Empty, Short, KeyRefused as NoKey, HeaderFault, WalMode, AutoVacuum, Ragged, TooLarge, DiskFault as DiskFails, OutOfMemory as MemoryEnds}
 use Rattle.sqlcipher_tool.specs.Header.{opened_answer}
@@ -28,17 +28,6 @@ answered MemoryEnds = inl (inr refl)
 stopped_by : (error : OpenError) (opened : Result Opened OpenError) → opened ≡ Err error → IsOutside (stop_of error) ⊎ (stop_answer (stop_of error) ≡ unopened_answer opened)
 stopped_by error opened is =
     ⊎_elim (λ outside. inl outside) (λ same. inr (same ∙ sym (ap (λ (r : Result Opened OpenError). unopened_answer r) is))) (answered error)
-
--- a file that has no page
-pub short_stop : (profile : Profile) (secret : Secret) (file : List ℕ) (error : OpenError)
-    → (error ≡ DiskFails) ⊎ (first_broken (length_rules profile.page_size file) ≡ Some error)
-    → IsOutside (stop_of error) ⊎ (stop_answer (stop_of error) ≡ unopened_answer (opened_with profile secret file))
-short_stop profile secret file error is =
-    let keys = keys_of profile secret file in
-    let rest = unless (first_broken (key_rules keys file)) (with_header (length file) (file_header keys file)) in
-    ⊎_elim (λ (failed : error ≡ DiskFails). inl (inl (ap stop_of failed)))
-    (λ (broken : first_broken (length_rules profile.page_size file) ≡ Some error).
-    stopped_by error (opened_with profile secret file) (ap (λ (o : Option OpenError). unless o rest) broken)) is
 
 -- a file that does not open
 pub open_stop : (opened : Result Opened OpenError) (error : OpenError) → IsRefusedBy opened error

@@ -1,5 +1,8 @@
 -- A command that reads the recovered file.
-use Rattle.std.proofs.Common.{◌≡◌, ⊎_elim, ◌≤◌, ◌<◌, ℕ, List, [], ◌∷◌, length, Option, Some, None, Result, Ok, Err, sym, ap, ◌∙◌, subst, arith}
+use Rattle.std.proofs.Common.{◌≡◌, ⊎_elim, ◌≤◌, ◌<◌, ◌*◌, ◌==◌, not, ℕ, Bool, true, false, List, [], ◌∷◌, length, Option, Some, None, Result, Ok, Err, sym, ap, ◌∙◌, subst, arith}
+use Rattle.std.specs.Prelude.{nat_lt, unwrap_or}
+use Rattle.db_format.specs.Count.{largest_database}
+use Rattle.page_codec.specs.Page.{fits, keys_of}
 use Rattle.edge_model.specs.Files.{Files, bytes_of}
 use Rattle.edge_model.specs.Images.{From, LeavesOnly}
 use Rattle.edge_model.specs.Moments.{goes_less}
@@ -12,12 +15,13 @@ use Rattle.pager.specs.declared.opening.OpenError.TheVariants.{Empty, Short, Key
 use Rattle.rollback_journal.specs.declared.recovery.Recovery.{Recovery}
 use Rattle.rollback_journal.specs.declared.recovery.RecoverError.{RecoverError}
 use Rattle.rollback_journal.specs.Recovery.{IsDone, recovered}
-use Rattle.pager.specs.File.{main_of}
-use Rattle.sqlcipher_tool.specs.Answer.{Answer, IsAnswered, IsFault}
+use Rattle.pager.specs.File.{first_page, main_of, whole_pages}
+use Rattle.sqlcipher_tool.specs.Answer.{Answer, Cause, IsAnswered, IsFault, first_of}
 use Rattle.sqlcipher_tool.specs.declared.status.Status.{Status}
 use Rattle.sqlcipher_tool.specs.declared.status.Status.TheVariants.{Done, Usage, Refused, KeyRefused, DiskFault, OutputFault, InputFault, EntropyFault, OutOfMemory}
 use Rattle.sqlcipher_tool.specs.Header.{header_answer, opened_answer}
-use Rattle.sqlcipher_tool.specs.Opening.{opened_with}
+use Rattle.sqlcipher_tool.specs.Opening.{open_answer, opened_with}
+use Rattle.sqlcipher_tool.specs.Tags.{file_answer, pages_answer, refused_pages, tags_answer}
 use Rattle.sqlcipher_tool.specs.Promises.{IsUnrecovered}
 use Rattle.sqlcipher_tool.specs.Recovered.{after_recovery, recovered_answer, recovered_main, recovery_of}
 
@@ -36,7 +40,7 @@ read_after counts_now run read = goes_less counts_now run read.time (λ c now. r
 
 -- ---- a refusal of the recovery comes of no file
 
-abbrev IsOfFile : Answer → Type 0
+abbrev pub IsOfFile : Answer → Type 0
 IsOfFile answer = IsUnrecovered answer.status → ⊥
 
 opened_of_file : (opened : Result Opened OpenError) → IsOfFile (opened_answer opened)
@@ -70,6 +74,35 @@ pub header_recovered : (profile : Profile) (secret : Secret) (file : List ℕ) (
     → IsAnswered status (header_answer profile secret file) → IsUnrecovered status → ⊥
 header_recovered profile secret file status answered is =
     ⊎_elim (λ (same : status ≡ (header_answer profile secret file).status). header_of_file profile secret file (subst IsUnrecovered same is))
+    (λ (fault : IsFault status). fault_of_file status fault is) answered
+
+pages_of_file : (count : ℕ) (refused : List ℕ) → IsOfFile (pages_answer count refused)
+pages_of_file count [] is = is
+pages_of_file count (page ∷ rest) is = is
+
+-- a cause of an error of opening
+abbrev cause_of : Bool → OpenError → Cause
+cause_of holds error = record { holds = holds; answer = open_answer error }
+
+first_of_file : (a b d e : Bool) (len pages : ℕ) (answer : Answer) → IsOfFile answer
+    → IsOfFile (unwrap_or (first_of (cause_of a Empty ∷ cause_of b (Short len) ∷ cause_of d (TooLarge pages) ∷ cause_of e NoKey ∷ [])) answer)
+first_of_file true b d e len pages answer other is = is
+first_of_file false true d e len pages answer other is = is
+first_of_file false false true e len pages answer other is = is
+first_of_file false false false true len pages answer other is = is
+first_of_file false false false false len pages answer other is = other is
+
+tags_of_file : (profile : Profile) (secret : Secret) (file : List ℕ) → IsOfFile (tags_answer profile secret file)
+tags_of_file profile secret file =
+    let keys = keys_of profile secret file in
+    let pages = whole_pages profile file in
+    first_of_file (length file == 0) (nat_lt (length file) profile.page_size) (nat_lt largest_database (pages * profile.page_size))
+    (not (fits keys (first_page profile file))) (length file) pages (file_answer keys file) (pages_of_file pages (refused_pages keys file pages))
+
+pub tags_recovered : (profile : Profile) (secret : Secret) (file : List ℕ) (status : Status)
+    → IsAnswered status (tags_answer profile secret file) → IsUnrecovered status → ⊥
+tags_recovered profile secret file status answered is =
+    ⊎_elim (λ (same : status ≡ (tags_answer profile secret file).status). tags_of_file profile secret file (subst IsUnrecovered same is))
     (λ (fault : IsFault status). fault_of_file status fault is) answered
 
 -- ---- what a recovery leaves beside Main

@@ -1,4 +1,4 @@
--- A rekeyed file opens under the new keys to the old content.
+-- The old file of a rekeyed one was clean, and the new one opens under the new keys to its content.
 use Rattle.std.proofs.Common.{◌≡◌, ◌≤◌, ◌==◌, ◌&&◌, ◌-◌, ◌+◌, ◌*◌, ◌<◌, ◌/◌, ◌%◌, not, ℕ, zero, suc, Bool, true, false, List, [], length, map, Some, None, Result, Ok, Err, refl, sym, ap, subst, ◌∙◌, arith, rules, if◌then◌else◌}
 use Rattle.std.specs.Prelude.{nat_lt, replicate}
 use Rattle.std.specs.List.{Contains, list_any, range_with_len}
@@ -21,14 +21,17 @@ use Rattle.page_codec.specs.Page.{FileKeys, accepts, bears_sign, fits, opened}
 use Rattle.pager.specs.Database.{count_by, count_of, counted, ok_count}
 use Rattle.pager.specs.File.{page_stored}
 use Rattle.pager.specs.Pages.{is_number, opened_pages}
+use Rattle.pager.proofs.BatchLemmas.{number_is}
 use Rattle.rekey_job.specs.Rekeyed.{IsRekeyed}
-use Rattle.sqlcipher_tool.specs.Plain.{HaveSamePages, IsClean, Opens, is_left, refused_in_use}
+use Rattle.rekey_job.specs.Stops.{AreClean}
+use Rattle.sqlcipher_tool.specs.Plain.{HaveSamePages, IsClean, Opens, content_of, is_left, refused_in_use}
+use Rattle.sqlcipher_tool.specs.Renewal.{IsRekeyedSo}
 use Rattle.sqlcipher_tool.proofs.Databases.{counted_pages}
-use Rattle.sqlcipher_tool.proofs.FileDraws.{number_is}
 use Rattle.sqlcipher_tool.proofs.OpenedParts.{header_size}
-use Rattle.sqlcipher_tool.proofs.Rekeying.{number_among}
+use Rattle.sqlcipher_tool.proofs.Rekeying.{clean_accepted, number_among}
 use Rattle.sqlcipher_tool.proofs.SamePages.{free_same, in_use_same, opens_same}
 use Rattle.sqlcipher_tool.proofs.Verified.{some_is}
+use Rattle.sqlcipher_tool.proofs.Numbers.{no_less}
 
 -- ---- a file that has a count has a page
 
@@ -59,9 +62,6 @@ record HasHeader (keys : FileKeys) (first : List ℕ) (len n : ℕ) : Type 0 whe
 has_header : (keys : FileKeys) (first : List ℕ) (len n : ℕ) → count_by keys first len ≡ Some n → HasHeader keys first len n
 has_header keys first len n is = by_length (nat_lt len keys.profile.page_size) refl (header_read (opened keys 1 first) keys.profile.page_size keys.profile.reserve) refl is
   where
-    no_less : (a b : ℕ) → nat_lt a b ≡ false → b ≤ a
-    no_less a b is = search rules
-
     by_count : (header : Header) (c : Result ℕ CountRefusal) → ok_count c ≡ Some n → c ≡ Ok n
     by_count header (Ok m) is = ap (λ (k : ℕ). Ok k) (some_is m n is)
     by_count header (Err refusal) is = cc
@@ -77,6 +77,16 @@ count_some keys file n size is =
     let has = has_header keys (page_stored keys file 1) (length file) n is in
     let same = (header_size (opened keys 1 (page_stored keys file 1)) keys.profile.page_size keys.profile.reserve has.header has.read).1 in
     counted_some has.header (length file) n (subst (λ (k : ℕ). 1 ≤ k) (sym same) size) (subst (λ (k : ℕ). k ≤ length file) (sym same) has.long) has.counts
+
+-- ---- a file whose pages are clean
+
+clean_file : (keys : FileKeys) (file : List ℕ) (count : ℕ) → fits keys (page_stored keys file 1) ≡ true → count_of keys file ≡ Some count
+    → AreClean (opened_pages keys file count) → IsClean keys file
+clean_file keys file count fit counts clean = record {
+  held = content_of keys file count;
+  opens = record { fit = fit; count = count; is_count = counts; sound = clean.sound; is = refl };
+  accepted = clean_accepted (opened_pages keys file count) clean;
+}
 
 -- ---- the same database
 
@@ -212,6 +222,15 @@ module _ (old_keys new_keys : FileKeys) (count : ℕ) (old new : List ℕ) (old_
 
 pub rekeyed_opens : (old_keys new_keys : FileKeys) (count : ℕ) (old new : List ℕ) → IsListed old_keys.profile → IsListed new_keys.profile
     → new_keys.profile.page_size ≡ old_keys.profile.page_size → new_keys.profile.reserve ≡ old_keys.profile.reserve
-    → IsRekeyed old_keys new_keys count old new → (clean : IsClean old_keys old) → Opens new_keys new clean.held
-rekeyed_opens old_keys new_keys count old new old_listed new_listed sizes reserves rekeyed clean =
-    opens_renewed old_keys new_keys count old new old_listed new_listed sizes reserves rekeyed clean
+    → fits old_keys (page_stored old_keys old 1) ≡ true → IsRekeyed old_keys new_keys count old new → (clean : IsClean old_keys old) × Opens new_keys new clean.held
+rekeyed_opens old_keys new_keys count old new old_listed new_listed sizes reserves fit rekeyed =
+    let clean = clean_file old_keys old count fit rekeyed.was rekeyed.clean in
+    (clean, opens_renewed old_keys new_keys count old new old_listed new_listed sizes reserves rekeyed clean)
+
+-- all that is said of the new file
+pub rekeyed_so : (old_keys new_keys : FileKeys) (count : ℕ) (old new : List ℕ) → IsListed old_keys.profile → IsListed new_keys.profile
+    → new_keys.profile.page_size ≡ old_keys.profile.page_size → new_keys.profile.reserve ≡ old_keys.profile.reserve
+    → fits old_keys (page_stored old_keys old 1) ≡ true → IsRekeyed old_keys new_keys count old new → IsRekeyedSo old_keys new_keys old new
+rekeyed_so old_keys new_keys count old new old_listed new_listed sizes reserves fit rekeyed =
+    let both = rekeyed_opens old_keys new_keys count old new old_listed new_listed sizes reserves fit rekeyed in
+    record { clean = both.0; opens = both.1; count = count; rekeyed = rekeyed }

@@ -1,7 +1,9 @@
 -- What `rekey` answers, and a transaction that seals every page under other keys, as its disk shows it.
-use Rattle.std.proofs.Common.{◌≡◌, ◌⊎◌, ⊎_elim, inl, ◌≤◌, ◌<◌, ◌*◌, ◌+◌, ◌&&◌, ℕ, suc, zero, Bool, true, false, List, [], ◌∷◌, length, Option, Some, None, Result, Ok, Err, refl, sym, ap, subst, ◌∙◌, arith, rules, if◌then◌else◌}
-use Rattle.std.specs.Prelude.{IfErr, nat_lt, unwrap_or}
+use Rattle.std.proofs.Common.{◌≡◌, ◌⊎◌, ⊎_elim, inl, ◌≤◌, ◌<◌, ◌*◌, ◌+◌, ◌&&◌, ℕ, suc, zero, Bool, true, false, List, [], ◌∷◌, length, Option, Some, None, Ok, Err, refl, sym, ap, subst, ◌∙◌, arith, rules, if◌then◌else◌}
+use Rattle.std.specs.Prelude.{◌==◌, nat_lt, unwrap_or}
 use Rattle.std.specs.List.{Contains, filter}
+use Rattle.std.specs.Str.{bytes_eq}
+use Rattle.std.proofs.lemmas.Slice.Eq.{bytes_eq-Decides}
 use Rattle.std.proofs.lemmas.List.Elements.{Contains-append_left, Contains-append_right}
 use Rattle.btree_model.specs.Parts.{first_faults, first_refusals, is_database, parts}
 use Rattle.btree_model.specs.Plain.{is_leaf}
@@ -17,6 +19,7 @@ use Rattle.cipher_profile.specs.declared.keys.Secret.{Secret}
 use Rattle.cipher_profile.specs.declared.profile.Profile.{Profile}
 use Rattle.page_codec.specs.Page.{FileKeys, keys_of, opened}
 use Rattle.pager.specs.Base.{base_of}
+use Rattle.pager.specs.Changed.{same_layout}
 use Rattle.pager.specs.Database.{count_by, count_of, counted}
 use Rattle.pager.specs.File.{main_of, page_stored}
 use Rattle.pager.specs.Opening.{file_opened}
@@ -25,13 +28,14 @@ use Rattle.rekey_job.specs.Rekeyed.{IsRekeyed}
 use Rattle.rekey_job.specs.Stops.{AreClean, IsFirstRefused, IsShown, is_unwritten}
 use Rattle.rekey_job.specs.declared.error.RekeyError.{RekeyError}
 use Rattle.rekey_job.specs.declared.error.RekeyError.TheVariants.{LayoutDiffers, PageTag as RekeyTag, Defect as RekeyDefect, DiskFault as RekeyDisk, EntropyFault as RekeyEntropy, OutOfMemory as RekeyMemory}
+use Rattle.rekey_job.proofs.Renewed.{some_is as count_is}
 use Rattle.rollback_journal.specs.Recovery.{Recovers}
 use Rattle.transaction.specs.Commit.{IsCommitted, LeavesChanged}
 use Rattle.transaction.specs.Database.{HoldsEither, HoldsOld, HoldsOnly as HoldsPages, stored_pages}
 use Rattle.transaction.specs.Facts.{IsBegun}
 use Rattle.sqlcipher_tool.specs.Answer.{Answer, done, refused}
 use Rattle.sqlcipher_tool.specs.Change.{Commits, IsLateChange, KeepsOld, KeepsOrCommits, change_answer, change_status, rekey_error}
-use Rattle.sqlcipher_tool.specs.Draws.{FileDraws}
+use Rattle.rekey_job.specs.Draws.{FileDraws}
 use Rattle.sqlcipher_tool.specs.Holding.{HoldsOnly, held_by}
 use Rattle.sqlcipher_tool.specs.Plain.{is_left, refused_in_use}
 use Rattle.sqlcipher_tool.specs.Rekey.{rekey_due}
@@ -39,16 +43,15 @@ use Rattle.sqlcipher_tool.specs.Renewal.{pages_of}
 use Rattle.sqlcipher_tool.specs.Tags.{numbers_where, page_numbers}
 use Rattle.sqlcipher_tool.specs.Text.{rekeyed_report}
 use Rattle.sqlcipher_tool.specs.Verify.{else_answers, stop_answers}
-use Rattle.sqlcipher_tool.specs.declared.opening.ChangeError.TheVariants.{Stopped, EntropyFault as EntropyFails}
-use Rattle.sqlcipher_tool.specs.declared.opening.Stop.TheVariants.{DiskFault as StopDisk}
 use Rattle.sqlcipher_tool.specs.declared.status.Refusal.TheVariants.{PageTag, Defect as RefusedDefect}
 use Rattle.sqlcipher_tool.specs.declared.status.Status.{Status}
 use Rattle.sqlcipher_tool.specs.declared.status.Status.TheVariants.{Done}
 use Rattle.sqlcipher_tool.proofs.Changing.{broken, committed, read_only, uncommitted}
-use Rattle.sqlcipher_tool.proofs.Databases.{alone_old, counted_pages, holds_old, is_some_is, same_database, some_is as count_is}
+use Rattle.sqlcipher_tool.proofs.Databases.{alone_old, counted_pages, holds_old, is_some_is, same_database}
 use Rattle.sqlcipher_tool.proofs.OpenedParts.{IsOpen, header_size, open_count, open_parts}
 use Rattle.sqlcipher_tool.proofs.Stamping.{whole_counts}
 use Rattle.sqlcipher_tool.proofs.Verified.{among_pages, among_stops, else_left, left_by, no_first_fault, no_first_refusal, none_where, some_is}
+use Rattle.sqlcipher_tool.proofs.Numbers.{no_less}
 
 -- ---- what is due
 
@@ -104,7 +107,7 @@ shown_due pages RekeyMemory answer shown is = cc
 pub report_alone : (pages : Pages) → is_database pages ≡ true → refused_in_use pages ≡ [] → rekey_due pages ≡ done (rekeyed_report pages.count) ∷ []
 report_alone pages whole accepted = no_parts pages _ whole ∙ ap (λ ns. else_answers (stop_answers [] ns) (done (rekeyed_report pages.count) ∷ [])) accepted
 
-clean_accepted : (pages : Pages) → AreClean pages → refused_in_use pages ≡ []
+pub clean_accepted : (pages : Pages) → AreClean pages → refused_in_use pages ≡ []
 clean_accepted pages clean = none_where (is_left pages (is_leaf pages)) pages.count (λ i within.
     left_by true (is_leaf pages (1 + i)) (pages.accepts (1 + i)) (clean.accepted (1 + i) (numbered pages.count i within)))
   where
@@ -117,10 +120,6 @@ report_due pages answer clean is = subst (λ (a : Answer). Contains (rekey_due p
 
 -- ---- how it stops
 
--- what holds where a call was not done
-pub was_err : {A E : Type 0} (P : E → Type 0) (r : Result A E) (e : E) → r ≡ Err e → IfErr r P → P e
-was_err {A} {E} P r e is holds = subst (λ (r : Result A E). IfErr r P) is holds
-
 pub rekey_late : (error : RekeyError) → IsLateChange (rekey_error error)
 rekey_late LayoutDiffers = tt
 rekey_late (RekeyTag page) = refl
@@ -129,21 +128,19 @@ rekey_late RekeyDisk = tt
 rekey_late RekeyEntropy = tt
 rekey_late RekeyMemory = tt
 
-pub rekey_disk : (error : RekeyError) → rekey_error error ≡ Stopped StopDisk → error ≡ RekeyDisk
-rekey_disk LayoutDiffers is = cc
-rekey_disk (RekeyTag page) is = cc
-rekey_disk (RekeyDefect defect) is = cc
-rekey_disk RekeyDisk is = refl
-rekey_disk RekeyEntropy is = cc
-rekey_disk RekeyMemory is = cc
+-- the layouts do not differ
+pub same_laid : (read write : FileKeys) → write.profile.page_size ≡ read.profile.page_size → write.profile.reserve ≡ read.profile.reserve → write.salt ≡ read.salt
+    → same_layout read write ≡ true
+same_laid read write sizes reserves salts =
+    all_three (read.profile.page_size == write.profile.page_size) (read.profile.reserve == write.profile.reserve) (bytes_eq read.salt write.salt)
+    (equal read.profile.page_size write.profile.page_size (sym sizes)) (equal read.profile.reserve write.profile.reserve (sym reserves))
+    ((bytes_eq-Decides read.salt write.salt).1 (sym salts))
+  where
+    equal : (a b : ℕ) → a ≡ b → (a == b) ≡ true
+    equal a b is = search (rules, is)
 
-pub rekey_entropy : (error : RekeyError) → rekey_error error ≡ EntropyFails → error ≡ RekeyEntropy
-rekey_entropy LayoutDiffers is = cc
-rekey_entropy (RekeyTag page) is = cc
-rekey_entropy (RekeyDefect defect) is = cc
-rekey_entropy RekeyDisk is = cc
-rekey_entropy RekeyEntropy is = refl
-rekey_entropy RekeyMemory is = cc
+    all_three : (a b d : Bool) → a ≡ true → b ≡ true → d ≡ true → (a && b && d) ≡ true
+    all_three a b d one two three = search (rules, one, two, three)
 
 -- ---- the database
 
@@ -180,9 +177,6 @@ main_there keys files n sized is = by_file files.main (omega (arith, sized, long
         → keys.profile.page_size ≤ length (main_of files)
     long true less is = cc
     long false less is = no_less (length (main_of files)) keys.profile.page_size less
-      where
-        no_less : (a b : ℕ) → nat_lt a b ≡ false → b ≤ a
-        no_less a b is = search rules
 
     by_file : (o : Option File) → 1 ≤ length (unwrap_or (bytes_of o) []) → bytes_of o ≡ Some (unwrap_or (bytes_of o) [])
     by_file None some = absurd (omega (arith, some))

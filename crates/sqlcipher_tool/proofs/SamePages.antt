@@ -22,9 +22,7 @@ use Rattle.schema_map.proofs.SoundParts.{free}
 use Rattle.export_rows.proofs.Zeros.{content_alike, no_free_leaf, zeros_content}
 use Rattle.sqlcipher_tool.specs.Plain.{HaveSamePages, IsSameInUse, Opens}
 use Rattle.sqlcipher_tool.proofs.Verified.{some_is}
-
-le_is : (a b : ℕ) → nat_le a b ≡ true → a ≤ b
-le_is a b h = grind arith
+use Rattle.sqlcipher_tool.proofs.Numbers.{true_le}
 
 -- the parts are the same over pages that differ at leaves alone
 pub in_use_same : (old new : Pages) → is_sound (freelist_walk old nothing) ≡ true → IsSameInUse old new → parts new ≡ parts old
@@ -102,8 +100,8 @@ module _ (count : ℕ) (old_keys new_keys : FileKeys) (old new : List ℕ) (same
   by_number : (n : ℕ) (b : Bool) → is_number count n ≡ b → is_leaf before n ≡ false → plain new_keys new count n ≡ before.page n
   unfolding plain
   by_number n true is none =
-      let low : 1 ≤ n = le_is 1 n (and_left (nat_le 1 n) (nat_le n count) is) in
-      let high : n ≤ count = le_is n count (and_right (nat_le 1 n) (nat_le n count) is) in
+      let low : 1 ≤ n = true_le 1 n (and_left (nat_le 1 n) (nat_le n count) is) in
+      let high : n ≤ count = true_le n count (and_right (nat_le 1 n) (nat_le n count) is) in
       ap (λ b. if b then (with_zeros after).page n else []) is
       ∙ plain_at n low high
       ∙ ap (λ b. if b then replicate before.usable 0 else before.page n) none

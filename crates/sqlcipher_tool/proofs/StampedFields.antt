@@ -14,6 +14,7 @@ use Rattle.db_format.specs.declared.count.CountRefusal.TheVariants.{Ragged, TooL
 use Rattle.db_format.specs.declared.header.Header.{Header}
 use Rattle.db_format.specs.declared.header.HeaderRefusal.{HeaderRefusal}
 use Rattle.sqlcipher_tool.specs.Stamp.{with_field}
+use Rattle.sqlcipher_tool.proofs.Numbers.{no_more}
 
 -- ---- one field
 
@@ -97,9 +98,6 @@ counted_by h len count some size same small there =
     let there_is : nat_lt len (page_count h len * h.page_size) ≡ false = rw pages (no_more len (count * h.page_size) there) in
     unbroken _ _ _ (Ragged len) (TooLarge (page_count h len)) (Short len) (page_count h len) ragged small_is there_is ∙ ap (λ (n : ℕ). Ok n) pages
   where
-    no_more : (a b : ℕ) → b ≤ a → nat_lt a b ≡ false
-    no_more a b le = search (rules, le)
-
     size_is : (h : Header) (count : ℕ) → 1 ≤ count → h.size_field ≡ count → h.change ≡ h.valid_for → size_counts h ≡ true
     size_is h count some size same = search (rules, some, size, same)
 

@@ -1,24 +1,26 @@
 -- What a transaction leaves that changed page 1 to the stamped one.
 use Rattle.std.proofs.Common.{◌≡◌, ◌⊎◌, ⊎_elim, ◌==◌, ◌≤◌, ◌<◌, ◌+◌, ◌-◌, ◌*◌, ◌^◌, ◌++◌, ℕ, suc, zero, Bool, true, false, IsTrue, List, length, take, drop, Some, Result, Ok, sym, ap, subst, ◌∙◌, arith, rules, length-append, length-take, length-drop}
-use Rattle.std.specs.Prelude.{unwrap_or}
-use Rattle.std.proofs.lemmas.List.{take-append-le, take-take, take_all}
+use Rattle.std.proofs.lemmas.List.{take-take, length-take-le}
+use Rattle.std.specs.Cmp.Derive.{both_true}
 use Rattle.cipher_profile.specs.Profile.{usable}
 use Rattle.db_format.specs.Bytes.{u32_at}
 use Rattle.db_format.specs.Count.{count_of_pages, largest_database}
 use Rattle.db_format.specs.Header.{header_fields, header_read}
 use Rattle.db_format.specs.declared.header.Header.{Header}
 use Rattle.db_format.specs.declared.header.HeaderRefusal.{HeaderRefusal}
-use Rattle.page_codec.specs.Page.{FileKeys, opened, salt_of, sealed, tag, untagged}
+use Rattle.page_codec.specs.Page.{FileKeys, opened, salt_of}
 use Rattle.pager.specs.Database.{count_by, counted, ok_count}
 use Rattle.pager.specs.File.{page_stored}
 use Rattle.pager.specs.Pages.{is_number}
 use Rattle.pager.specs.UnderWay.{HasNewPages}
-use Rattle.sqlcipher_tool.specs.Draws.{FileDraws}
+use Rattle.pager.proofs.BatchLemmas.{number_is}
+use Rattle.rekey_job.proofs.Salt.{salt_stands}
+use Rattle.rekey_job.specs.Draws.{FileDraws}
 use Rattle.sqlcipher_tool.specs.Stamp.{IsStamped, field_at, next_change, stamped_page, with_field}
 use Rattle.sqlcipher_tool.specs.declared.command.Field.{Field}
 use Rattle.sqlcipher_tool.specs.declared.command.Field.TheVariants.{UserVersion, ApplicationId}
 use Rattle.sqlcipher_tool.proofs.Databases.{counted_pages, start_of}
-use Rattle.sqlcipher_tool.proofs.FileDraws.{both, file_draws, number_is}
+use Rattle.sqlcipher_tool.proofs.FileDraws.{file_draws}
 use Rattle.sqlcipher_tool.proofs.OpenedParts.{IsOpen, header_size, open_count}
 use Rattle.sqlcipher_tool.proofs.StampedFields.{stamped_count, stamped_read}
 
@@ -110,41 +112,11 @@ all_long keys n file main some sized within first others = ⊎_elim
       length-drop ((n - 1) * keys.profile.page_size) main,
     )
 
--- ---- the salt
-
-page_first : (salt text draw : List ℕ) → length salt ≡ 16 → (take 16 ((take 16 salt ++ text) ++ draw) ≡ salt) × (16 ≤ length ((take 16 salt ++ text) ++ draw))
-page_first salt text draw long =
-    let head : 16 ≤ length (take 16 salt) = omega (arith, long, length-take 16 salt) in
-    let more : 16 ≤ length (take 16 salt ++ text) = omega (arith, head, length-append (take 16 salt) text) in (
-      take-append-le 16 (take 16 salt ++ text) draw more
-          ∙ (take-append-le 16 (take 16 salt) text head ∙ (take-take 16 16 salt (omega arith) ∙ take_all 16 salt (omega (arith, long)))),
-      omega (arith, more, length-append (take 16 salt ++ text) draw),
-    )
-
-untagged_first : (keys : FileKeys) (plain draw : List ℕ) → length keys.salt ≡ 16
-    → (take 16 (untagged keys 1 plain draw) ≡ keys.salt) × (16 ≤ length (untagged keys 1 plain draw))
-unfolding untagged
-untagged_first keys plain draw long = page_first keys.salt _ draw long
-
-behind_first : (page tag rest : List ℕ) (u : ℕ) → 16 ≤ u → 16 ≤ length page → take 16 ((take u page ++ tag) ++ rest) ≡ take 16 page
-behind_first page tag rest u le long =
-    let head : 16 ≤ length (take u page) = omega (arith, le, long, length-take u page) in
-    take-append-le 16 (take u page ++ tag) rest (omega (arith, head, length-append (take u page) tag))
-    ∙ (take-append-le 16 (take u page) tag head ∙ take-take 16 u page le)
-
--- a sealed page 1 begins with the salt
-pub salt_stands : (keys : FileKeys) (plain draw : List ℕ) → length keys.salt ≡ 16 → take 16 (sealed keys 1 plain draw) ≡ keys.salt
-unfolding sealed
-salt_stands keys plain draw long =
-    let page = untagged keys 1 plain draw in
-    let first = untagged_first keys plain draw long in
-    behind_first page (tag keys 1 page) (drop (usable keys.profile + 16 + keys.profile.tag_len) page) (usable keys.profile + 16) (omega arith) first.1 ∙ first.0
-
 -- ---- the stamped file
 
 -- A file that opens, and what a transaction leaves of it that changed page 1 alone, to this page.
 module _ (keys : FileKeys) (field : Field) (value n : ℕ) (file : List ℕ) (header : Header) (is_open : IsOpen keys file header n) (some : 1 ≤ n)
-    (salt : length keys.salt ≡ 16) (room : 120 ≤ usable keys.profile)
+    (salt : keys.salt ≡ salt_of file) (room : 120 ≤ usable keys.profile)
     (touched : ℕ → Bool) (pages : ℕ → List ℕ) (tells : Bool) (before after main : List ℕ)
     (is_page : pages 1 ≡ stamped_page field value n (opened keys 1 (page_stored keys file 1)))
     (alone : (m : ℕ) → is_number n m ≡ true → touched m ≡ (m == 1))
@@ -214,22 +186,26 @@ module _ (keys : FileKeys) (field : Field) (value n : ℕ) (file : List ℕ) (he
   pub new_long : n * keys.profile.page_size ≤ length main
   new_long = all_long keys n file main some (omega (arith, size_some)) within (new.whole 1 numbered is_touched) others
 
+  salt_long : length keys.salt ≡ 16
+  salt_long = ap length salt ∙ length-take-le 16 file (omega (arith, is_open.long, size_some))
+
+  same_salt : salt_of main ≡ keys.salt
+  same_salt =
+      let one = new.own.is_sealed 1 (both_true numbered is_touched) in
+      sym (take-take 16 keys.profile.page_size main (omega (arith, size_some)))
+      ∙ (ap (λ (at : ℕ). take 16 (take keys.profile.page_size (drop at main))) {x = 0} {y = (1 - 1) * keys.profile.page_size} (omega arith)
+      ∙ (ap (λ (l : List ℕ). take 16 l) one ∙ salt_stands keys (pages 1) _ salt_long))
+
   pub is_stamped : IsStamped keys field value file main
   is_stamped = record {
     count = n;
     was = open_count keys file header n is_open;
     is = new_count (length main) new_long;
+    salt = same_salt ∙ salt;
     first = first_opened;
     accepted = new.accepted 1 numbered is_touched;
     others = others;
   }
-
-  pub same_salt : salt_of main ≡ keys.salt
-  same_salt =
-      let one = new.own.is_sealed 1 (both (is_number n 1) (touched 1) numbered is_touched) in
-      sym (take-take 16 keys.profile.page_size main (omega (arith, size_some)))
-      ∙ (ap (λ (at : ℕ). take 16 (take keys.profile.page_size (drop at main))) {x = 0} {y = (1 - 1) * keys.profile.page_size} (omega arith)
-      ∙ (ap (λ (l : List ℕ). take 16 l) one ∙ salt_stands keys (pages 1) _ salt))
 
   -- its page 1 has bytes of its own of those that were drawn
   pub own_draws : IsTrue tells → FileDraws keys main (λ m. m == 1) 0 (drop (length before) after)

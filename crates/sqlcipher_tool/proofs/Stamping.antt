@@ -1,6 +1,8 @@
 -- A transaction that stamps page 1, as its disk shows it.
 use Rattle.std.proofs.Common.{◌≡◌, ◌≤◌, ◌*◌, ℕ, Bool, List, [], length, drop, Option, Some, None, Result, Ok, Err, IsTrue, refl, sym, ap, subst, ◌∙◌, arith, rules}
-use Rattle.std.specs.Prelude.{OnOk, unwrap_or, if◌then◌else◌, ◌&&◌, ◌||◌, ◌==◌, true, false}
+use Rattle.std.specs.Prelude.{OnOk, if◌then◌else◌, ◌&&◌, ◌==◌, true, false}
+use Rattle.std.specs.Str.{bytes_eq}
+use Rattle.std.proofs.lemmas.Slice.Eq.{bytes_eq-Decides}
 use Rattle.disk_side.specs.Published.{IsNew as IsAlone}
 use Rattle.cipher_profile.specs.Profile.{IsListed, usable}
 use Rattle.cipher_profile.specs.declared.profile.Profile.{Profile}
@@ -9,12 +11,13 @@ use Rattle.edge_model.specs.Files.{File, Files, bytes_of}
 use Rattle.edge_model.specs.Images.{Each, LeavesOnly}
 use Rattle.edge_model.specs.Moments.{and_then, started, weaker}
 use Rattle.db_format.specs.Pages.{Pages}
-use Rattle.page_cache.specs.Pages.{Page, is_held}
+use Rattle.page_cache.specs.Pages.{Page}
 use Rattle.cipher_profile.specs.Keys.{page_keys}
 use Rattle.cipher_profile.specs.declared.keys.Secret.{Secret}
 use Rattle.edge_model.specs.Causes.{Rose}
 use Rattle.page_codec.specs.Page.{FileKeys, accepts, keys_of, opened, salt_of}
 use Rattle.pager.specs.Base.{base_of}
+use Rattle.pager.specs.Changed.{same_layout}
 use Rattle.pager.specs.Database.{count_by, count_of}
 use Rattle.pager.specs.File.{main_of, page_stored}
 use Rattle.pager.specs.Opening.{file_opened}
@@ -25,33 +28,26 @@ use Rattle.pager.specs.declared.fill.PageError.{PageError}
 use Rattle.pager.specs.declared.fill.PageError.TheVariants.{OutOfRange, TagRefused, DiskFault as PageFault, EntropyFault as DrawFault, AllPinned}
 use Rattle.rollback_journal.specs.Playing.{contents, main_of as read_main}
 use Rattle.transaction.specs.Commit.{IsCommitted, LeavesChanged}
-use Rattle.pager.specs.UnderWay.{HasNewPages, Start, is_touched, seen_pages}
+use Rattle.pager.specs.UnderWay.{HasNewPages, Start, is_touched, seen_pages, IsRefusedAs}
+use Rattle.pager.proofs.UnderWayLemmas.{same_main}
 use Rattle.transaction.specs.Database.{Base, HoldsEither, HoldsOld, HoldsOnly as HoldsPages, stored_pages}
 use Rattle.transaction.specs.Facts.{IsBase, IsBegun}
 use Rattle.transaction.specs.Marks.{is_marked}
 use Rattle.sqlcipher_tool.specs.Answer.{IsFault}
-use Rattle.sqlcipher_tool.specs.Change.{Commits, IsLateChange, KeepsOld, KeepsOrCommits, change_status, page_error, stop_status}
+use Rattle.sqlcipher_tool.specs.Change.{Commits, IsLateChange, KeepsOld, KeepsOrCommits, change_status, IsStopOf}
 use Rattle.sqlcipher_tool.specs.Stop.{IsLate, stop_of}
-use Rattle.sqlcipher_tool.specs.Draws.{FileDraws}
+use Rattle.rekey_job.specs.Draws.{FileDraws}
 use Rattle.sqlcipher_tool.specs.Holding.{HoldsOnly, held_by}
 use Rattle.sqlcipher_tool.specs.Stamp.{IsStamped, field_at, next_change, stamped_page, with_field}
 use Rattle.sqlcipher_tool.specs.declared.command.Field.{Field}
-use Rattle.sqlcipher_tool.specs.declared.opening.ChangeError.TheVariants.{Stopped, EntropyFault as EntropyFails}
-use Rattle.sqlcipher_tool.specs.declared.opening.Stop.{Stop}
-use Rattle.sqlcipher_tool.specs.declared.opening.Stop.TheVariants.{Refused as StopRefused, KeyRefused as StopKey, DiskFault as StopDisk, OutOfMemory as StopMemory}
+use Rattle.sqlcipher_tool.specs.declared.opening.Stop.TheVariants.{DiskFault as StopDisk}
+use Rattle.sqlcipher_tool.specs.declared.opening.ChangeError.{ChangeError}
 use Rattle.sqlcipher_tool.specs.declared.status.Status.{Status}
 use Rattle.sqlcipher_tool.specs.declared.status.Status.TheVariants.{Done, DiskFault}
 use Rattle.sqlcipher_tool.proofs.Changing.{broken, committed}
 use Rattle.sqlcipher_tool.proofs.Databases.{alone_old, any_base, counted_pages, holds_new, holds_old, is_base, start_of, whole_count}
 use Rattle.sqlcipher_tool.proofs.OpenedParts.{IsOpen, header_size, open_accepts, open_count, open_parts}
-use Rattle.sqlcipher_tool.proofs.StampedPages.{is_stamped, new_count, new_long, own_draws, same_salt, count_read}
-
-pub main_same : (files : Files) → main_of files ≡ read_main files
-main_same files = by_file files.main
-  where
-    by_file : (o : Option File) → unwrap_or (bytes_of o) [] ≡ contents o
-    by_file None = refl
-    by_file (Some file) = refl
+use Rattle.sqlcipher_tool.proofs.StampedPages.{is_stamped, new_count, new_long, own_draws, count_read}
 
 -- what holds where a call was done
 pub was_ok : {A E : Type 0} {P : Type 0} (r : Result A E) (a : A) → r ≡ Ok a → OnOk r P → P
@@ -121,18 +117,6 @@ sees_first keys read write file main header n count marks held one two three fre
           ∙ (ap (λ (b : Bool). b && accepts keys 1 (page_stored keys file 1)) (one_number n some) ∙ open_accepts keys file header n (open_parts keys file header n opens));
     }
 
--- a changed page is accepted, as the transaction sees it
-pub sees_changed : (read write : FileKeys) (file : List ℕ) (count n : ℕ) (marks : List Bool) (held : List Page) → is_number count n ≡ true → is_touched marks held n ≡ true
-    → (is_marked n marks ≡ true → accepts write n (page_stored write file n) ≡ true) → (seen_pages read write file count marks held).accepts n ≡ true
-sees_changed read write file count n marks held num is accepted =
-    (elim (is_held n held) as (λ b. (b || is_marked n marks) ≡ true → (b || (opened_pages (if is_marked n marks then write else read) file count).accepts n) ≡ true) [
-      | true ↦ λ t. refl
-      | false ↦ λ t. by_mark (is_marked n marks) t (accepted t)
-    ]) is
-  where
-    by_mark : (b : Bool) → b ≡ true → accepts write n (page_stored write file n) ≡ true → (opened_pages (if b then write else read) file count).accepts n ≡ true
-    by_mark b is here = ap (λ (b : Bool). (opened_pages (if b then write else read) file count).accepts n) is ∙ (ap (λ (b : Bool). b && accepts write n (page_stored write file n)) num ∙ here)
-
 -- the page that is written is the stamped one
 pub page_is : (keys : FileKeys) (file seen : List ℕ) (header fields : Header) (n pages change : ℕ) (field : Field) (value : ℕ)
     → file_opened keys file ≡ Ok (record { header = header; count = n }) → seen ≡ opened keys 1 (page_stored keys file 1) → fields ≡ header → change ≡ next_change fields.change → pages ≡ n
@@ -149,48 +133,44 @@ page_is keys file seen header fields n pages change field value opens first same
     next = is ∙ ap (λ (h : Header). next_change h.change)
         (same ∙ sym (header_size plain keys.profile.page_size keys.profile.reserve header (open_parts keys file header n opens).read).0)
 
-pub page_faults : (error : PageError) → ((page : ℕ) → error ≡ TagRefused page → ⊥) → IsFault (change_status (Err (page_error error)))
-page_faults OutOfRange never = tt
-page_faults (TagRefused page) never = absurd (never page refl)
-page_faults PageFault never = tt
-page_faults DrawFault never = tt
-page_faults AllPinned never = tt
+pub differ : true ≡ false → ⊥
+differ is = cc
 
-pub page_late : (error : PageError) → IsLateChange (page_error error)
-page_late OutOfRange = tt
-page_late (TagRefused page) = refl
-page_late PageFault = tt
-page_late DrawFault = tt
-page_late AllPinned = tt
+-- where page 1 is accepted, it is refused by a fault
+pub page_faults : (tells : Bool) (seen : Pages) (a b d e : ℕ) (error : PageError) (stop : ChangeError) → IsRefusedAs tells seen 1 a b d e error → IsStopOf error stop
+    → IsTrue tells → seen.accepts 1 ≡ true → IsFault (change_status (Err stop))
+page_faults tells seen a b d e OutOfRange stop was is told accepted = absurd is
+page_faults tells seen a b d e (TagRefused page) stop was is told accepted = absurd (differ (sym accepted ∙ was.2 told))
+page_faults tells seen a b d e PageFault stop was is told accepted = subst (λ (s : ChangeError). IsFault (change_status (Err s))) (sym is) tt
+page_faults tells seen a b d e DrawFault stop was is told accepted = subst (λ (s : ChangeError). IsFault (change_status (Err s))) (sym is) tt
+page_faults tells seen a b d e AllPinned stop was is told accepted = absurd is
 
-pub page_not_done : (error : PageError) → change_status (Err (page_error error)) ≡ Done → ⊥
-page_not_done OutOfRange is = cc
-page_not_done (TagRefused page) is = cc
-page_not_done PageFault is = cc
-page_not_done DrawFault is = cc
-page_not_done AllPinned is = cc
+pub page_late : (error : PageError) (stop : ChangeError) → IsStopOf error stop → IsLateChange stop
+page_late OutOfRange stop is = absurd is
+page_late (TagRefused page) stop is = subst IsLateChange (sym is) refl
+page_late PageFault stop is = subst IsLateChange (sym is) tt
+page_late DrawFault stop is = subst IsLateChange (sym is) tt
+page_late AllPinned stop is = absurd is
 
-pub page_disk : (error : PageError) → page_error error ≡ Stopped StopDisk → error ≡ PageFault
-page_disk OutOfRange is = cc
-page_disk (TagRefused page) is = cc
-page_disk PageFault is = refl
-page_disk DrawFault is = cc
-page_disk AllPinned is = cc
+-- what refuses page 1 after an earlier change of it
+pub refused_later : (tells : Bool) (first now : Pages) (a b d e f h : ℕ) (error : PageError) → now.count ≡ first.count → (IsTrue tells → now.accepts 1 ≡ true) → a ≤ b → e ≤ f
+    → IsRefusedAs tells now 1 b d f h error → IsRefusedAs tells first 1 a d e h error
+refused_later tells first now a b d e f h OutOfRange same accepted disk entropy was = subst (λ (k : ℕ). is_number k 1 ≡ false) same was
+refused_later tells first now a b d e f h (TagRefused page) same accepted disk entropy was =
+    (subst (λ (k : ℕ). is_number k 1 ≡ true) same was.0, was.1, λ told. absurd (differ (sym (accepted told) ∙ was.2 told)))
+refused_later tells first now a b d e f h PageFault same accepted disk entropy was = omega (arith, disk, was)
+refused_later tells first now a b d e f h DrawFault same accepted disk entropy was = omega (arith, entropy, was)
+refused_later tells first now a b d e f h AllPinned same accepted disk entropy was = was
 
-pub page_entropy : (error : PageError) → page_error error ≡ EntropyFails → error ≡ DrawFault
-page_entropy OutOfRange is = cc
-page_entropy (TagRefused page) is = cc
-page_entropy PageFault is = cc
-page_entropy DrawFault is = refl
-page_entropy AllPinned is = cc
+-- a codec has the layout of itself
+pub layout_same : (keys : FileKeys) → same_layout keys keys ≡ true
+layout_same keys = parts (keys.profile.page_size == keys.profile.page_size) (keys.profile.reserve == keys.profile.reserve) (bytes_eq keys.salt keys.salt)
+    (search rules) (search rules) ((bytes_eq-Decides keys.salt keys.salt).1 refl)
+  where
+    parts : (a b d : Bool) → a ≡ true → b ≡ true → d ≡ true → (a && b && d) ≡ true
+    parts a b d one two three = search (rules, one, two, three)
 
 -- ---- a file that does not open
-
-pub stop_not_done : (stop : Stop) → stop_status stop ≡ Done → ⊥
-stop_not_done (StopRefused refusal) is = cc
-stop_not_done StopKey is = cc
-stop_not_done StopDisk is = cc
-stop_not_done StopMemory is = cc
 
 pub stop_late : (error : OpenError) → IsLate (stop_of error)
 stop_late IsEmpty = refl
@@ -280,7 +260,7 @@ module _ {D : Type 0} (reads : D → Files) (images : D → Files → Type 0) (m
         (touched : ℕ → Bool) (pages : ℕ → List ℕ) (tells : Bool) (after : List ℕ)
         (is_page : pages 1 ≡ stamped_page field value n (opened keys 1 (page_stored keys file 1))) (one : (m : ℕ) → is_number n m ≡ true → touched m ≡ (m == 1)) where
       abbrev pub IsNew : List ℕ → Type 0
-      IsNew main = IsStamped keys field value file main × (salt_of main ≡ keys.salt)
+      IsNew main = IsStamped keys field value file main
 
       abbrev pub HasNew : List ℕ → Type 0
       HasNew main = HasNewPages start keys touched pages tells after main
@@ -291,24 +271,18 @@ module _ {D : Type 0} (reads : D → Files) (images : D → Files → Type 0) (m
       size_some : 120 ≤ keys.profile.page_size
       size_some = search (rules, listed)
 
-      salt_long : length keys.salt ≡ 16
-      salt_long = ap length salt ∙ Rattle.std.proofs.lemmas.List.length-take-le 16 file (omega (arith, parts.long, size_some))
-
       as_file : (main : List ℕ) → HasNew main → HasNewPages (start_of keys file n start.drawn) keys touched pages tells after main
       as_file main has = subst (λ (b : Base). HasNewPages (record { base = b; drawn = start.drawn }) keys touched pages tells after main) is_start has
 
       is_new : (main : List ℕ) → HasNew main → IsNew main
-      is_new main has = (
-        is_stamped keys field value n file header parts some salt_long room touched pages tells start.drawn after main is_page one (as_file main has),
-        same_salt keys field value n file header parts some salt_long room touched pages tells start.drawn after main is_page one (as_file main has),
-      )
+      is_new main has = is_stamped keys field value n file header parts some salt room touched pages tells start.drawn after main is_page one (as_file main has)
 
       is_long : (main : List ℕ) → HasNew main → n * keys.profile.page_size ≤ length main
-      is_long main has = new_long keys field value n file header parts some salt_long room touched pages tells start.drawn after main is_page one (as_file main has)
+      is_long main has = new_long keys field value n file header parts some salt room touched pages tells start.drawn after main is_page one (as_file main has)
 
       holds : (main : List ℕ) → HasNew main → (image : Files) → HoldsPages start.base (stored_pages start.base.size start.base.pages main) image → New main image
       holds main has image is =
-          holds_new keys file main n image some (new_count keys field value n file header parts some salt_long room touched pages tells start.drawn after main is_page one (as_file main has)) (is_long main has)
+          holds_new keys file main n image some (new_count keys field value n file header parts some salt room touched pages tells start.drawn after main is_page one (as_file main has)) (is_long main has)
           (subst (λ (b : Base). HoldsPages b (stored_pages b.size b.pages main) image) is_start is)
 
       -- the commit was done
@@ -330,5 +304,5 @@ module _ {D : Type 0} (reads : D → Files) (images : D → Files → Type 0) (m
       failed run = broken reads images moment since counts_now only_now start.base HasNew was_old is_new holds before run
 
       pub draws : IsTrue tells → HasNew (read_main (reads new)) → FileDraws keys (main_of (reads new)) (λ m. m == 1) 0 (drop (length start.drawn) after)
-      draws told has = subst (λ (l : List ℕ). FileDraws keys l (λ m. m == 1) 0 (drop (length start.drawn) after)) (sym (main_same (reads new)))
-          (own_draws keys field value n file header parts some salt_long room touched pages tells start.drawn after (read_main (reads new)) is_page one (as_file (read_main (reads new)) has) told)
+      draws told has = subst (λ (l : List ℕ). FileDraws keys l (λ m. m == 1) 0 (drop (length start.drawn) after)) (sym (same_main (reads new)))
+          (own_draws keys field value n file header parts some salt room touched pages tells start.drawn after (read_main (reads new)) is_page one (as_file (read_main (reads new)) has) told)

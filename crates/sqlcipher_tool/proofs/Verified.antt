@@ -1,17 +1,16 @@
 -- What `verify` answers, by what its walk came to and which tags hold.
 use Rattle.std.proofs.Common.{◌≡◌, ◌⊎◌, ⊎_elim, inl, inr, ℕ, zero, suc, ◌+◌, ◌<◌, ◌&&◌, not, Bool, true, false, IsTrue, List, [], ◌∷◌, ◌++◌, length, map, Option, Some, None, Result, Ok, Err, unwrap_or, if◌then◌else◌, refl, sym, ap, ◌∙◌, subst, arith, append-nil}
-use Rattle.std.specs.Prelude.{count_by, filter, slice_get, slice_index_or}
+use Rattle.std.specs.Prelude.{filter, slice_get, slice_index_or}
 use Rattle.std.specs.Option.{option_or}
-use Rattle.std.specs.List.{Contains, list_all, range_with_len}
+use Rattle.std.specs.List.{Contains, list_all}
 use Rattle.std.proofs.lemmas.List.Elements.{filter-append}
-use Rattle.std.proofs.lemmas.List.Sums.{sum_by-cons}
 use Rattle.std.proofs.Math.Path.{fun_ext}
 use Rattle.std.proofs.Math.Bool.{or-false}
 use Rattle.std.proofs.lemmas.List.Elements.{Contains-append_left, Contains-append_right}
 use Rattle.db_format.specs.Pages.{Pages, Test, nothing, also}
 use Rattle.db_format.specs.Seen.{marked}
 use Rattle.db_format.specs.declared.defect.Defect.{Defect}
-use Rattle.btree_model.specs.Finding.{Finding, place, leaf, entry, key, fault, refused as unread, faults, is_sound, leaves, refusals}
+use Rattle.btree_model.specs.Finding.{Finding, faults, is_sound, leaves, refusals}
 use Rattle.btree_model.specs.Freelist.{freelist_walk}
 use Rattle.btree_model.specs.Parts.{Counts, all_places, counts, first_faults, first_refusals, is_database, parts}
 use Rattle.btree_model.specs.Plain.{is_leaf}
@@ -21,14 +20,7 @@ use Rattle.btree_model.proofs.PlainLemmas.{leaf_is}
 use Rattle.btree_model.proofs.UnmarkedLemmas.{and_left}
 use Rattle.btree_walk.specs.declared.error.WalkError.{WalkError}
 use Rattle.btree_walk.specs.declared.error.WalkError.TheVariants.{Defect as Found, Source, OutOfMemory as MemoryEnds}
-use Rattle.edge_model.specs.Files.{Files}
-use Rattle.page_codec.specs.Page.{FileKeys}
 use Rattle.pager.specs.Causes.{MayRefuse}
-use Rattle.pager.specs.File.{main_of}
-use Rattle.db_format.specs.Source.{no_pins}
-use Rattle.page_cache.specs.Pages.{Page}
-use Rattle.pager.specs.Held.{pins_of}
-use Rattle.pager.specs.Pages.{opened_pages}
 use Rattle.space_map.specs.FreeMap.{FreePages}
 use Rattle.pager.specs.declared.fill.PageError.{PageError}
 use Rattle.pager.specs.declared.fill.PageError.TheVariants.{OutOfRange, TagRefused, DiskFault as PageFault, EntropyFault as DrawFault, AllPinned}
@@ -43,7 +35,9 @@ use Rattle.sqlcipher_tool.specs.Walked.{walk_refusal, walk_stop}
 use Rattle.schema_map.specs.Census.{IsWhole}
 use Rattle.schema_map.specs.Parts.{IsEarliest}
 use Rattle.schema_map.specs.declared.counts.Census.{Census}
+use Rattle.schema_map.proofs.SoundParts.{sound_faults, sound_refusals}
 use Rattle.space_map.specs.Walk.{IsFirst}
+use Rattle.rekey_job.proofs.Checked.{none_counted, not_not}
 use Rattle.sqlcipher_tool.specs.declared.opening.Stop.{Stop}
 use Rattle.sqlcipher_tool.specs.declared.opening.Stop.TheVariants.{Refused as StopRefused, KeyRefused as StopKey, DiskFault as StopDisk, OutOfMemory as StopMemory}
 use Rattle.sqlcipher_tool.specs.declared.status.Refusal.{Refusal}
@@ -112,32 +106,13 @@ pub rest_due : (pages : Pages) (last answer : Answer)
     → Contains (stop_answers (first_faults (parts pages)) (first_refusals (parts pages))) answer → Contains (parts_answers pages last) answer
 rest_due pages last answer h = else_left (stop_answers (first_faults (parts pages)) (first_refusals (parts pages))) (last ∷ []) answer h
 
--- findings without a defect
-no_faults : (found : List Finding) → is_sound found ≡ true → faults found ≡ []
-no_faults [] sound = refl
-no_faults (place n ∷ rest) sound = no_faults rest sound
-no_faults (leaf n ∷ rest) sound = no_faults rest sound
-no_faults (entry row ∷ rest) sound = no_faults rest sound
-no_faults (key k ∷ rest) sound = no_faults rest sound
-no_faults (fault d ∷ rest) sound = cc
-no_faults (unread n ∷ rest) sound = cc
-
-no_refusals : (found : List Finding) → is_sound found ≡ true → refusals found ≡ []
-no_refusals [] sound = refl
-no_refusals (place n ∷ rest) sound = no_refusals rest sound
-no_refusals (leaf n ∷ rest) sound = no_refusals rest sound
-no_refusals (entry row ∷ rest) sound = no_refusals rest sound
-no_refusals (key k ∷ rest) sound = no_refusals rest sound
-no_refusals (fault d ∷ rest) sound = cc
-no_refusals (unread n ∷ rest) sound = cc
-
 -- the freelist has none: the tags are next
 pub tags_next : (pages : Pages) → is_sound (freelist_walk pages nothing) ≡ true → pages_answers pages ≡ tags_or (refused_in_use pages) (rest_answers pages)
 tags_next pages sound =
     let found = freelist_walk pages nothing in
     let later = tags_or (refused_in_use pages) (rest_answers pages) in
-    ap (λ l. else_answers (stop_answers l (refusals found)) later) (no_faults found sound)
-    ∙ ap (λ l. else_answers (stop_answers [] l) later) (no_refusals found sound)
+    ap (λ l. else_answers (stop_answers l (refusals found)) later) (sound_faults found sound)
+    ∙ ap (λ l. else_answers (stop_answers [] l) later) (sound_refusals found sound)
 
 -- parts without a defect
 first_or : {X : Type 0} (sound all : Bool) (rest found : List X) → (all ≡ true → rest ≡ []) → (sound && all) ≡ true → (if sound then rest else found) ≡ []
@@ -176,11 +151,6 @@ disk_one : (answers : List Answer) (tells : Bool) (before after : List ℕ) → 
 disk_one answers tells before after some same =
     let due = first_due answers some in
     record { answer = due.0; is_due = due.1; answered = inr tt; puts = λ printed. no_part due.0.begun before after same }
-
-output_one : (answers : List Answer) (tells : Bool) (before after : List ℕ) → 0 < length answers → after ≡ before → AnswersOne answers OutputFault tells before after
-output_one answers tells before after some same =
-    let due = first_due answers some in
-    record { answer = due.0; is_due = due.1; answered = inr tt; puts = λ printed. no_part due.0.text before after same }
 
 pub memory_one : (answers : List Answer) (tells : Bool) (before after : List ℕ) → 0 < length answers → after ≡ before → AnswersOne answers OutOfMemory tells before after
 memory_one answers tells before after some same =
@@ -250,12 +220,6 @@ pub hold_next : (answers rest : List Answer) (pages : List ℕ) → answers ≡ 
 hold_next answers rest pages due none = due ∙ ap (λ l. tags_or l rest) (none_empty pages none)
 
 -- ---- the pages of a file that is only read
-
-pub pages_same : (keys keys' : FileKeys) (files files' : Files) (count count' : ℕ) → keys' ≡ keys → files' ≡ files → count' ≡ count
-    → opened_pages keys' (main_of files') count' ≡ opened_pages keys (main_of files) count
-pages_same keys keys' files files' count count' same_keys same_files same_count =
-    ap (λ k. opened_pages k (main_of files') count') same_keys ∙ ap (λ f. opened_pages keys (main_of f) count') same_files
-    ∙ ap (λ c. opened_pages keys (main_of files) c) same_count
 
 -- the lines so far, and after a fault of the output a part of the next
 pub part_of_stop : (test : Test) (n count : ℕ) → n < count → (status : Status) → IsStopped status → (before mid after : List ℕ)
@@ -342,30 +306,12 @@ report_due pages census whole hold =
     subst (λ l. Contains l (done (verify_report (counted census)))) (sym (whole_due pages (done (verify_report (counts pages))) whole.sound) ∙ sym hold)
     (0, omega arith, ap (λ n. done (verify_report n)) (sym (counts_are pages census whole)))
 
--- no page is unused: none meets the test
-by_first : (test : Test) (from n : ℕ) → ((i : ℕ) → i < n → count_by test (range_with_len (from + 1) n) ≡ 0 → test (from + 1 + i) ≡ false)
-    → (met : Bool) → test from ≡ met → (if met then 1 else 0) + count_by test (range_with_len (from + 1) n) ≡ 0
-    → (i : ℕ) → i < suc n → test (from + i) ≡ false
-by_first test from n later true is none i within = absurd (omega (arith, none))
-by_first test from n later false is none zero within = ap test (omega arith) ∙ is
-by_first test from n later false is none (suc i) within = ap test (omega arith) ∙ later i (omega (arith, within)) (omega (arith, none))
-
-none_counted : (test : Test) (from n : ℕ) → count_by test (range_with_len from n) ≡ 0 → (i : ℕ) → i < n → test (from + i) ≡ false
-none_counted test from zero none i within = absurd (omega (arith, within))
-none_counted test from (suc n) none i within =
-    by_first test from n (λ k lower rest. none_counted test (from + 1) n rest k lower) (test from) refl
-    (sym (sum_by-cons (λ m. if test m then 1 else 0) from (range_with_len (from + 1) n)) ∙ none) i within
-
 pub none_where : (test : Test) (n : ℕ) → ((i : ℕ) → i < n → test (1 + i) ≡ false) → numbers_where test n ≡ []
 none_where test zero none = refl
 none_where test (suc n) none =
     filter-append test (page_numbers n) (suc n ∷ [])
     ∙ ap (λ l. l ++ filter test (suc n ∷ [])) (none_where test n (λ i within. none i (omega (arith, within))))
     ∙ ap (λ b. if b then suc n ∷ [] else []) (ap test (omega arith) ∙ none n (omega arith))
-
-not_not : (a : Bool) → not a ≡ false → a ≡ true
-not_not true h = refl
-not_not false h = cc
 
 pub left_by : (a leaf accepted : Bool) → (leaf ≡ false → accepted ≡ true) → (not leaf && not accepted) ≡ false
 left_by a true accepted there = refl
@@ -394,8 +340,3 @@ pub left_is : (pages pages' : Pages) (free free' : FreePages) → pages' ≡ pag
     → refused_but pages' (marked free'.leaves) ≡ refused_but pages (marked free.leaves)
 left_is pages pages' free free' same_pages same_free =
     ap (λ p. refused_but p (marked free'.leaves)) same_pages ∙ ap (λ (f : FreePages). refused_but pages (marked f.leaves)) same_free
-
--- a frame that holds nothing has no pin
-pub no_held_pins : (held : List Page) → length held ≡ 0 → pins_of held ≡ no_pins
-no_held_pins [] none = fun_ext (λ n. refl)
-no_held_pins (page ∷ pages) none = absurd (omega (arith, none))

@@ -1,22 +1,19 @@
 -- What `verify` answers of a file, from what it answers of its pages.
-use Rattle.std.proofs.Common.{◌≡◌, ◌⊎◌, ⊎_elim, ℕ, zero, suc, ◌≤◌, ◌<◌, Bool, true, false, is_some, List, [], ◌∷◌, length, Option, Some, None, Result, Ok, Err, if◌then◌else◌, sym, ap, ◌∙◌, subst, arith}
+use Rattle.std.proofs.Common.{◌≡◌, ◌⊎◌, ⊎_elim, ℕ, zero, suc, ◌≤◌, ◌<◌, Bool, true, false, is_some, List, [], ◌∷◌, length, Some, None, Result, Ok, Err, if◌then◌else◌, sym, ap, ◌∙◌, subst, arith}
 use Rattle.std.specs.Prelude.{nat_lt, slice_index_or}
 use Rattle.std.specs.List.{Contains}
 use Rattle.std.proofs.lemmas.Bool.{le-leb}
-use Rattle.db_format.specs.Count.{count_of_pages}
 use Rattle.db_format.specs.Header.{header_fields, header_rules}
 use Rattle.db_format.specs.Pages.{Pages, nothing}
 use Rattle.db_format.specs.Rules.{Rule, unless_broken}
-use Rattle.db_format.specs.declared.count.CountRefusal.{CountRefusal}
 use Rattle.db_format.specs.declared.defect.Defect.{Defect}
 use Rattle.db_format.specs.declared.header.Header.{Header}
-use Rattle.db_format.specs.declared.header.HeaderRefusal.{HeaderRefusal}
 use Rattle.btree_model.specs.Finding.{faults, refusals}
 use Rattle.btree_model.specs.Freelist.{freelist_walk}
 use Rattle.btree_model.specs.Parts.{counts, first_faults, first_refusals, parts}
 use Rattle.page_codec.specs.Page.{FileKeys, keys_of, opened}
 use Rattle.pager.specs.File.{first_page}
-use Rattle.pager.specs.Opening.{Opened, file_header, file_opened, first_broken, key_rules, length_rules, unless, with_count, with_header}
+use Rattle.pager.specs.Opening.{Opened, file_header, file_opened, first_broken, key_rules, length_rules}
 use Rattle.pager.specs.Pages.{opened_pages}
 use Rattle.pager.specs.declared.opening.OpenError.{OpenError}
 use Rattle.pager.specs.declared.opening.OpenError.TheVariants.{Empty, Short, KeyRefused as NoKey, HeaderFault, WalMode, AutoVacuum, Ragged, TooLarge, DiskFault as DiskFails, OutOfMemory as MemoryEnds}
@@ -56,22 +53,11 @@ use Rattle.sqlcipher_tool.specs.Verify.{else_answers, opened_answers, pages_answ
 use Rattle.sqlcipher_tool.specs.declared.opening.Stop.{Stop}
 use Rattle.sqlcipher_tool.specs.declared.opening.Stop.TheVariants.{DiskFault as StopDisk, OutOfMemory as StopMemory}
 use Rattle.sqlcipher_tool.specs.declared.status.Status.{Status}
-use Rattle.sqlcipher_tool.proofs.Recoveries.{fault_of_file}
+use Rattle.sqlcipher_tool.proofs.Recoveries.{IsOfFile, fault_of_file}
 use Rattle.sqlcipher_tool.proofs.Verified.{some_is}
+use Rattle.sqlcipher_tool.proofs.OpenedParts.{past, with_both}
 
 -- ---- the header of a file that opens
-
-unless_ok : (o : Option OpenError) (r : Result Opened OpenError) (x : Opened) → unless o r ≡ Ok x → r ≡ Ok x
-unless_ok None r x is = is
-unless_ok (Some error) r x is = cc
-
-counted_header : (header : Header) (c : Result ℕ CountRefusal) (x : Opened) → with_count header c ≡ Ok x → header ≡ x.header
-counted_header header (Ok n) x is = cc
-counted_header header (Err refusal) x is = cc
-
-read_header : (len : ℕ) (r : Result Header HeaderRefusal) (x : Opened) → with_header len r ≡ Ok x → r ≡ Ok x.header
-read_header len (Ok header) x is = ap Ok (counted_header header (count_of_pages header len) x is)
-read_header len (Err refusal) x is = cc
 
 if_ok : {V E : Type 0} (broken : Bool) (refusal : E) (rest : Result V E) (v : V) → (if broken then Err refusal else rest) ≡ Ok v → rest ≡ Ok v
 if_ok true refusal rest v is = cc
@@ -85,9 +71,9 @@ pub opened_fields : (keys : FileKeys) (file : List ℕ) (header : Header) (n : �
     → header_fields (opened keys 1 (first_page keys.profile file)) ≡ header
 opened_fields keys file header n is =
     let x : Opened = record { header = header; count = n } in
-    let inner = unless_ok (first_broken (length_rules keys.profile.page_size file)) _ x is in
-    let last = unless_ok (first_broken (key_rules keys file)) _ x inner in
-    let read = read_header (length file) (file_header keys file) x last in
+    let inner = past (first_broken (length_rules keys.profile.page_size file)) _ x is in
+    let last = past (first_broken (key_rules keys file)) _ x inner.1 in
+    let read = (with_both (length file) (file_header keys file) x last.1).0 in
     let plain = opened keys 1 (first_page keys.profile file) in
     unbroken (header_rules plain keys.profile.page_size keys.profile.reserve) (header_fields plain) header read
 
@@ -137,9 +123,6 @@ refused_due r answers stop is answer same =
     ⊎_elim (λ outside. absurd (outside_none stop answer outside same)) (λ stopped. refused_by r answers answer (sym same ∙ stopped)) is
 
 -- ---- no answer to a file is that to a recovery
-
-abbrev IsOfFile : Answer → Type 0
-IsOfFile answer = IsUnrecovered answer.status → ⊥
 
 abbrev AreOfFile : List Answer → Type 0
 AreOfFile [] = Unit {0}

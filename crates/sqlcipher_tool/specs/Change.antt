@@ -44,13 +44,13 @@ change_answer (Ok report) = Some (done report)
 change_answer (Err (Stopped stop)) = stop_answer stop
 change_answer (Err EntropyFails) = None
 
--- how a page that is refused stops the command
-abbrev pub page_error : PageError → ChangeError
-page_error OutOfRange = Stopped StopMemory
-page_error (TagRefused page) = Stopped (StopRefused (PageTag page))
-page_error PageFault = Stopped StopDisk
-page_error DrawFault = EntropyFails
-page_error AllPinned = Stopped StopMemory
+-- How page 1 stops the command where it is refused so. It is there, and a frame is free for it.
+abbrev pub IsStopOf : PageError → ChangeError → Type 0
+IsStopOf OutOfRange error = ⊥
+IsStopOf (TagRefused page) error = error ≡ Stopped (StopRefused (PageTag page))
+IsStopOf PageFault error = error ≡ Stopped StopDisk
+IsStopOf DrawFault error = error ≡ EntropyFails
+IsStopOf AllPinned error = ⊥
 
 -- how a rekey that does not come to its end stops the command; that the layouts differ is known before
 abbrev pub rekey_error : RekeyError → ChangeError

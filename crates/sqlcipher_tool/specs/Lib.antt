@@ -2,7 +2,6 @@ pub mod Answer
 pub mod Change
 pub mod Crash
 pub mod Plain
-pub mod Draws
 pub mod Due
 pub mod Export
 pub mod Header
@@ -16,11 +15,13 @@ pub mod Promises
 pub mod Recovered
 pub mod Rekey
 pub mod Renewal
+pub mod Reported
 pub mod Servable
 pub mod Stamp
 pub mod Stop
 pub mod Tags
 pub mod Text
+pub mod Untouched
 pub mod Verify
 pub mod Walked
 pub mod Words

@@ -24,6 +24,10 @@ takes_keys command = not (keys_taken command == 0)
 abbrev pub AreWordsThat : (Command → Bool) → List (List ℕ) → Type 0
 AreWordsThat test words = (command : Command) × (form words ≡ Some command) × (test command ≡ true)
 
+-- the input tells its bytes, where a key line is taken of it
+abbrev pub TellsKeys : Bool → List (List ℕ) → Type 0
+TellsKeys tells words = AreWordsThat takes_keys words → IsTrue tells
+
 -- a file is in the way of the command, which then makes none
 abbrev pub is_in_the_way : Command → Files → Bool
 is_in_the_way (Tags profile) files = false

@@ -10,8 +10,9 @@ use Rattle.make_job.specs.Made.{IsMade}
 use Rattle.pager.specs.Database.{count_of}
 use Rattle.pager.specs.Pages.{is_number}
 use Rattle.rekey_job.specs.Rekeyed.{IsRekeyed}
-use Rattle.sqlcipher_tool.specs.Draws.{FileDraws}
+use Rattle.rekey_job.specs.Draws.{FileDraws}
 use Rattle.sqlcipher_tool.specs.Migrate.{IsMigratedSo}
+use Rattle.sqlcipher_tool.specs.Plain.{IsClean, Opens}
 use Rattle.sqlcipher_tool.specs.Stamp.{IsStamped}
 
 -- A command that leaves a new file: the profile and the secret of the old one, and those of the new one. Before `make` there is no
@@ -22,18 +23,20 @@ pub record Renewal : Type 0 where
   pub new_profile : Profile
   pub new_secret : Secret
 
+-- from one key of a profile to another
+abbrev pub from_to : Profile → Secret → Profile → Secret → Renewal
+from_to old first new second = record { old_profile = old; old_secret = first; new_profile = new; new_secret = second }
+
 -- one that keeps the key
 abbrev pub same_key : Profile → List Secret → Option Renewal
 same_key profile [] = None
-same_key profile (secret ∷ rest) =
-    Some (record { old_profile = profile; old_secret = secret; new_profile = profile; new_secret = secret })
+same_key profile (secret ∷ rest) = Some (from_to profile secret profile secret)
 
 -- one from one key to another
 abbrev pub two_keys : Profile → Profile → List Secret → Option Renewal
 two_keys old new [] = None
 two_keys old new (first ∷ []) = None
-two_keys old new (first ∷ second ∷ rest) =
-    Some (record { old_profile = old; old_secret = first; new_profile = new; new_secret = second })
+two_keys old new (first ∷ second ∷ rest) = Some (from_to old first new second)
 
 -- none for a command that leaves no new file
 abbrev pub renewal : Command → List Secret → Option Renewal
@@ -54,9 +57,13 @@ old_keys renewal file = keys_of renewal.old_profile renewal.old_secret file
 abbrev pub new_keys : Renewal → List ℕ → FileKeys
 new_keys renewal file = keys_of renewal.new_profile renewal.new_secret file
 
--- the file `after` under the new keys is the file `before`, of some pages, under the old ones
-abbrev pub IsRekeyedSo : FileKeys → FileKeys → List ℕ → List ℕ → Type 0
-IsRekeyedSo old new before after = (count : ℕ) × IsRekeyed old new count before after
+-- The file `before` is clean under the old keys, and the file `after` opens under the new ones to its content: it is the same file, of
+-- some pages, under these.
+pub record IsRekeyedSo (old new : FileKeys) (before after : List ℕ) : Type 0 where
+  pub clean : IsClean old before
+  pub opens : Opens new after clean.held
+  pub count : ℕ
+  pub rekeyed : IsRekeyed old new count before after
 
 -- how many pages the file has, 0 where it has no count
 abbrev pub pages_of : FileKeys → List ℕ → ℕ

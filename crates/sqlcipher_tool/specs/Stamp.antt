@@ -12,7 +12,7 @@ use Rattle.std.specs.Int.{w32, to_be_bytes}
 use Rattle.cipher_profile.specs.declared.keys.Secret.{Secret}
 use Rattle.cipher_profile.specs.declared.profile.Profile.{Profile}
 use Rattle.db_format.specs.Bytes.{u32_at}
-use Rattle.page_codec.specs.Page.{FileKeys, accepts, opened}
+use Rattle.page_codec.specs.Page.{FileKeys, accepts, opened, salt_of}
 use Rattle.pager.specs.Changed.{with_bytes}
 use Rattle.pager.specs.Database.{count_of}
 use Rattle.pager.specs.File.{page_stored}
@@ -43,11 +43,12 @@ stamped_page field value count plain =
     let change = next_change (u32_at plain 24) in
     with_field 92 change (with_field 28 count (with_field 24 change (with_field (field_at field) value plain)))
 
--- Of the file `after`, page 1 is the stamped one and accepted, and every other page is stored as in `before`.
+-- Of the file `after`, page 1 has the salt of `before`, is the stamped one and accepted, and every other page is stored as in `before`.
 pub record IsStamped (keys : FileKeys) (field : Field) (value : ℕ) (before after : List ℕ) : Type 0 where
   pub count : ℕ
   pub was : count_of keys before ≡ Some count
   pub is : count_of keys after ≡ Some count
+  pub salt : salt_of after ≡ salt_of before
   pub first :
       opened keys 1 (page_stored keys after 1) ≡ stamped_page field value count (opened keys 1 (page_stored keys before 1))
   pub accepted : IsTrue (accepts keys 1 (page_stored keys after 1))

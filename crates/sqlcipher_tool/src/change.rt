@@ -1,10 +1,11 @@
 // A change of the file: it is recovered, opened, and changed in one transaction, or written anew.
-ghost use Rattle.std.specs.Prelude.{◌≡◌, ◌≤◌, drop, length, true, Some, Err, IfErr, OnOk, IsTrue};
+ghost use Rattle.std.specs.Prelude.{◌≡◌, ◌≢◌, ◌≤◌, drop, length, true, Some, Err, IfErr, IsErr, OnOk, IsTrue};
 ghost use Rattle.std.specs.List.{Contains};
 ghost use Rattle.disk_side.specs.Published.{IsNew as IsAlone};
 ghost use Rattle.cipher_profile.specs.Profile.{IsListed};
 ghost use Rattle.edge_model.specs.Causes.{Rose};
 ghost use Rattle.edge_model.specs.Images.{Each, From, LeavesOnly};
+ghost use Rattle.edge_model.specs.OnlyRead.{OnlyRead};
 ghost use Rattle.page_codec.specs.Page.{keys_of};
 ghost use Rattle.pager.specs.File.{main_of};
 ghost use Rattle.transaction.specs.Facts.{SameFresh};
@@ -12,10 +13,11 @@ ghost use Rattle.sqlcipher_tool.specs.Answer.{Answer, HasDrawnCauses, PutsLine};
 ghost use Rattle.sqlcipher_tool.specs.Change.{IsChangeBetween, IsLateChange, KeepsOrCommits, change_answer, change_answers, change_status, command_of, is_in_place};
 ghost use Rattle.sqlcipher_tool.specs.Crash.{IsSafely};
 ghost use Rattle.sqlcipher_tool.specs.Holding.{HoldsOnly, disk_run, held_by};
-ghost use Rattle.sqlcipher_tool.specs.Opening.{AreRecovered};
+ghost use Rattle.sqlcipher_tool.specs.Opening.{AreRecovered, opened_with};
 ghost use Rattle.sqlcipher_tool.specs.Promises.{AnswersOne, IsUnrecovered};
 ghost use Rattle.sqlcipher_tool.specs.Recovered.{recovered_answers};
-ghost use Rattle.sqlcipher_tool.specs.Renewal.{AreDrawn, IsNew};
+ghost use Rattle.sqlcipher_tool.specs.Renewal.{AreDrawn, IsNew, from_to};
+ghost use Rattle.sqlcipher_tool.specs.Untouched.{HasNoFile, IsUnwritten};
 
 use crate::command::Field;
 use crate::conclusion::{conclude, conclude_stop};
@@ -59,20 +61,21 @@ pub fn change_file<S: Sink, E: Entropy, D: Disk>(
     disk: &mut D,
 ) -> Status
     requires listed { IsListed old × IsListed new }
-    requires between { IsChangeBetween change (record { old_profile = old; old_secret = first.now; new_profile = new; new_secret = second.now }) }
+    requires between { IsChangeBetween change (from_to old first.now new second.now) }
     ensures answer { IsTrue D.tells
-        → AnswersOne (recovered_answers old (D.reads disk.old) (λ file. change_answers change (record { old_profile = old; old_secret = first.now; new_profile = new; new_secret = second.now }) file (main_of (D.reads disk.new))))
+        → AnswersOne (recovered_answers old (D.reads disk.old) (λ file. change_answers change (from_to old first.now new second.now) file (main_of (D.reads disk.new))))
         result S.tells (S.taken out.old) (S.taken out.new) }
     ensures line { IsTrue S.tells → PutsLine result (S.taken out.old) (S.taken out.new) }
     ensures causes { HasDrawnCauses result true (D.faults disk.old) (D.faults disk.new) (S.faults out.old) (S.faults out.new) (E.faults entropy.old) (E.faults entropy.new) }
     // old or new
     ensures changes { IsTrue D.tells → IsSafely result (command_of change old new) (disk_run D.reads D.images D.moment D.since disk.old disk.new)
-        (Some (record { old_profile = old; old_secret = first.now; new_profile = new; new_secret = second.now })) }
+        (Some (from_to old first.now new second.now)) }
     ensures fresh { IsTrue D.tells → is_in_place change ≡ true → LeavesOnly D.moment D.since disk.old disk.new (From SameFresh (D.images disk.old)) }
     ensures own_draws { IsTrue D.tells → IsTrue E.tells → result ≡ Status.Done
-        → AreDrawn (command_of change old new) (record { old_profile = old; old_secret = first.now; new_profile = new; new_secret = second.now })
+        → AreDrawn (command_of change old new) (from_to old first.now new second.now)
         (main_of (D.reads disk.new)) (drop (length (E.drawn entropy.old)) (E.drawn entropy.new)) }
     ensures unrecovered { IsTrue D.tells → IsUnrecovered result → D.reads disk.new ≡ D.reads disk.old }
+    ensures untouched { IsTrue D.tells → HasNoFile old (D.reads disk.old) → result ≢ Status.DiskFault → IsUnwritten (disk_run D.reads D.images D.moment D.since disk.old disk.new) }
 {
     match recover_main(alloc, disk, old) {
         Ok(_) => change_main(alloc, change, old, new, first, second, out, entropy, disk),
@@ -93,22 +96,23 @@ fn change_main<S: Sink, E: Entropy, D: Disk>(
     disk: &mut D,
 ) -> Status
     requires listed { IsListed old × IsListed new }
-    requires between { IsChangeBetween change (record { old_profile = old; old_secret = first.now; new_profile = new; new_secret = second.now }) }
+    requires between { IsChangeBetween change (from_to old first.now new second.now) }
     requires recovered { IsTrue D.tells → AreRecovered (D.reads disk.old) (D.images disk.old) }
     requires alone { IsTrue D.tells → old.page_size ≤ length (main_of (D.reads disk.old)) → Each (D.images disk.old) (IsAlone (main_of (D.reads disk.old))) }
     ensures answer { IsTrue D.tells
-        → AnswersOne (change_answers change (record { old_profile = old; old_secret = first.now; new_profile = new; new_secret = second.now })
+        → AnswersOne (change_answers change (from_to old first.now new second.now)
         (main_of (D.reads disk.old)) (main_of (D.reads disk.new))) result S.tells (S.taken out.old) (S.taken out.new) }
     ensures line { IsTrue S.tells → PutsLine result (S.taken out.old) (S.taken out.new) }
     ensures causes { HasDrawnCauses result true (D.faults disk.old) (D.faults disk.new) (S.faults out.old) (S.faults out.new) (E.faults entropy.old) (E.faults entropy.new) }
     ensures safely { IsTrue D.tells → Each (D.images disk.old) (HoldsOnly (held_by (keys_of old first.now (main_of (D.reads disk.old))) (main_of (D.reads disk.old))))
         → KeepsOrCommits D.reads D.images D.moment D.since result
-        (IsNew (command_of change old new) (record { old_profile = old; old_secret = first.now; new_profile = new; new_secret = second.now }) (main_of (D.reads disk.old)))
+        (IsNew (command_of change old new) (from_to old first.now new second.now) (main_of (D.reads disk.old)))
         (HoldsOnly (held_by (keys_of old first.now (main_of (D.reads disk.old))) (main_of (D.reads disk.old))))
         (λ file. HoldsOnly (held_by (keys_of new second.now file) file)) disk.old disk.new }
     ensures fresh { IsTrue D.tells → is_in_place change ≡ true → LeavesOnly D.moment D.since disk.old disk.new (From SameFresh (D.images disk.old)) }
+    ensures unopened { IsTrue D.tells → IsErr (opened_with old first.now (main_of (D.reads disk.old))) → OnlyRead D.reads D.images D.moment D.since disk.old disk.new }
     ensures own_draws { IsTrue D.tells → IsTrue E.tells → result ≡ Status.Done
-        → AreDrawn (command_of change old new) (record { old_profile = old; old_secret = first.now; new_profile = new; new_secret = second.now })
+        → AreDrawn (command_of change old new) (from_to old first.now new second.now)
         (main_of (D.reads disk.new)) (drop (length (E.drawn entropy.old)) (E.drawn entropy.new)) }
 {
     match change_opened(alloc, change, old, new, first, second, entropy, disk) {
@@ -130,19 +134,20 @@ fn change_opened<E: Entropy, D: Disk>(
     disk: &mut D,
 ) -> Result<Text, ChangeError>
     requires listed { IsListed old × IsListed new }
-    requires between { IsChangeBetween change (record { old_profile = old; old_secret = first.now; new_profile = new; new_secret = second.now }) }
+    requires between { IsChangeBetween change (from_to old first.now new second.now) }
     requires recovered { IsTrue D.tells → AreRecovered (D.reads disk.old) (D.images disk.old) }
     requires alone { IsTrue D.tells → old.page_size ≤ length (main_of (D.reads disk.old)) → Each (D.images disk.old) (IsAlone (main_of (D.reads disk.old))) }
     ensures told { IsTrue D.tells → (answer : Answer) → change_answer result ≡ Some answer
-        → Contains (change_answers change (record { old_profile = old; old_secret = first.now; new_profile = new; new_secret = second.now }) (main_of (D.reads disk.old)) (main_of (D.reads disk.new))) answer }
+        → Contains (change_answers change (from_to old first.now new second.now) (main_of (D.reads disk.old)) (main_of (D.reads disk.new))) answer }
     ensures safely { IsTrue D.tells → Each (D.images disk.old) (HoldsOnly (held_by (keys_of old first.now (main_of (D.reads disk.old))) (main_of (D.reads disk.old))))
         → KeepsOrCommits D.reads D.images D.moment D.since (change_status result)
-        (IsNew (command_of change old new) (record { old_profile = old; old_secret = first.now; new_profile = new; new_secret = second.now }) (main_of (D.reads disk.old)))
+        (IsNew (command_of change old new) (from_to old first.now new second.now) (main_of (D.reads disk.old)))
         (HoldsOnly (held_by (keys_of old first.now (main_of (D.reads disk.old))) (main_of (D.reads disk.old))))
         (λ file. HoldsOnly (held_by (keys_of new second.now file) file)) disk.old disk.new }
     ensures fresh { IsTrue D.tells → is_in_place change ≡ true → LeavesOnly D.moment D.since disk.old disk.new (From SameFresh (D.images disk.old)) }
+    ensures unopened { IsTrue D.tells → IsErr (opened_with old first.now (main_of (D.reads disk.old))) → OnlyRead D.reads D.images D.moment D.since disk.old disk.new }
     ensures own_draws { OnOk result (IsTrue D.tells → IsTrue E.tells
-        → AreDrawn (command_of change old new) (record { old_profile = old; old_secret = first.now; new_profile = new; new_secret = second.now })
+        → AreDrawn (command_of change old new) (from_to old first.now new second.now)
         (main_of (D.reads disk.new)) (drop (length (E.drawn entropy.old)) (E.drawn entropy.new))) }
     ensures late { IfErr result IsLateChange }
     ensures disk_fault { result ≡ Err (ChangeError.Stopped Stop.DiskFault) → Rose (D.faults disk.old) (D.faults disk.new) }

@@ -15,7 +15,7 @@ use crate::status::Status;
 use crate::walk::walk_stop;
 use edge_model::{Disk, Entropy, Sink};
 use export_rows::ExportError;
-use pager::{PageSource, Pager};
+use pager::Pager;
 use std::alloc::Global;
 
 /// Prints all rows and entries of the pages of a file, after all of them in use were checked.
@@ -34,10 +34,6 @@ pub fn export_pages<S: Sink, E: Entropy, D: Disk>(
     ensures disk { DiskRead D.tells D.reads D.images D.moment D.since D.faults pager.old.disk pager.new.disk }
     ensures entropy { Untouched pager.old.entropy pager.new.entropy }
 {
-    // A file that opens has a page.
-    if pager.pages() == 0 {
-        return Status::OutOfMemory;
-    }
     let header = *pager.header();
     match export_rows::export(alloc, pager, &header, out) {
         Ok(_) => Status::Done,

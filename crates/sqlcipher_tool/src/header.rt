@@ -1,5 +1,5 @@
 // `header`: the fields of page 1, and the count of pages.
-ghost use Rattle.std.specs.Prelude.{◌≡◌, ◌⊎◌, ◌≤◌, Some, Ok, Err, IfErr, IsTrue};
+ghost use Rattle.std.specs.Prelude.{◌≡◌, ◌≢◌, ◌⊎◌, ◌≤◌, Some, Ok, Err, IfErr, IsTrue};
 ghost use Rattle.edge_model.specs.Causes.{Rose};
 ghost use Rattle.edge_model.specs.Images.{From, LeavesOnly};
 ghost use Rattle.edge_model.specs.OnlyRead.{OnlyRead};
@@ -9,11 +9,13 @@ ghost use Rattle.pager.specs.Opening.{file_opened};
 ghost use Rattle.rollback_journal.specs.Recovery.{Keeps};
 ghost use Rattle.sqlcipher_tool.specs.Answer.{Puts, PutsLine, IsAnswered, HasCauses};
 ghost use Rattle.sqlcipher_tool.specs.Header.{header_answer};
+ghost use Rattle.sqlcipher_tool.specs.Holding.{disk_run};
 ghost use Rattle.sqlcipher_tool.specs.Opening.{AreRecovered};
 ghost use Rattle.sqlcipher_tool.specs.Promises.{IsUnrecovered};
 ghost use Rattle.sqlcipher_tool.specs.Recovered.{recovered_answer};
 ghost use Rattle.sqlcipher_tool.specs.Stop.{outcome_answer, IsLate};
 ghost use Rattle.sqlcipher_tool.specs.Text.{header_report};
+ghost use Rattle.sqlcipher_tool.specs.Untouched.{HasNoFile, IsUnwritten};
 
 use crate::conclusion::{conclude_outcome, conclude_stop};
 use crate::opening::{Stop, open_main};
@@ -44,6 +46,7 @@ pub fn header<S: Sink, E: Entropy, D: Disk>(
     ensures keeps { IsTrue D.tells → LeavesOnly D.moment D.since disk.old disk.new (From (Keeps profile.page_size) (D.images disk.old)) }
     ensures draws { entropy.new ≡ entropy.old }
     ensures unrecovered { IsTrue D.tells → IsUnrecovered result → D.reads disk.new ≡ D.reads disk.old }
+    ensures untouched { IsTrue D.tells → HasNoFile profile (D.reads disk.old) → result ≢ Status.DiskFault → IsUnwritten (disk_run D.reads D.images D.moment D.since disk.old disk.new) }
 {
     match recover_main(alloc, disk, profile) {
         Ok(_) => header_of_main(alloc, profile, secret, out, entropy, disk),

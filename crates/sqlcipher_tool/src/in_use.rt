@@ -55,6 +55,8 @@ fn check_one<S: Sink, D: Disk, E: Entropy>(
     n: u32,
     leaves: &FreeMap,
 ) -> Result<Option<u32>, Status>
+    requires low { 1 ≤ n }
+    requires high { n ≤ pager.old.count }
     ensures refused { IfOk result (λ refused. IsTrue D.tells
         → refused ≡ number_where (is_left (opened_pages pager.old.codec (main_of (D.reads pager.old.disk.now)) pager.old.count) (marked leaves.now.leaves)) n) }
     ensures text { IfOk result (λ refused. IsTrue S.tells → S.taken out.new ≡ S.taken out.old ++ tag_lines (option_to_list refused)) }
@@ -77,10 +79,10 @@ fn check_one<S: Sink, D: Disk, E: Entropy>(
         Ok(()) => Ok(None),
         Err(PageError::TagRefused { page: _ }) => report_refused(out, n),
         Err(PageError::DiskFault) => Err(Status::DiskFault),
-        // All pages are asked for by their numbers, and few are pinned.
-        Err(PageError::OutOfRange | PageError::EntropyFault | PageError::AllPinned) => {
-            Err(Status::OutOfMemory)
-        }
+        // Few pages are pinned, but no clause of a source of pages says that a frame is left.
+        Err(PageError::AllPinned) => Err(Status::OutOfMemory),
+        // All pages are asked for by their numbers.
+        Err(PageError::OutOfRange | PageError::EntropyFault) => unreachable!(),
     }
 }
 

@@ -1,5 +1,6 @@
 // What holds of the definitions themselves.
-ghost use Rattle.std.specs.Prelude.{◌≡◌, ◌≤◌, ◌∷◌, [], ℕ, true, List, Ok};
+ghost use Rattle.std.specs.Prelude.{◌≡◌, ◌≤◌, ◌∷◌, [], ℕ, Bool, true, List, Ok, Some};
+ghost use Rattle.std.specs.List.{Contains};
 ghost use Rattle.btree_model.specs.Content.{Content};
 ghost use Rattle.btree_model.specs.Finding.{is_sound};
 ghost use Rattle.btree_model.specs.Freelist.{freelist_walk};
@@ -9,6 +10,7 @@ ghost use Rattle.cipher_profile.specs.declared.profile.Profile.{Profile};
 ghost use Rattle.cipher_profile.specs.Profile.{IsListed, usable};
 ghost use Rattle.export_rows.specs.Report.{export_report};
 ghost use Rattle.db_format.specs.Pages.{Pages, nothing};
+ghost use Rattle.edge_model.specs.Files.{Files};
 ghost use Rattle.fresh_file.specs.State.{most_pages};
 ghost use Rattle.make_job.specs.Made.{IsMade, made_content};
 ghost use Rattle.migrate_job.specs.Bound.{pages_at_most};
@@ -18,14 +20,20 @@ ghost use Rattle.pager.specs.File.{page_stored};
 ghost use Rattle.pager.specs.Opening.{Opened, file_opened};
 ghost use Rattle.pager.specs.Pages.{opened_pages};
 ghost use Rattle.rekey_job.specs.Rekeyed.{IsRekeyed};
-ghost use Rattle.sqlcipher_tool.specs.Answer.{done};
+ghost use Rattle.sqlcipher_tool.specs.Answer.{Answer, done};
+ghost use Rattle.sqlcipher_tool.specs.Due.{due, key_lines};
 ghost use Rattle.sqlcipher_tool.specs.Job.{job_answers};
 ghost use Rattle.sqlcipher_tool.specs.Migrate.{migrate_answers, too_many};
 ghost use Rattle.sqlcipher_tool.specs.Opening.{opened_with};
 ghost use Rattle.sqlcipher_tool.specs.Plain.{HaveSamePages, IsClean, IsSameInUse, Opens};
+ghost use Rattle.sqlcipher_tool.specs.Promises.{AnswersOne};
 ghost use Rattle.sqlcipher_tool.specs.Rekey.{rekey_answers};
+ghost use Rattle.sqlcipher_tool.specs.Reported.{CanBeMigrated, CanBeRekeyed, IsExported, IsVerified, Reports};
 ghost use Rattle.sqlcipher_tool.specs.Text.{migrated_report, rekeyed_report, verify_report};
+ghost use Rattle.sqlcipher_tool.specs.Words.{form};
+ghost use Rattle.sqlcipher_tool.specs.declared.command.Command.TheVariants.{Export as ExportFile, Verify as VerifyFile};
 ghost use Rattle.sqlcipher_tool.specs.declared.job.Job.TheVariants.{Export, Verify};
+ghost use Rattle.sqlcipher_tool.specs.declared.status.Status.TheVariants.{Done};
 
 /// A walk over a whole database reads no leaf of its freelist, whatever defects it meets behind the freelist.
 pub fn unread_leaves_law()
@@ -46,23 +54,56 @@ pub fn verify_done_law()
         → job_answers Verify profile secret file ≡ done (verify_report (counts (opened_pages (keys_of profile secret file) file opened.count))) ∷ [] }
 {}
 
+/// Where `verify` may be done, the file is clean, and the counts are its own.
+pub fn verify_clean_law()
+    ensures { (profile : Profile) (secret : Secret) (file : List ℕ) (answer : Answer) → Contains (job_answers Verify profile secret file) answer
+        → answer.status ≡ Done → IsVerified (keys_of profile secret file) file answer.text }
+{}
+
+/// So where `verify` was done, as `run` answers it, the recovered file is clean, and its counts were printed.
+pub fn verify_run_law()
+    ensures { (words : List (List ℕ)) (left : List ℕ) (files after : Files) (profile : Profile) (secret : Secret) (tells : Bool) (was now : List ℕ)
+        → form words ≡ Some (VerifyFile profile) → key_lines 1 left ≡ Ok (secret ∷ []) → AnswersOne (due words left files after) Done tells was now
+        → Reports profile files (λ file text. IsVerified (keys_of profile secret file) file text) tells was now }
+{}
+
 /// Of a file that opens nothing but the text of its content is due to `export`.
 pub fn export_done_law()
     ensures { (profile : Profile) (secret : Secret) (file : List ℕ) (opened : Opened) (held : Content) → opened_with profile secret file ≡ Ok opened
         → Opens (keys_of profile secret file) file held → job_answers Export profile secret file ≡ done (export_report held) ∷ [] }
 {}
 
-/// A rekeyed file opens under the new keys to the content that it had under the old ones.
+/// Where `export` may be done, the file opens, and the text is that of its content.
+pub fn export_opens_law()
+    ensures { (profile : Profile) (secret : Secret) (file : List ℕ) (answer : Answer) → Contains (job_answers Export profile secret file) answer
+        → answer.status ≡ Done → IsExported (keys_of profile secret file) file answer.text }
+{}
+
+/// So where `export` was done, the recovered file opens, and the text of its content was printed.
+pub fn export_run_law()
+    ensures { (words : List (List ℕ)) (left : List ℕ) (files after : Files) (profile : Profile) (secret : Secret) (tells : Bool) (was now : List ℕ)
+        → form words ≡ Some (ExportFile profile) → key_lines 1 left ≡ Ok (secret ∷ []) → AnswersOne (due words left files after) Done tells was now
+        → Reports profile files (λ file text. IsExported (keys_of profile secret file) file text) tells was now }
+{}
+
+/// A rekeyed file opens under the new keys to the content that the old one had, which was clean, where the old key fits that.
 pub fn rekey_opens_law()
     ensures { (old_keys new_keys : FileKeys) (count : ℕ) (old new : List ℕ) → IsListed old_keys.profile → IsListed new_keys.profile
         → new_keys.profile.page_size ≡ old_keys.profile.page_size → new_keys.profile.reserve ≡ old_keys.profile.reserve
-        → IsRekeyed old_keys new_keys count old new → (clean : IsClean old_keys old) → Opens new_keys new clean.held }
+        → fits old_keys (page_stored old_keys old 1) ≡ true → IsRekeyed old_keys new_keys count old new
+        → (clean : IsClean old_keys old) × Opens new_keys new clean.held }
 {}
 
 /// Of a file that opens and is clean nothing but the count of its pages is due to `rekey`.
 pub fn rekey_done_law()
     ensures { (profile : Profile) (secret : Secret) (file : List ℕ) (opened : Opened) → opened_with profile secret file ≡ Ok opened
         → IsClean (keys_of profile secret file) file → rekey_answers profile secret file ≡ done (rekeyed_report opened.count) ∷ [] }
+{}
+
+/// Where `rekey` may be done, the file is clean, and the count is its own.
+pub fn rekey_clean_law()
+    ensures { (profile : Profile) (secret : Secret) (file : List ℕ) (answer : Answer) → Contains (rekey_answers profile secret file) answer
+        → answer.status ≡ Done → CanBeRekeyed (keys_of profile secret file) file answer.text }
 {}
 
 /// A migrated file of a file that opens, opens under the new keys to the content that the old one had.
@@ -77,6 +118,12 @@ pub fn migrate_opens_law()
 pub fn migrate_done_law()
     ensures { (old new : Profile) (secret : Secret) (count : ℕ) (file : List ℕ) (opened : Opened) (held : Content) → opened_with old secret file ≡ Ok opened
         → Opens (keys_of old secret file) file held → migrate_answers old secret new count file ≡ done (migrated_report count) ∷ too_many new held }
+{}
+
+/// Where `migrate` may be done, the old file opens, and the text has the count of the new one.
+pub fn migrate_source_law()
+    ensures { (old new : Profile) (secret : Secret) (count : ℕ) (file : List ℕ) (answer : Answer) → Contains (migrate_answers old secret new count file) answer
+        → answer.status ≡ Done → CanBeMigrated (keys_of old secret file) file count answer.text }
 {}
 
 /// Where it is not above the limit, the count alone is due.

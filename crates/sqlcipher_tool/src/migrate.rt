@@ -1,11 +1,12 @@
 // `migrate`: the database is written anew in another profile, and takes the file's place.
-ghost use Rattle.std.specs.Prelude.{◌≡◌, ◌≤◌, ℕ, List, drop, length, Ok, Err, IfErr, OnOk, IsTrue, Some};
+ghost use Rattle.std.specs.Prelude.{◌≡◌, ◌≤◌, ℕ, List, drop, length, Ok, Err, IfErr, IsErr, OnOk, IsTrue, Some};
 ghost use Rattle.std.specs.List.{Contains};
 ghost use Rattle.cipher_profile.specs.Profile.{IsListed};
 ghost use Rattle.db_format.specs.Source.{no_pins};
 ghost use Rattle.disk_side.specs.Published.{IsNew as IsAlone};
 ghost use Rattle.edge_model.specs.Causes.{Rose};
 ghost use Rattle.edge_model.specs.Images.{Each};
+ghost use Rattle.edge_model.specs.OnlyRead.{OnlyRead};
 ghost use Rattle.fresh_file.specs.Draws.{HasOwnDraws};
 ghost use Rattle.page_codec.specs.Page.{keys_of};
 ghost use Rattle.pager.specs.File.{main_of};
@@ -16,7 +17,7 @@ ghost use Rattle.sqlcipher_tool.specs.Answer.{Answer};
 ghost use Rattle.sqlcipher_tool.specs.Change.{IsLateChange, KeepsOrCommits, change_answer, change_status};
 ghost use Rattle.sqlcipher_tool.specs.Holding.{HoldsOnly, held_by};
 ghost use Rattle.sqlcipher_tool.specs.Migrate.{IsMigratedSo, migrate_answers, migrate_due, migrate_error};
-ghost use Rattle.sqlcipher_tool.specs.Opening.{AreRecovered};
+ghost use Rattle.sqlcipher_tool.specs.Opening.{AreRecovered, opened_with};
 ghost use Rattle.sqlcipher_tool.specs.Renewal.{pages_under};
 
 use crate::opening::{ChangeError, Stop, open_main};
@@ -49,6 +50,7 @@ pub fn migrate_file<E: Entropy, D: Disk>(
         (λ file. IsMigratedSo (keys_of old first.now (main_of (D.reads disk.old))) (keys_of new second.now file) (main_of (D.reads disk.old)) file)
         (HoldsOnly (held_by (keys_of old first.now (main_of (D.reads disk.old))) (main_of (D.reads disk.old))))
         (λ file. HoldsOnly (held_by (keys_of new second.now file) file)) disk.old disk.new }
+    ensures unopened { IsTrue D.tells → IsErr (opened_with old first.now (main_of (D.reads disk.old))) → OnlyRead D.reads D.images D.moment D.since disk.old disk.new }
     ensures own_draws { OnOk result (IsTrue D.tells → IsTrue E.tells
         → HasOwnDraws (keys_of new second.now (main_of (D.reads disk.new))) (main_of (D.reads disk.new)) (drop (length (E.drawn entropy.old)) (E.drawn entropy.new))) }
     ensures late { IfErr result IsLateChange }

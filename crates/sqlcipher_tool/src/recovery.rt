@@ -1,5 +1,5 @@
 // `recover`, and the recovery that comes before a file is read.
-ghost use Rattle.std.specs.Prelude.{◌≡◌, ◌⊎◌, ◌<◌, ◌≤◌, length, Ok, Err, Some, IfErr, IfOk, OnOk, IsTrue};
+ghost use Rattle.std.specs.Prelude.{◌≡◌, ◌≢◌, ◌⊎◌, ◌<◌, ◌≤◌, length, Ok, Err, Some, IfErr, IfOk, OnOk, IsTrue};
 ghost use Rattle.edge_model.specs.Causes.{Rose};
 ghost use Rattle.edge_model.specs.Files.{bytes_of};
 ghost use Rattle.edge_model.specs.Images.{Each, From, LeavesOnly};
@@ -10,6 +10,8 @@ ghost use Rattle.pager.specs.File.{main_of};
 ghost use Rattle.sqlcipher_tool.specs.Promises.{IsUnrecovered};
 ghost use Rattle.sqlcipher_tool.specs.Recovered.{recovered_main, recovery_answer, recovery_of, refused_answer};
 ghost use Rattle.sqlcipher_tool.specs.Stop.{stop_answer, outcome_answer, IsLate, IsOutside};
+ghost use Rattle.sqlcipher_tool.specs.Holding.{disk_run};
+ghost use Rattle.sqlcipher_tool.specs.Untouched.{HasNoFile, IsUnwritten};
 
 use crate::conclusion::conclude_outcome;
 use crate::opening::Stop;
@@ -38,6 +40,7 @@ pub fn report_recovery<S: Sink, D: Disk>(
         Each (D.images disk.new) (IsDone profile.page_size (bytes_of (D.reads disk.old).main) (bytes_of (D.reads disk.old).journal)) }
     ensures keeps { IsTrue D.tells → LeavesOnly D.moment D.since disk.old disk.new (From (Keeps profile.page_size) (D.images disk.old)) }
     ensures unrecovered { IsTrue D.tells → IsUnrecovered result → D.reads disk.new ≡ D.reads disk.old }
+    ensures untouched { IsTrue D.tells → HasNoFile profile (D.reads disk.old) → result ≢ Status.DiskFault → IsUnwritten (disk_run D.reads D.images D.moment D.since disk.old disk.new) }
 {
     let outcome = describe_recovery(alloc, disk, profile);
     conclude_outcome(out, outcome)
@@ -51,6 +54,8 @@ fn describe_recovery<D: Disk>(alloc: Global, disk: &mut D, profile: Profile) -> 
     ensures done { OnOk result (IsTrue D.tells → 0 < length (main_of (D.reads disk.old)) →
         Each (D.images disk.new) (IsDone profile.page_size (bytes_of (D.reads disk.old).main) (bytes_of (D.reads disk.old).journal))) }
     ensures refused { IfErr result (λ stop. IsTrue D.tells → IsOutside stop ⊎ (D.reads disk.new ≡ D.reads disk.old)) }
+    ensures untouched { OnOk result (IsTrue D.tells → HasNoFile profile (D.reads disk.old) → IsUnwritten (disk_run D.reads D.images D.moment D.since disk.old disk.new)) }
+    ensures unwritten { IfErr result (λ stop. IsTrue D.tells → stop ≢ Stop.DiskFault → IsUnwritten (disk_run D.reads D.images D.moment D.since disk.old disk.new)) }
     ensures late { IfErr result IsLate }
     ensures keeps { IsTrue D.tells → LeavesOnly D.moment D.since disk.old disk.new (From (Keeps profile.page_size) (D.images disk.old)) }
     ensures cause { IfErr result (λ stop. stop ≡ Stop.DiskFault → Rose (D.faults disk.old) (D.faults disk.new)) }
@@ -75,6 +80,8 @@ pub fn recover_main<D: Disk>(
         Each (D.images disk.new) (IsDone profile.page_size (bytes_of (D.reads disk.old).main) (bytes_of (D.reads disk.old).journal))) }
     ensures stop { IfErr result (λ stop. IsTrue D.tells → IsOutside stop ⊎ (stop_answer stop ≡ refused_answer (recovery_of profile (D.reads disk.old)))) }
     ensures refused { IfErr result (λ stop. IsTrue D.tells → IsOutside stop ⊎ (D.reads disk.new ≡ D.reads disk.old)) }
+    ensures untouched { OnOk result (IsTrue D.tells → HasNoFile profile (D.reads disk.old) → IsUnwritten (disk_run D.reads D.images D.moment D.since disk.old disk.new)) }
+    ensures unwritten { IfErr result (λ stop. IsTrue D.tells → stop ≢ Stop.DiskFault → IsUnwritten (disk_run D.reads D.images D.moment D.since disk.old disk.new)) }
     ensures late { IfErr result IsLate }
     ensures keeps { IsTrue D.tells → LeavesOnly D.moment D.since disk.old disk.new (From (Keeps profile.page_size) (D.images disk.old)) }
     ensures cause { IfErr result (λ stop. stop ≡ Stop.DiskFault → Rose (D.faults disk.old) (D.faults disk.new)) }

@@ -1,9 +1,10 @@
 // `rekey`: every page is sealed under another key, in one transaction.
-ghost use Rattle.std.specs.Prelude.{◌≡◌, ◌≤◌, ℕ, List, drop, length, Ok, Err, IfErr, OnOk, IsTrue, Some};
+ghost use Rattle.std.specs.Prelude.{◌≡◌, ◌≢◌, ◌≤◌, ℕ, List, drop, length, Ok, Err, IfErr, IsErr, OnOk, IsTrue, Some};
 ghost use Rattle.std.specs.List.{Contains};
 ghost use Rattle.disk_side.specs.Published.{IsNew as IsAlone};
 ghost use Rattle.edge_model.specs.Causes.{Rose};
 ghost use Rattle.edge_model.specs.Images.{Each, From, LeavesOnly};
+ghost use Rattle.edge_model.specs.OnlyRead.{OnlyRead};
 ghost use Rattle.cipher_profile.specs.Profile.{IsListed};
 ghost use Rattle.db_format.specs.Source.{no_pins};
 ghost use Rattle.page_codec.specs.Page.{keys_of, salt_of};
@@ -15,9 +16,9 @@ ghost use Rattle.rekey_job.specs.Rekeyed.{IsRekeyed};
 ghost use Rattle.transaction.specs.Facts.{SameFresh};
 ghost use Rattle.sqlcipher_tool.specs.Answer.{Answer};
 ghost use Rattle.sqlcipher_tool.specs.Change.{IsLateChange, KeepsOrCommits, change_answer, change_status, rekey_error};
-ghost use Rattle.sqlcipher_tool.specs.Draws.{FileDraws};
+ghost use Rattle.rekey_job.specs.Draws.{FileDraws};
 ghost use Rattle.sqlcipher_tool.specs.Holding.{HoldsOnly, held_by};
-ghost use Rattle.sqlcipher_tool.specs.Opening.{AreRecovered};
+ghost use Rattle.sqlcipher_tool.specs.Opening.{AreRecovered, opened_with};
 ghost use Rattle.sqlcipher_tool.specs.Rekey.{rekey_answers, rekey_due};
 ghost use Rattle.sqlcipher_tool.specs.Renewal.{IsRekeyedSo, pages_of};
 
@@ -52,6 +53,7 @@ pub fn rekey_file<E: Entropy, D: Disk>(
         (HoldsOnly (held_by (keys_of old first.now (main_of (D.reads disk.old))) (main_of (D.reads disk.old))))
         (λ file. HoldsOnly (held_by (keys_of new second.now file) file)) disk.old disk.new }
     ensures fresh { IsTrue D.tells → LeavesOnly D.moment D.since disk.old disk.new (From SameFresh (D.images disk.old)) }
+    ensures unopened { IsTrue D.tells → IsErr (opened_with old first.now (main_of (D.reads disk.old))) → OnlyRead D.reads D.images D.moment D.since disk.old disk.new }
     ensures own_draws { OnOk result (IsTrue D.tells → IsTrue E.tells
         → FileDraws (keys_of new second.now (main_of (D.reads disk.new))) (main_of (D.reads disk.new))
         (is_number (pages_of (keys_of new second.now (main_of (D.reads disk.new))) (main_of (D.reads disk.new)))) 0 (drop (length (E.drawn entropy.old)) (E.drawn entropy.new))) }
@@ -124,6 +126,7 @@ fn rekey_pages<'d, D: Disk, E: Entropy>(
 
 // How a rekey that does not come to its end stops the command.
 fn rekey_error(error: RekeyError) -> ChangeError
+    requires { error ≢ RekeyError.LayoutDiffers }
     ensures { result ≡ rekey_error error }
 {
     match error {
@@ -133,9 +136,8 @@ fn rekey_error(error: RekeyError) -> ChangeError
         RekeyError::Defect(defect) => ChangeError::Stopped(Stop::Refused(Refusal::Defect(defect))),
         RekeyError::DiskFault => ChangeError::Stopped(Stop::DiskFault),
         RekeyError::EntropyFault => ChangeError::EntropyFault,
+        RekeyError::OutOfMemory => ChangeError::Stopped(Stop::OutOfMemory),
         // The layouts were compared before the key lines were taken.
-        RekeyError::LayoutDiffers | RekeyError::OutOfMemory => {
-            ChangeError::Stopped(Stop::OutOfMemory)
-        }
+        RekeyError::LayoutDiffers => unreachable!(),
     }
 }

@@ -1,8 +1,9 @@
 // `stamp`: a field of the database header is set, in one transaction that changes page 1 alone.
-ghost use Rattle.std.specs.Prelude.{◌≡◌, ◌⊎◌, ◌≤◌, ◌==◌, ◌∷◌, [], ℕ, List, drop, length, true, Some, Ok, Err, IfErr, OnOk, IsTrue, if◌then◌else◌};
+ghost use Rattle.std.specs.Prelude.{◌≡◌, ◌≢◌, ◌⊎◌, ◌≤◌, ◌==◌, ◌∷◌, [], ℕ, List, drop, length, true, Some, Ok, Err, IfErr, IsErr, OnOk, IsTrue, if◌then◌else◌};
 ghost use Rattle.disk_side.specs.Published.{IsNew as IsAlone};
 ghost use Rattle.edge_model.specs.Causes.{Rose};
 ghost use Rattle.edge_model.specs.Images.{Each, From, LeavesOnly};
+ghost use Rattle.edge_model.specs.OnlyRead.{OnlyRead};
 ghost use Rattle.cipher_profile.specs.Profile.{IsListed, usable};
 ghost use Rattle.page_codec.specs.Page.{keys_of, salt_of};
 ghost use Rattle.pager.specs.Base.{base_of};
@@ -14,10 +15,10 @@ ghost use Rattle.rollback_journal.specs.Playing.{main_of as read_main};
 ghost use Rattle.transaction.specs.Database.{HoldsOld};
 ghost use Rattle.transaction.specs.Facts.{IsBase, SameFresh};
 ghost use Rattle.sqlcipher_tool.specs.Answer.{Answer, IsFault};
-ghost use Rattle.sqlcipher_tool.specs.Change.{IsLateChange, KeepsOrCommits, change_answer, change_status, page_error};
-ghost use Rattle.sqlcipher_tool.specs.Draws.{FileDraws};
+ghost use Rattle.sqlcipher_tool.specs.Change.{IsLateChange, IsStopOf, KeepsOrCommits, change_answer, change_status};
+ghost use Rattle.rekey_job.specs.Draws.{FileDraws};
 ghost use Rattle.sqlcipher_tool.specs.Holding.{HoldsOnly, held_by};
-ghost use Rattle.sqlcipher_tool.specs.Opening.{AreRecovered};
+ghost use Rattle.sqlcipher_tool.specs.Opening.{AreRecovered, opened_with};
 ghost use Rattle.sqlcipher_tool.specs.Text.{stamped_report};
 ghost use Rattle.sqlcipher_tool.specs.Stamp.{IsStamped, field_at, next_change, stamp_answer, with_field};
 
@@ -28,7 +29,7 @@ use crate::text::{Text, stamped_report};
 use cipher_profile::{Profile, Secret};
 use edge_model::{Disk, Entropy};
 use page_codec::Codec;
-use pager::{CommitFault, OpenedFile, PageError, PageSource, Pager, Txn};
+use pager::{BeginError, CommitFault, OpenedFile, PageError, PageSource, Pager, Txn};
 use std::alloc::Global;
 
 /// Where the change counter stands in page 1, in bytes.
@@ -60,6 +61,7 @@ pub fn stamp_file<E: Entropy, D: Disk>(
         (HoldsOnly (held_by (keys_of profile secret.now (main_of (D.reads disk.old))) (main_of (D.reads disk.old))))
         (λ file. HoldsOnly (held_by (keys_of profile secret.now file) file)) disk.old disk.new }
     ensures fresh { IsTrue D.tells → LeavesOnly D.moment D.since disk.old disk.new (From SameFresh (D.images disk.old)) }
+    ensures unopened { IsTrue D.tells → IsErr (opened_with profile secret.now (main_of (D.reads disk.old))) → OnlyRead D.reads D.images D.moment D.since disk.old disk.new }
     ensures own_draws { OnOk result (IsTrue D.tells → IsTrue E.tells
         → FileDraws (keys_of profile secret.now (main_of (D.reads disk.new))) (main_of (D.reads disk.new)) (λ n. n == 1) 0 (drop (length (E.drawn entropy.old)) (E.drawn entropy.new))) }
     ensures late { IfErr result IsLateChange }
@@ -102,7 +104,7 @@ fn stamp_pages<'d, D: Disk, E: Entropy>(
     ensures entropy { result.1.ghost_name ≡ pager.entry.entropy.ghost_name }
     ensures told { IsTrue D.tells → IsFault (change_status result.2) ⊎ (result.2 ≡ Ok stamped_report) }
     ensures safely { IsTrue D.tells → KeepsOrCommits D.reads D.images D.moment D.since (change_status result.2)
-        (λ file. IsStamped pager.entry.codec field value (main_of (D.reads pager.entry.disk.now)) file × (salt_of file ≡ pager.entry.codec.salt))
+        (IsStamped pager.entry.codec field value (main_of (D.reads pager.entry.disk.now)))
         (HoldsOnly (held_by pager.entry.codec (main_of (D.reads pager.entry.disk.now))))
         (λ file. HoldsOnly (held_by pager.entry.codec file)) pager.entry.disk.now result.0.now }
     ensures fresh { IsTrue D.tells → LeavesOnly D.moment D.since pager.entry.disk.now result.0.now (From SameFresh (D.images pager.entry.disk.now)) }
@@ -120,10 +122,9 @@ fn stamp_pages<'d, D: Disk, E: Entropy>(
     let report = stamped_report();
     let mut txn = match pager.begin(alloc, write, 1) {
         Ok(txn) => txn,
-        // The layout is that of the file, so memory ran out.
-        Err((pager, _)) => {
+        Err((pager, error)) => {
             let (disk, entropy) = pager.into_parts();
-            return (disk, entropy, Err(ChangeError::Stopped(Stop::OutOfMemory)));
+            return (disk, entropy, Err(begin_error(error)));
         }
     };
     if let Err(error) = write_fields(&mut txn, field, value, change, pages) {
@@ -138,9 +139,22 @@ fn stamp_pages<'d, D: Disk, E: Entropy>(
     }
 }
 
-// How a page that is refused stops the command.
+// How the command stops whose transaction was not begun: both codecs have the layout of the file.
+fn begin_error(error: BeginError) -> ChangeError
+    requires { error ≢ BeginError.LayoutDiffers }
+    ensures { result ≡ ChangeError.Stopped Stop.OutOfMemory }
+{
+    match error {
+        BeginError::LayoutDiffers => unreachable!(),
+        BeginError::OutOfMemory => ChangeError::Stopped(Stop::OutOfMemory),
+    }
+}
+
+// How page 1, where it is refused, stops the command: it is there, and a frame is free for it.
 fn page_error(error: PageError) -> ChangeError
-    ensures { result ≡ page_error error }
+    requires there { error ≢ PageError.OutOfRange }
+    requires free { error ≢ PageError.AllPinned }
+    ensures { IsStopOf error result }
 {
     match error {
         PageError::TagRefused { page } => {
@@ -148,8 +162,7 @@ fn page_error(error: PageError) -> ChangeError
         }
         PageError::DiskFault => ChangeError::Stopped(Stop::DiskFault),
         PageError::EntropyFault => ChangeError::EntropyFault,
-        // Page 1 is there, and a frame is free for it.
-        PageError::OutOfRange | PageError::AllPinned => ChangeError::Stopped(Stop::OutOfMemory),
+        PageError::OutOfRange | PageError::AllPinned => unreachable!(),
     }
 }
 
@@ -182,10 +195,8 @@ fn write_fields<D: Disk, E: Entropy>(
         ((seen_pages txn.old.read txn.old.write (read_main (D.reads txn.old.disk.now)) txn.old.count txn.old.recorded txn.old.changed.held).page 1))))) }
     ensures touched { OnOk result ((m : ℕ) → is_number txn.old.count m ≡ true → is_touched txn.new.recorded txn.new.changed.held m
         ≡ (if m == 1 then true else is_touched txn.old.recorded txn.old.changed.held m)) }
-    ensures refused { IfErr result (λ e. (page : ℕ) → e ≡ PageError.TagRefused page → IsTrue D.tells
-        → (seen_pages txn.old.read txn.old.write (read_main (D.reads txn.old.disk.now)) txn.old.count txn.old.recorded txn.old.changed.held).accepts 1 ≡ true → ⊥) }
-    ensures disk_fault { result ≡ Err PageError.DiskFault → Rose (D.faults txn.old.disk.now) (D.faults txn.new.disk.now) }
-    ensures entropy_fault { result ≡ Err PageError.EntropyFault → Rose (E.faults txn.old.entropy.now) (E.faults txn.new.entropy.now) }
+    ensures refused { IfErr result (IsRefusedAs D.tells (seen_pages txn.old.read txn.old.write (read_main (D.reads txn.old.disk.now)) txn.old.count txn.old.recorded txn.old.changed.held)
+        1 (D.faults txn.old.disk.now) (D.faults txn.new.disk.now) (E.faults txn.old.entropy.now) (E.faults txn.new.entropy.now)) }
     ensures ready { OnOk result (IsReadyFor txn.new.recorded txn.new.writer) }
     ensures under_way { OnOk result (IsTrue D.tells → IsUnderWay start txn.new.write txn.new.recorded txn.new.writer (D.reads txn.new.disk.now)
         (D.images txn.new.disk.now) E.tells (E.drawn txn.new.entropy.now)) }
@@ -220,10 +231,8 @@ fn write_number<D: Disk, E: Entropy>(
     ensures touched { OnOk result ((m : ℕ) → is_number txn.old.count m ≡ true → is_touched txn.new.recorded txn.new.changed.held m
         ≡ (if m == 1 then true else is_touched txn.old.recorded txn.old.changed.held m)) }
     ensures accepted { OnOk result (IsTrue D.tells → (seen_pages txn.new.read txn.new.write (read_main (D.reads txn.new.disk.now)) txn.new.count txn.new.recorded txn.new.changed.held).accepts 1 ≡ true) }
-    ensures refused { IfErr result (λ e. (page : ℕ) → e ≡ PageError.TagRefused page → IsTrue D.tells
-        → (seen_pages txn.old.read txn.old.write (read_main (D.reads txn.old.disk.now)) txn.old.count txn.old.recorded txn.old.changed.held).accepts 1 ≡ true → ⊥) }
-    ensures disk_fault { result ≡ Err PageError.DiskFault → Rose (D.faults txn.old.disk.now) (D.faults txn.new.disk.now) }
-    ensures entropy_fault { result ≡ Err PageError.EntropyFault → Rose (E.faults txn.old.entropy.now) (E.faults txn.new.entropy.now) }
+    ensures refused { IfErr result (IsRefusedAs D.tells (seen_pages txn.old.read txn.old.write (read_main (D.reads txn.old.disk.now)) txn.old.count txn.old.recorded txn.old.changed.held)
+        1 (D.faults txn.old.disk.now) (D.faults txn.new.disk.now) (E.faults txn.old.entropy.now) (E.faults txn.new.entropy.now)) }
     ensures ready { OnOk result (IsReadyFor txn.new.recorded txn.new.writer) }
     ensures under_way { OnOk result (IsTrue D.tells → IsUnderWay start txn.new.write txn.new.recorded txn.new.writer (D.reads txn.new.disk.now)
         (D.images txn.new.disk.now) E.tells (E.drawn txn.new.entropy.now)) }

@@ -10,9 +10,10 @@ ghost use Rattle.sqlcipher_tool.specs.Change.{command_of};
 ghost use Rattle.sqlcipher_tool.specs.Crash.{Keeps, Changes, GaveKeys, HasOwnDraws};
 ghost use Rattle.sqlcipher_tool.specs.Due.{due, key_answer, key_lines, word_refusal, asked_answers, keyed_answers, secret_answers};
 ghost use Rattle.sqlcipher_tool.specs.Holding.{disk_run};
-ghost use Rattle.sqlcipher_tool.specs.Promises.{AnswersOne, AreWordsThat, ComesLate, IsAnsweredEarly, IsUnrecovered, TakesAtMost, TakesLines, is_in_the_way, WhereTaken, after_lines, takes_keys, two_secrets};
+ghost use Rattle.sqlcipher_tool.specs.Promises.{AnswersOne, AreWordsThat, ComesLate, IsAnsweredEarly, IsUnrecovered, TakesAtMost, TakesLines, TellsKeys, is_in_the_way, WhereTaken, after_lines, takes_keys, two_secrets};
 ghost use Rattle.sqlcipher_tool.specs.Servable.{CanBeServed, IsDoneOrStarved, NoneRose};
 ghost use Rattle.sqlcipher_tool.specs.Text.{usage_line};
+ghost use Rattle.sqlcipher_tool.specs.Untouched.{LeavesAlone, recovers_by};
 ghost use Rattle.sqlcipher_tool.specs.declared.command.Command.{Command as Asked};
 ghost use Rattle.sqlcipher_tool.specs.declared.status.Refusal.{Refusal as Refused};
 ghost use Rattle.sqlcipher_tool.specs.Words.{draws, form, texts, keys_taken, lacks_tags, layouts_differ, takes_memory, IsServed};
@@ -49,9 +50,9 @@ pub fn run<K: Source, S: Sink, E: Entropy, D: Disk>(
         → (result ≡ Status.Refused refusal) ⊎ (result ≡ Status.OutputFault) }
     ensures key_refusals { IsTrue K.tells → WhereTaken (texts words.now) (λ command. (error : KeyRefusal)
         → key_lines (keys_taken command) (K.left input.old) ≡ Err error → IsAnsweredEarly result (key_answer error)) }
-    ensures answer { IsTrue K.tells → IsTrue D.tells
+    ensures answer { TellsKeys K.tells (texts words.now) → IsTrue D.tells
         → AnswersOne (due (texts words.now) (K.left input.old) (D.reads disk.old) (D.reads disk.new)) result S.tells (S.taken out.old) (S.taken out.new) }
-    ensures complete { IsTrue K.tells → IsTrue D.tells → CanBeServed (texts words.now) (K.left input.old) (D.reads disk.old)
+    ensures complete { TellsKeys K.tells (texts words.now) → IsTrue D.tells → CanBeServed (texts words.now) (K.left input.old) (D.reads disk.old)
         → NoneRose ((K.faults input.old, K.faults input.new) ∷ (S.faults out.old, S.faults out.new)
         ∷ (E.faults entropy.old, E.faults entropy.new) ∷ (D.faults disk.old, D.faults disk.new) ∷ []) → IsDoneOrStarved result }
 
@@ -80,6 +81,7 @@ pub fn run<K: Source, S: Sink, E: Entropy, D: Disk>(
     ensures early_first { IsEarly result → disk.new ≡ disk.old }
     ensures fault_first { result ≡ Status.InputFault → disk.new ≡ disk.old }
     ensures takes { IsTrue K.tells → WhereTaken (texts words.now) (λ command. TakesLines result (keys_taken command) (K.left input.old) (K.left input.new)) }
+    ensures takes_none { (AreWordsThat takes_keys (texts words.now) → ⊥) → input.new ≡ input.old }
     ensures draws { (AreWordsThat draws (texts words.now) → ⊥) → entropy.new ≡ entropy.old }
     ensures undrawn { IsTrue D.tells → (command : Asked) → form (texts words.now) ≡ Some command → is_in_the_way command (D.reads disk.old) ≡ true
         → entropy.new ≡ entropy.old }
@@ -88,6 +90,8 @@ pub fn run<K: Source, S: Sink, E: Entropy, D: Disk>(
 
     // The disk, at every moment of the run and after every status.
     ensures unrecovered { IsTrue D.tells → IsUnrecovered result → D.reads disk.new ≡ D.reads disk.old }
+    ensures untouched { IsTrue D.tells → (command : Asked) → form (texts words.now) ≡ Some command
+        → LeavesAlone result (recovers_by command) (disk_run D.reads D.images D.moment D.since disk.old disk.new) }
     ensures keeps { IsTrue D.tells → (command : Asked) → form (texts words.now) ≡ Some command
         → Keeps command (disk_run D.reads D.images D.moment D.since disk.old disk.new) }
     ensures changes { IsTrue D.tells → (command : Asked) → form (texts words.now) ≡ Some command
@@ -112,7 +116,7 @@ fn serve<K: Source, S: Sink, E: Entropy, D: Disk>(
     ensures word_refusals { (refusal : Refused) → word_refusal command ≡ Some refusal → (result ≡ Status.Refused refusal) ⊎ (result ≡ Status.OutputFault) }
     ensures key_refusals { IsTrue K.tells → word_refusal command ≡ None → (error : KeyRefusal)
         → key_lines (keys_taken command) (K.left input.old) ≡ Err error → IsAnsweredEarly result (key_answer error) }
-    ensures answer { IsTrue K.tells → IsTrue D.tells
+    ensures answer { (takes_keys command ≡ true → IsTrue K.tells) → IsTrue D.tells
         → AnswersOne (asked_answers (word_refusal command) command (K.left input.old) (D.reads disk.old) (D.reads disk.new)) result S.tells (S.taken out.old) (S.taken out.new) }
     ensures no_usage { result ≡ Status.Usage → ⊥ }
     ensures input_fault { result ≡ Status.InputFault → Rose (K.faults input.old) (K.faults input.new) × (takes_keys command ≡ true) }
@@ -128,11 +132,13 @@ fn serve<K: Source, S: Sink, E: Entropy, D: Disk>(
     ensures early_first { IsEarly result → disk.new ≡ disk.old }
     ensures fault_first { result ≡ Status.InputFault → disk.new ≡ disk.old }
     ensures takes { IsTrue K.tells → word_refusal command ≡ None → TakesLines result (keys_taken command) (K.left input.old) (K.left input.new) }
+    ensures takes_none { takes_keys command ≡ false → input.new ≡ input.old }
     ensures draws { draws command ≡ false → entropy.new ≡ entropy.old }
     ensures undrawn { IsTrue D.tells → is_in_the_way command (D.reads disk.old) ≡ true → entropy.new ≡ entropy.old }
     ensures own_draws { IsTrue D.tells → IsTrue E.tells → result ≡ Status.Done
         → HasOwnDraws command (GaveKeys K.tells (key_lines (keys_taken command) (K.left input.old))) (main_of (D.reads disk.new)) (drop (length (E.drawn entropy.old)) (E.drawn entropy.new)) }
     ensures unrecovered { IsTrue D.tells → IsUnrecovered result → D.reads disk.new ≡ D.reads disk.old }
+    ensures untouched { IsTrue D.tells → LeavesAlone result (recovers_by command) (disk_run D.reads D.images D.moment D.since disk.old disk.new) }
     ensures keeps { IsTrue D.tells → Keeps command (disk_run D.reads D.images D.moment D.since disk.old disk.new) }
     ensures changes { IsTrue D.tells
         → Changes result command (GaveKeys K.tells (key_lines (keys_taken command) (K.left input.old))) (disk_run D.reads D.images D.moment D.since disk.old disk.new) }
@@ -195,6 +201,7 @@ fn serve_keyed<K: Source, S: Sink, E: Entropy, D: Disk>(
     ensures own_draws { IsTrue D.tells → IsTrue E.tells → result ≡ Status.Done
         → HasOwnDraws command (GaveKeys K.tells (key_lines 1 (K.left input.old))) (main_of (D.reads disk.new)) (drop (length (E.drawn entropy.old)) (E.drawn entropy.new)) }
     ensures unrecovered { IsTrue D.tells → IsUnrecovered result → D.reads disk.new ≡ D.reads disk.old }
+    ensures untouched { IsTrue D.tells → LeavesAlone result (recovers_by command) (disk_run D.reads D.images D.moment D.since disk.old disk.new) }
     ensures keeps { IsTrue D.tells → Keeps command (disk_run D.reads D.images D.moment D.since disk.old disk.new) }
     ensures changes { IsTrue D.tells
         → Changes result command (GaveKeys K.tells (key_lines 1 (K.left input.old))) (disk_run D.reads D.images D.moment D.since disk.old disk.new) }
@@ -231,6 +238,7 @@ fn carry_out<S: Sink, E: Entropy, D: Disk>(
     ensures own_draws { IsTrue D.tells → IsTrue E.tells → result ≡ Status.Done
         → HasOwnDraws command (λ secrets. secrets ≡ secret.now ∷ []) (main_of (D.reads disk.new)) (drop (length (E.drawn entropy.old)) (E.drawn entropy.new)) }
     ensures unrecovered { IsTrue D.tells → IsUnrecovered result → D.reads disk.new ≡ D.reads disk.old }
+    ensures untouched { IsTrue D.tells → LeavesAlone result (recovers_by command) (disk_run D.reads D.images D.moment D.since disk.old disk.new) }
     ensures keeps { IsTrue D.tells → Keeps command (disk_run D.reads D.images D.moment D.since disk.old disk.new) }
     ensures changes { IsTrue D.tells
         → Changes result command (λ secrets. secrets ≡ secret.now ∷ []) (disk_run D.reads D.images D.moment D.since disk.old disk.new) }
@@ -294,6 +302,7 @@ fn serve_two_keys<K: Source, S: Sink, E: Entropy, D: Disk>(
     ensures own_draws { IsTrue D.tells → IsTrue E.tells → result ≡ Status.Done
         → HasOwnDraws (command_of change old new) (GaveKeys K.tells (key_lines 2 (K.left input.old))) (main_of (D.reads disk.new)) (drop (length (E.drawn entropy.old)) (E.drawn entropy.new)) }
     ensures unrecovered { IsTrue D.tells → IsUnrecovered result → D.reads disk.new ≡ D.reads disk.old }
+    ensures untouched { IsTrue D.tells → LeavesAlone result (recovers_by (command_of change old new)) (disk_run D.reads D.images D.moment D.since disk.old disk.new) }
     ensures keeps { IsTrue D.tells → Keeps (command_of change old new) (disk_run D.reads D.images D.moment D.since disk.old disk.new) }
     ensures changes { IsTrue D.tells
         → Changes result (command_of change old new) (GaveKeys K.tells (key_lines 2 (K.left input.old))) (disk_run D.reads D.images D.moment D.since disk.old disk.new) }

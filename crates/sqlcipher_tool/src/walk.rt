@@ -8,6 +8,7 @@ ghost use Rattle.btree_model.specs.Finding.{is_sound, leaves};
 ghost use Rattle.btree_model.specs.Freelist.{first_trunk, free_field, freelist_walk};
 ghost use Rattle.btree_model.specs.Parts.{parts};
 ghost use Rattle.btree_walk.specs.Causes.{is_failure};
+ghost use Rattle.migrate_job.specs.Stops.{IsWalkStop};
 ghost use Rattle.pager.specs.Causes.{MayRefuse, is_fault};
 ghost use Rattle.pager.specs.File.{main_of};
 ghost use Rattle.pager.specs.Held.{pins_of};
@@ -49,10 +50,6 @@ pub fn verify_pages<S: Sink, E: Entropy, D: Disk>(
     ensures disk { DiskRead D.tells D.reads D.images D.moment D.since D.faults pager.old.disk pager.new.disk }
     ensures entropy { Untouched pager.old.entropy pager.new.entropy }
 {
-    // A file that opens has a page.
-    if pager.pages() == 0 {
-        return Status::OutOfMemory;
-    }
     let header = *pager.header();
     match start(alloc, pager, &header) {
         Ok(started) => match started.finish(alloc, pager) {
@@ -104,6 +101,7 @@ fn report_stop<S: Sink, E: Entropy, D: Disk>(
 ) -> Status
     requires trunk { IsTrue D.tells → header.now.first_trunk ≡ first_trunk (opened_pages pager.old.codec (main_of (D.reads pager.old.disk.now)) pager.old.count) }
     requires free { IsTrue D.tells → header.now.free_count ≡ free_field (opened_pages pager.old.codec (main_of (D.reads pager.old.disk.now)) pager.old.count) }
+    requires is_stop { IsWalkStop error.now }
     requires stopped { IsTrue D.tells → IsEarliest (MayRefuse D.tells) (opened_pages pager.old.codec (main_of (D.reads pager.old.disk.now)) pager.old.count)
         (parts (opened_pages pager.old.codec (main_of (D.reads pager.old.disk.now)) pager.old.count)) error.now }
     ensures answer { IsTrue D.tells
@@ -130,6 +128,7 @@ fn report_stop<S: Sink, E: Entropy, D: Disk>(
 
 /// How a walk stops a command.
 pub fn walk_stop(error: &WalkError<PageError>) -> Stop
+    requires { IsWalkStop error.now }
     ensures { result ≡ walk_stop error.now }
 {
     match walk_refusal(error) {
@@ -140,14 +139,16 @@ pub fn walk_stop(error: &WalkError<PageError>) -> Stop
 
 // The defect or the refused page that a walk came upon, or what else stopped it.
 fn walk_refusal(error: &WalkError<PageError>) -> Result<Refusal, Stop>
+    requires { IsWalkStop error.now }
     ensures { result ≡ walk_refusal error.now }
 {
     match error {
         WalkError::Defect(defect) => Ok(Refusal::Defect(*defect)),
         WalkError::Source(PageError::TagRefused { page }) => Ok(Refusal::PageTag { page: *page }),
         WalkError::Source(PageError::DiskFault) => Err(Stop::DiskFault),
-        // A walk asks for pages of the file alone, and pins fewer than there are frames.
-        WalkError::Source(PageError::OutOfRange | PageError::EntropyFault | PageError::AllPinned)
-        | WalkError::OutOfMemory => Err(Stop::OutOfMemory),
+        // A walk pins fewer pages than there are frames, but no clause of a source of pages says that a frame is left.
+        WalkError::Source(PageError::AllPinned) | WalkError::OutOfMemory => Err(Stop::OutOfMemory),
+        // A walk asks for pages of the file alone.
+        WalkError::Source(PageError::OutOfRange | PageError::EntropyFault) => unreachable!(),
     }
 }

@@ -1,6 +1,6 @@
 use Rattle.std.proofs.Common.{◌≡◌, inl, ◌≤◌, ◌<◌, ℕ, List, length, refl, sym, ap, subst, ◌∙◌, arith, rules}
 use Rattle.disk_side.specs.Published.{IsNew as IsAlone}
-use Rattle.edge_model.specs.Files.{bytes_of}
+use Rattle.edge_model.specs.Files.{Files, bytes_of}
 use Rattle.edge_model.specs.Images.{Each, From, LeavesOnly}
 use Rattle.edge_model.specs.Moments.{at_exit, then_from, weaker}
 use Rattle.page_codec.specs.Page.{keys_of}
@@ -17,6 +17,7 @@ use Rattle.sqlcipher_tool.proofs.SomeDue.{after_some, change_some}
 use Rattle.sqlcipher_tool.proofs.Changed.{causes_after, causes_stopped, done_alone, last_not_done, stop_last}
 use Rattle.sqlcipher_tool.proofs.Verified.{stop_one}
 use Rattle.sqlcipher_tool.proofs.VerifiedFile.{answers_recovered, change_of_file, refused_due}
+use Rattle.sqlcipher_tool.proofs.LeftAlone.{empty_unopened, has_no_byte, unwritten_read}
 use Rattle.sqlcipher_tool.proofs.change.change_file.Goals as goal
 
 pub returns-in-Ok-clause-causes : goal.returns-in-Ok-clause-causes
@@ -110,3 +111,16 @@ pub returns-in-Err-clause-own_draws : goal.returns-in-Err-clause-own_draws
 returns-in-Err-clause-own_draws g c = λ told drawing is.
     absurd (last_not_done c.in-Err.stop c.conclude_stop.result (stop_last c.in-Err.stop c.conclude_stop.result c.conclude_stop.ensures.status
     (λ same. (c.conclude_stop.ensures.disk same).0) (λ same. (c.conclude_stop.ensures.memory same).0)) is)
+
+pub returns-in-Ok-clause-untouched : goal.returns-in-Ok-clause-untouched
+returns-in-Ok-clause-untouched g c = λ told none ok.
+    let files = g.D.Disk.reads c.args.disk.now in
+    let main = main_of (g.D.Disk.reads c.recover_main.new.disk) in
+    let unwritten = c.in-Ok.ensures.untouched told none in
+    let same : main ≡ main_of files = ap (λ (f : Files). main_of f) unwritten.reads in
+    let empty = ap (λ (l : List ℕ). length l) same ∙ has_no_byte c.args.old files c.in-Ok.field-0 (c.in-Ok.ensures.recovery told) none in
+    unwritten_read g.met.D.Disk.counts_now (c.recover_main.ensures.keeps told).later unwritten
+    (c.change_main.ensures.unopened told (empty_unopened c.args.old c.args.first.now main empty))
+
+pub returns-in-Err-clause-untouched : goal.returns-in-Err-clause-untouched
+returns-in-Err-clause-untouched g c = λ told none ok. c.in-Err.ensures.unwritten told (λ is. ok (c.conclude_stop.ensures.disk is).0)

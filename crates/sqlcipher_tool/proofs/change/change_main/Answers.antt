@@ -124,3 +124,12 @@ returns-in-Err-EntropyFault-clause-own_draws g c = λ told drawing is. absurd (e
   where
     entropy_not_done : EntropyFault ≡ Done → ⊥
     entropy_not_done is = cc
+
+pub returns-in-Ok-clause-unopened : goal.returns-in-Ok-clause-unopened
+returns-in-Ok-clause-unopened g c = λ told err. c.change_opened.ensures.unopened told err
+
+pub returns-in-Err-Stopped-clause-unopened : goal.returns-in-Err-Stopped-clause-unopened
+returns-in-Err-Stopped-clause-unopened g c = λ told err. c.change_opened.ensures.unopened told err
+
+pub returns-in-Err-EntropyFault-clause-unopened : goal.returns-in-Err-EntropyFault-clause-unopened
+returns-in-Err-EntropyFault-clause-unopened g c = λ told err. c.change_opened.ensures.unopened told err

@@ -1,18 +1,15 @@
-use Rattle.std.proofs.Common.{◌≡◌, ⊎_elim, inl, inr, true, refl, ap, ◌∙◌}
+use Rattle.std.proofs.Common.{◌≡◌, ⊎_elim, inl, inr, true, ap, ◌∙◌}
 use Rattle.btree_model.specs.Parts.{is_database}
 use Rattle.export_rows.specs.Causes.{is_defect}
+use Rattle.migrate_job.proofs.WalkStops.{given_stop}
 use Rattle.pager.specs.File.{main_of}
 use Rattle.pager.specs.Pages.{opened_pages}
-use Rattle.sqlcipher_tool.proofs.Exported.{causes_of, done_one, failed_one, line_one, stopped_one}
-use Rattle.sqlcipher_tool.proofs.SomeDue.{content_some}
-use Rattle.sqlcipher_tool.proofs.Verified.{memory_one}
+use Rattle.sqlcipher_tool.proofs.Exported.{causes_of, done_one, failed_one, line_one, of_walk, stopped_one}
 use Rattle.sqlcipher_tool.proofs.export.export_pages.Goals as goal
 
-pub returns-then-pages-eq0-clause-answer : goal.returns-then-pages-eq0-clause-answer
-returns-then-pages-eq0-clause-answer g c = λ told.
-    let start = c.args.pager.now in
-    let pages = opened_pages start.codec (main_of (g.D.Disk.reads start.disk.now)) start.count in
-    memory_one _ g.S.Sink.tells (g.S.Sink.taken c.args.out.now) (g.S.Sink.taken c.args.out.now) (content_some pages) refl
+pub walk_stop-requires : goal.walk_stop-requires
+walk_stop-requires g c =
+    given_stop g.D.Disk.tells _ _ _ c.in-Err-Walk.error (λ s t read. read.4) (of_walk _ c.in-Err-Walk.field-0 c.in-Err-Walk.error c.in-Err-Walk.field-0-is c.in-Err-Walk.ensures.given)
 
 pub returns-in-Ok-clause-answer : goal.returns-in-Ok-clause-answer
 returns-in-Ok-clause-answer g c = λ told.

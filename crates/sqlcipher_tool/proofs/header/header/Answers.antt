@@ -7,6 +7,7 @@ use Rattle.sqlcipher_tool.proofs.Recoveries.{had_byte, header_recovered, journal
 use Rattle.sqlcipher_tool.specs.declared.status.Status.TheVariants.{OutputFault}
 use Rattle.sqlcipher_tool.specs.Recovered.{recovered_main, recovery_of}
 use Rattle.sqlcipher_tool.proofs.Conclusions.{recovery_status, recovery_text}
+use Rattle.sqlcipher_tool.proofs.LeftAlone.{unwritten_read}
 use Rattle.sqlcipher_tool.proofs.header.header.Goals as goal
 
 pub returns-in-Ok-clause-status : goal.returns-in-Ok-clause-status
@@ -61,3 +62,10 @@ header_of_main-requires-clause-recovered g c = λ told byte image now.
     let files = g.D.Disk.reads c.args.disk.now in
     journal_gone c.args.profile.page_size (bytes_of files.main) (bytes_of files.journal) image
     (c.in-Ok.ensures.done told (had_byte c.args.profile files (main_of (g.D.Disk.reads c.recover_main.new.disk)) (c.in-Ok.ensures.main told) byte) image now)
+
+pub returns-in-Ok-clause-untouched : goal.returns-in-Ok-clause-untouched
+returns-in-Ok-clause-untouched g c = λ told none ok.
+    unwritten_read g.met.D.Disk.counts_now (c.recover_main.ensures.keeps told).later (c.in-Ok.ensures.untouched told none) (c.header_of_main.ensures.only_read told)
+
+pub returns-in-Err-clause-untouched : goal.returns-in-Err-clause-untouched
+returns-in-Err-clause-untouched g c = λ told none ok. c.in-Err.ensures.unwritten told (λ is. ok (c.conclude_stop.ensures.disk is).0)

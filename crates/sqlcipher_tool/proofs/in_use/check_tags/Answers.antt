@@ -5,11 +5,12 @@ use Rattle.db_format.specs.Pages.{Pages}
 use Rattle.db_format.specs.Seen.{marked}
 use Rattle.pager.specs.File.{main_of}
 use Rattle.pager.specs.Pages.{opened_pages}
+use Rattle.rekey_job.proofs.Stopped.{pages_same}
 use Rattle.sqlcipher_tool.specs.Plain.{is_left}
 use Rattle.sqlcipher_tool.specs.Tags.{number_where, numbers_where}
 use Rattle.sqlcipher_tool.specs.Text.{tag_lines}
 use Rattle.sqlcipher_tool.proofs.RefusedPages.{more_pages, first_of_both, lines_more}
-use Rattle.sqlcipher_tool.proofs.Verified.{none_of_both, pages_same, part_of_stop}
+use Rattle.sqlcipher_tool.proofs.Verified.{none_of_both, part_of_stop}
 use Rattle.sqlcipher_tool.proofs.in_use.check_tags.Goals as goal
 
 pub returns-in-Err-clause-part : goal.returns-in-Err-clause-part

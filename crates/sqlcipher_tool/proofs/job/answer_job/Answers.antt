@@ -9,6 +9,7 @@ use Rattle.sqlcipher_tool.proofs.SomeDue.{after_some, job_some, opened_some}
 use Rattle.sqlcipher_tool.proofs.Recoveries.{read_after}
 use Rattle.sqlcipher_tool.proofs.Verified.{stop_one}
 use Rattle.sqlcipher_tool.proofs.VerifiedFile.{refused_due, job_recovered}
+use Rattle.sqlcipher_tool.proofs.LeftAlone.{unwritten_read}
 use Rattle.sqlcipher_tool.proofs.job.answer_job.Goals as goal
 
 pub returns-in-Ok-clause-keeps : goal.returns-in-Ok-clause-keeps
@@ -35,3 +36,10 @@ returns-in-Err-clause-answer g c = λ told.
     c.conclude_stop.ensures.status c.conclude_stop.ensures.text
     (λ is. let failed = c.conclude_stop.ensures.disk is in (failed.0, ap g.S.Sink.taken failed.1))
     (λ is. let starved = c.conclude_stop.ensures.memory is in (starved.0, ap g.S.Sink.taken starved.1))
+
+pub returns-in-Ok-clause-untouched : goal.returns-in-Ok-clause-untouched
+returns-in-Ok-clause-untouched g c = λ told none ok.
+    unwritten_read g.met.D.Disk.counts_now (c.recover_main.ensures.keeps told).later (c.in-Ok.ensures.untouched told none) (c.job_on_main.ensures.only_read told)
+
+pub returns-in-Err-clause-untouched : goal.returns-in-Err-clause-untouched
+returns-in-Err-clause-untouched g c = λ told none ok. c.in-Err.ensures.unwritten told (λ is. ok (c.conclude_stop.ensures.disk is).0)

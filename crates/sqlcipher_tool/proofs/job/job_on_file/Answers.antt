@@ -2,9 +2,10 @@ use Rattle.std.proofs.Common.{◌≤◌, ℕ, sym, ap, ◌∙◌, subst}
 use Rattle.db_format.specs.Header.{header_fields}
 use Rattle.db_format.specs.Pages.{Pages}
 use Rattle.pager.specs.File.{main_of}
+use Rattle.pager.proofs.UnreadLemmas.{no_held_pins}
+use Rattle.rekey_job.proofs.Stopped.{pages_same}
 use Rattle.sqlcipher_tool.specs.Job.{job_due}
 use Rattle.sqlcipher_tool.specs.Promises.{AnswersOne}
-use Rattle.sqlcipher_tool.proofs.Verified.{no_held_pins, pages_same}
 use Rattle.sqlcipher_tool.proofs.VerifiedFile.{opened_header}
 use Rattle.sqlcipher_tool.proofs.job.job_on_file.Goals as goal
 

@@ -9,17 +9,17 @@ use Rattle.pager.specs.File.{main_of}
 use Rattle.pager.specs.Opening.{Opened}
 use Rattle.pager.specs.Pages.{opened_pages}
 use Rattle.pager.specs.declared.opening.OpenError.{OpenError}
+use Rattle.pager.proofs.UnreadLemmas.{no_held_pins}
 use Rattle.sqlcipher_tool.specs.Change.{KeepsOrCommits, change_status}
 use Rattle.sqlcipher_tool.specs.Holding.{HoldsOnly, held_by}
 use Rattle.sqlcipher_tool.specs.Migrate.{IsMigratedSo, migrate_due}
 use Rattle.sqlcipher_tool.specs.Opening.{opened_with}
 use Rattle.sqlcipher_tool.specs.Renewal.{pages_under}
 use Rattle.sqlcipher_tool.specs.Verify.{opened_answers}
-use Rattle.sqlcipher_tool.proofs.Changing.{after_old, read_only}
+use Rattle.sqlcipher_tool.proofs.Changing.{after_old, read_only, stop_not_done}
 use Rattle.sqlcipher_tool.proofs.OpenedParts.{open_parts}
-use Rattle.sqlcipher_tool.proofs.Stamping.{stop_not_done}
-use Rattle.sqlcipher_tool.proofs.Verified.{no_held_pins}
 use Rattle.sqlcipher_tool.proofs.VerifiedFile.{unopened_due}
+use Rattle.sqlcipher_tool.proofs.LeftAlone.{is_opened}
 use Rattle.sqlcipher_tool.proofs.migrate.migrate_file.Goals as goal
 
 pub returns-in-Err-clause-told : goal.returns-in-Err-clause-told
@@ -109,3 +109,9 @@ returns-clause-entropy_fault g c = λ is.
     let after = c.migrate_pages-disk.result.1.now in
     let last : c.entropy-1.given.0 ≡ after = search rules in
     rw last (subst (λ (x : _). Rose (g.E.Entropy.faults x) (g.E.Entropy.faults after)) c.into_pager-pager.ensures.entropy.1 (c.migrate_pages-disk.ensures.entropy_fault is))
+
+pub returns-in-Err-clause-unopened : goal.returns-in-Err-clause-unopened
+returns-in-Err-clause-unopened g c = λ told err. c.open_main.ensures.only_read told
+
+pub returns-clause-unopened : goal.returns-clause-unopened
+returns-clause-unopened g c = λ told err. is_opened _ _ (c.in-Ok.ensures.opens told) err

@@ -10,6 +10,7 @@ use Rattle.page_codec.specs.Page.{keys_of}
 use Rattle.pager.specs.File.{main_of}
 use Rattle.pager.specs.Opening.{Opened}
 use Rattle.pager.specs.Pages.{opened_pages}
+use Rattle.rekey_job.proofs.Rewriting.{err_at}
 use Rattle.sqlcipher_tool.specs.Answer.{done}
 use Rattle.sqlcipher_tool.specs.Change.{IsLateChange, KeepsOrCommits, change_answer, change_status}
 use Rattle.sqlcipher_tool.specs.Holding.{HoldsOnly, held_by}
@@ -19,7 +20,6 @@ use Rattle.sqlcipher_tool.specs.declared.opening.ChangeError.{ChangeError}
 use Rattle.sqlcipher_tool.proofs.Changing.{said_so}
 use Rattle.sqlcipher_tool.proofs.MigratedFile.{migrated_so}
 use Rattle.sqlcipher_tool.proofs.Migrating.{migrate_late, migrated_count, migrated_due, migrated_there, stopped_migrate, unmigrated_due, was_done}
-use Rattle.sqlcipher_tool.proofs.Rekeying.{was_err}
 use Rattle.sqlcipher_tool.proofs.Stamping.{was_ok}
 use Rattle.sqlcipher_tool.proofs.VerifiedFile.{opened_header}
 use Rattle.sqlcipher_tool.proofs.migrate.migrate_pages.Goals as goal
@@ -72,7 +72,7 @@ returns-in-Err-clause-told g c = λ told answer is.
     let pages = opened_pages p.codec (main_of (d.reads p.disk.now)) p.count in
     let main = main_of (d.reads c.migrate-disk.result.0.now) in
     unmigrated_due c.args.profile (pages_under c.args.profile c.args.secret.now main) pages c.in-Err.error answer
-    (was_err (λ e. IsTrue d.tells → IsShown c.args.profile pages e) c.migrate-disk.result.2 c.in-Err.error c.in-Err.is c.migrate-disk.ensures.shown told)
+    (err_at (λ e. IsTrue d.tells → IsShown c.args.profile pages e) c.migrate-disk.result.2 c.in-Err.error c.in-Err.is c.migrate-disk.ensures.shown told)
     (λ limit same. c.migrate-disk.ensures.limit limit (c.in-Err.is ∙ ap (λ e. Err e) same))
     (ap (λ (error : ChangeError). change_answer (Err error)) (sym c.migrate_error.ensures) ∙ is)
 
@@ -89,7 +89,7 @@ returns-in-Err-clause-safely g c = λ told.
     (said_so d.reads d.images d.moment d.since g.met.D.Disk.counts_now g.met.D.Disk.only_now _
     (λ n is. migrated_so p.codec (keys_of c.args.profile c.args.secret.now n) file n opened (c.requires.opened told) is) (λ n is image has. has)
     (stopped_migrate d.reads d.images d.moment d.since g.met.D.Disk.counts_now g.met.D.Disk.only_now p.codec file c.args.profile c.args.secret.now p.disk.now end (c.requires.alone told) c.in-Err.error
-    (λ other. was_err (λ e. (e ≡ DiskFails → ⊥) → IsTrue d.tells → LeavesOld d.reads d.images d.moment d.since p.disk.now end) c.migrate-disk.result.2 c.in-Err.error c.in-Err.is c.migrate-disk.ensures.only_old other told)
+    (λ other. err_at (λ e. (e ≡ DiskFails → ⊥) → IsTrue d.tells → LeavesOld d.reads d.images d.moment d.since p.disk.now end) c.migrate-disk.result.2 c.in-Err.error c.in-Err.is c.migrate-disk.ensures.only_old other told)
     (c.migrate-disk.ensures.any_moment told)))
 
 pub returns-in-Err-clause-late : goal.returns-in-Err-clause-late

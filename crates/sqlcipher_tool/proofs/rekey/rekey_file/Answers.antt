@@ -12,21 +12,22 @@ use Rattle.pager.specs.File.{main_of}
 use Rattle.pager.specs.Opening.{Opened}
 use Rattle.pager.specs.Pages.{is_number, opened_pages}
 use Rattle.pager.specs.declared.opening.OpenError.{OpenError}
+use Rattle.pager.proofs.UnreadLemmas.{no_held_pins}
 use Rattle.rekey_job.specs.Rekeyed.{IsRekeyed}
 use Rattle.transaction.specs.Facts.{SameFresh}
 use Rattle.sqlcipher_tool.specs.Change.{KeepsOrCommits, change_status}
-use Rattle.sqlcipher_tool.specs.Draws.{FileDraws}
+use Rattle.rekey_job.specs.Draws.{FileDraws}
 use Rattle.sqlcipher_tool.specs.Holding.{HoldsOnly, held_by}
 use Rattle.sqlcipher_tool.specs.Opening.{opened_with}
 use Rattle.sqlcipher_tool.specs.Rekey.{rekey_due}
 use Rattle.sqlcipher_tool.specs.Renewal.{IsRekeyedSo}
 use Rattle.sqlcipher_tool.specs.Verify.{opened_answers}
-use Rattle.sqlcipher_tool.proofs.Changing.{after_old, read_fresh, read_only, said_so}
+use Rattle.sqlcipher_tool.proofs.Changing.{after_old, read_fresh, read_only, said_so, stop_not_done}
 use Rattle.sqlcipher_tool.proofs.OpenedParts.{open_parts}
+use Rattle.sqlcipher_tool.proofs.RekeyedFile.{rekeyed_so}
 use Rattle.sqlcipher_tool.proofs.Rekeying.{rekeyed_draws}
-use Rattle.sqlcipher_tool.proofs.Stamping.{stop_not_done}
-use Rattle.sqlcipher_tool.proofs.Verified.{no_held_pins}
 use Rattle.sqlcipher_tool.proofs.VerifiedFile.{unopened_due}
+use Rattle.sqlcipher_tool.proofs.LeftAlone.{is_opened}
 use Rattle.sqlcipher_tool.proofs.rekey.rekey_file.Goals as goal
 
 pub returns-in-Err-clause-told : goal.returns-in-Err-clause-told
@@ -93,6 +94,7 @@ returns-clause-safely g c = λ told start.
     let file = main_of (d.reads c.args.disk.now) in
     let keys = keys_of c.args.old c.args.first.now file in
     let write = c.codec_of_salt-write.result in
+    let opened = open_parts keys file _ _ (c.in-Ok.ensures.opens told) in
     let status = change_status c.rekey_pages-disk.result.2 in
     let end = c.rekey_pages-disk.result.0.now in
     let codec : p.codec ≡ keys = c.into_pager-pager.ensures.file.0 ∙ c.in-Ok.ensures.codec told in
@@ -105,7 +107,8 @@ returns-clause-safely g c = λ told start.
     let is_key : (n : List ℕ) → salt_of n ≡ salt_of file → write ≡ keys_of c.args.new c.args.second.now n = λ n same_salt. c.codec_of_salt-write.ensures.keys n (salt ∙ sym same_salt) in
     let three = said_so d.reads d.images d.moment d.since g.met.D.Disk.counts_now g.met.D.Disk.only_now {R = λ n. HoldsOnly (held_by (keys_of c.args.new c.args.second.now n) n)}
     {is_other = λ n. IsRekeyedSo keys (keys_of c.args.new c.args.second.now n) file n} status
-    (λ n is. (p.count, subst (λ (k : FileKeys). IsRekeyed keys k p.count file n) (is_key n is.salt) is))
+    (λ n is. rekeyed_so keys (keys_of c.args.new c.args.second.now n) p.count file n c.requires.listed.0 c.requires.listed.1 c.requires.layout.0 c.requires.layout.1
+    opened.fit (subst (λ (k : FileKeys). IsRekeyed keys k p.count file n) (is_key n is.salt) is))
     (λ n is image holds. subst (λ (k : FileKeys). HoldsOnly (held_by k n) image) (is_key n is.salt) holds) two in
     let first : LeavesOnly d.moment d.since c.args.disk.now p.disk.now (HoldsOnly (held_by keys file)) =
     rw made (read_only d.reads d.images d.moment d.since g.met.D.Disk.counts_now g.met.D.Disk.only_now start read) in
@@ -167,3 +170,9 @@ returns-clause-entropy_fault g c = λ is.
     let after = c.rekey_pages-disk.result.1.now in
     let last : c.entropy-1.given.0 ≡ after = search rules in
     rw last (subst (λ (x : _). Rose (g.E.Entropy.faults x) (g.E.Entropy.faults after)) c.into_pager-pager.ensures.entropy.1 (c.rekey_pages-disk.ensures.entropy_fault is))
+
+pub returns-in-Err-clause-unopened : goal.returns-in-Err-clause-unopened
+returns-in-Err-clause-unopened g c = λ told err. c.open_main.ensures.only_read told
+
+pub returns-clause-unopened : goal.returns-clause-unopened
+returns-clause-unopened g c = λ told err. is_opened _ _ (c.in-Ok.ensures.opens told) err

@@ -1,14 +1,16 @@
-use Rattle.std.proofs.Common.{◌≡◌, inr, ◌≤◌, ℕ, List, true, IsTrue, Some, Err, sym, ap, subst, ◌∙◌, arith}
+use Rattle.std.proofs.Common.{◌≡◌, inr, ◌≤◌, ℕ, List, true, false, IsTrue, Some, Err, sym, ap, subst, ◌∙◌, arith}
 use Rattle.pager.specs.File.{main_of}
 use Rattle.pager.specs.Pages.{opened_pages}
 use Rattle.sqlcipher_tool.specs.Answer.{done}
 use Rattle.sqlcipher_tool.specs.Change.{IsLateChange, KeepsOrCommits, change_answer, change_status}
 use Rattle.sqlcipher_tool.specs.declared.opening.ChangeError.{ChangeError}
-use Rattle.sqlcipher_tool.proofs.Rekeying.{New, Old, begun, done_rekey, main_there, rekey_late, report_due, shown_due, stopped_rekey, was_err}
+use Rattle.sqlcipher_tool.proofs.Rekeying.{New, Old, begun, done_rekey, main_there, rekey_late, report_due, same_laid, shown_due, stopped_rekey}
 use Rattle.sqlcipher_tool.proofs.Stamping.{was_ok}
 use Rattle.sqlcipher_tool.proofs.VerifiedFile.{opened_header}
 use Rattle.rekey_job.specs.Rekeyed.{IsRekeyed}
 use Rattle.rekey_job.specs.Stops.{IsShown, is_unwritten}
+use Rattle.rekey_job.specs.declared.error.RekeyError.{RekeyError}
+use Rattle.rekey_job.proofs.Rewriting.{err_at}
 use Rattle.edge_model.specs.OnlyRead.{OnlyRead}
 use Rattle.sqlcipher_tool.proofs.rekey.rekey_pages.Goals as goal
 
@@ -24,6 +26,12 @@ rekey-disk-requires-clause-begun g c = λ told.
     let sized : 1 ≤ p.codec.profile.page_size = omega (arith, p.lendable.least) in
     begun d.reads d.images d.moment d.since g.met.D.Disk.counts_now g.met.D.Disk.only_now p.codec c.args.write (main_of (d.reads p.disk.now)) p.header p.count (c.requires.opened told) p.some sized
     c.requires.layout.0 c.requires.layout.1 p.disk.now p.disk.now (c.requires.alone told)
+
+pub rekey_error-requires : goal.rekey_error-requires
+rekey_error-requires g c = λ differs.
+    let layout = c.requires.layout in
+    let other = c.rekey-disk.ensures.layout (c.in-Err.is ∙ ap (λ (e : RekeyError). Err e) differs) in
+    let no : true ≡ false = sym (same_laid c.args.pager.codec c.args.write layout.0 layout.1 layout.2) ∙ other in cc
 
 pub returns-in-Ok-clause-told : goal.returns-in-Ok-clause-told
 returns-in-Ok-clause-told g c = λ told answer is.
@@ -56,7 +64,7 @@ pub returns-in-Err-clause-told : goal.returns-in-Err-clause-told
 returns-in-Err-clause-told g c = λ told answer is.
     let p = c.args.pager in
     shown_due (opened_pages p.codec (main_of (g.D.Disk.reads p.disk.now)) p.count) c.in-Err.error answer
-    (was_err (λ e. IsTrue g.D.Disk.tells → IsShown (opened_pages p.codec (main_of (g.D.Disk.reads p.disk.now)) p.count) e) c.rekey-disk.result.2 c.in-Err.error c.in-Err.is c.rekey-disk.ensures.shown told)
+    (err_at (λ e. IsTrue g.D.Disk.tells → IsShown (opened_pages p.codec (main_of (g.D.Disk.reads p.disk.now)) p.count) e) c.rekey-disk.result.2 c.in-Err.error c.in-Err.is c.rekey-disk.ensures.shown told)
     (ap (λ (error : ChangeError). change_answer (Err error)) (sym c.rekey_error.ensures) ∙ is)
 
 pub returns-in-Err-clause-safely : goal.returns-in-Err-clause-safely
@@ -73,7 +81,7 @@ returns-in-Err-clause-safely g c = λ told.
     (sym c.rekey_error.ensures)
     (stopped_rekey d.reads d.images d.moment d.since g.met.D.Disk.counts_now g.met.D.Disk.only_now p.codec c.args.write file p.header p.count (c.requires.opened told) p.some sized
     c.requires.layout.0 c.requires.layout.1 p.disk.now end (c.requires.alone told) c.in-Err.error
-    (λ unwritten. (was_err (λ e. is_unwritten e ≡ true → IsTrue d.tells → OnlyRead d.reads d.images d.moment d.since p.disk.now end × (c.rekey-disk.result.1.now ≡ p.entropy.now)) c.rekey-disk.result.2 c.in-Err.error is c.rekey-disk.ensures.unwritten unwritten told).0)
+    (λ unwritten. (err_at (λ e. is_unwritten e ≡ true → IsTrue d.tells → OnlyRead d.reads d.images d.moment d.since p.disk.now end × (c.rekey-disk.result.1.now ≡ p.entropy.now)) c.rekey-disk.result.2 c.in-Err.error is c.rekey-disk.ensures.unwritten unwritten told).0)
     (λ undrawn. c.rekey-disk.ensures.only_old (is ∙ ap (λ e. Err e) undrawn) told)
     (c.rekey-disk.ensures.any_moment told))
 

@@ -15,13 +15,14 @@ use Rattle.sqlcipher_tool.specs.Holding.{HoldsOnly, held_by}
 use Rattle.sqlcipher_tool.specs.Opening.{opened_with}
 use Rattle.sqlcipher_tool.specs.Stamp.{IsStamped, stamped_answer}
 use Rattle.sqlcipher_tool.specs.Text.{stamped_report}
-use Rattle.sqlcipher_tool.proofs.Changing.{after_old, read_fresh, read_only, said_so}
+use Rattle.sqlcipher_tool.proofs.Changing.{after_old, read_fresh, read_only, said_so, stop_not_done}
 use Rattle.sqlcipher_tool.proofs.OpenedParts.{open_parts, opened_same}
 use Rattle.sqlcipher_tool.proofs.Databases.{told_base}
-use Rattle.sqlcipher_tool.proofs.Stamping.{same_keys, starts, stop_not_done}
+use Rattle.sqlcipher_tool.proofs.Stamping.{same_keys, starts}
 use Rattle.sqlcipher_tool.proofs.Changed.{fault_none}
 use Rattle.sqlcipher_tool.proofs.Verified.{some_is}
 use Rattle.sqlcipher_tool.proofs.VerifiedFile.{unopened_stamp}
+use Rattle.sqlcipher_tool.proofs.LeftAlone.{is_opened}
 use Rattle.sqlcipher_tool.proofs.stamp.stamp_file.Goals as goal
 
 pub returns-in-Err-clause-told : goal.returns-in-Err-clause-told
@@ -110,12 +111,12 @@ returns-clause-safely g c = λ told start.
     let end = c.stamp_pages-disk.result.0.now in
     let codec : p.codec ≡ keys = c.into_pager-pager.ensures.file.0 ∙ c.in-Ok.ensures.codec told in
     let same : main_of (d.reads p.disk.now) ≡ file = ap (λ (x : _). main_of (d.reads x)) made ∙ ap (λ (files : Files). main_of files) read.stays in
-    let one = subst (λ (k : FileKeys). KeepsOrCommits d.reads d.images d.moment d.since status (λ n. IsStamped k c.args.field c.args.value (main_of (d.reads p.disk.now)) n × (salt_of n ≡ k.salt))
+    let one = subst (λ (k : FileKeys). KeepsOrCommits d.reads d.images d.moment d.since status (IsStamped k c.args.field c.args.value (main_of (d.reads p.disk.now)))
     (HoldsOnly (held_by k (main_of (d.reads p.disk.now)))) (λ n. HoldsOnly (held_by k n)) p.disk.now end) codec (c.stamp_pages-disk.ensures.safely told) in
-    let two = subst (λ (l : List ℕ). KeepsOrCommits d.reads d.images d.moment d.since status (λ n. IsStamped keys c.args.field c.args.value l n × (salt_of n ≡ keys.salt))
+    let two = subst (λ (l : List ℕ). KeepsOrCommits d.reads d.images d.moment d.since status (IsStamped keys c.args.field c.args.value l)
     (HoldsOnly (held_by keys l)) (λ n. HoldsOnly (held_by keys n)) p.disk.now end) same one in
     let three = said_so d.reads d.images d.moment d.since g.met.D.Disk.counts_now g.met.D.Disk.only_now {R = λ n. HoldsOnly (held_by (keys_of profile secret n) n)} {is_other = IsStamped keys c.args.field c.args.value file}
-    status (λ n is. is.0) (λ n is image holds. subst (λ (k : FileKeys). HoldsOnly (held_by k n) image) (sym (same_keys profile secret n file is.1)) holds) two in
+    status (λ n is. is) (λ n is image holds. subst (λ (k : FileKeys). HoldsOnly (held_by k n) image) (sym (same_keys profile secret n file is.salt)) holds) two in
     let first : LeavesOnly d.moment d.since c.args.disk.now p.disk.now (HoldsOnly (held_by keys file)) =
     rw made (read_only d.reads d.images d.moment d.since g.met.D.Disk.counts_now g.met.D.Disk.only_now start read) in
     let last : c.disk-1.given.0 ≡ end = search rules in
@@ -131,3 +132,9 @@ returns-clause-fresh g c = λ told.
     rw made (read_fresh d.reads d.images d.moment d.since g.met.D.Disk.counts_now g.met.D.Disk.only_now (c.open_to_change.ensures.only_read told)) in
     let last : c.disk-1.given.0 ≡ end = search rules in
     rw last (then_from g.met.D.Disk.counts_now (λ a b e ab be. be ∙ ab) first (c.stamp_pages-disk.ensures.fresh told))
+
+pub returns-in-Err-clause-unopened : goal.returns-in-Err-clause-unopened
+returns-in-Err-clause-unopened g c = λ told err. c.open_to_change.ensures.only_read told
+
+pub returns-clause-unopened : goal.returns-clause-unopened
+returns-clause-unopened g c = λ told err. is_opened _ _ (c.in-Ok.ensures.opens told) err

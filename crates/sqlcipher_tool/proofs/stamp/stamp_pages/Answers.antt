@@ -2,21 +2,23 @@ use Rattle.std.proofs.Common.{◌≡◌, ◌==◌, inl, inr, ℕ, Bool, true, fa
 use Rattle.edge_model.specs.Images.{From, LeavesOnly}
 use Rattle.edge_model.specs.Moments.{started_from, then_from}
 use Rattle.page_codec.specs.Page.{FileKeys}
+use Rattle.pager.specs.Changed.{same_layout}
 use Rattle.pager.specs.File.{main_of}
 use Rattle.pager.specs.Pages.{is_number}
 use Rattle.pager.specs.UnderWay.{HasNewPages, is_touched, seen_pages}
+use Rattle.pager.proofs.UnderWayLemmas.{same_main}
 use Rattle.rollback_journal.specs.Playing.{main_of as read_main}
 use Rattle.transaction.specs.declared.committing.CommitFault.TheVariants.{EntropyFault as Undrawn}
 use Rattle.transaction.specs.Commit.{LeavesChanged}
 use Rattle.transaction.specs.Database.{HoldsOld}
 use Rattle.transaction.specs.Facts.{SameFresh}
-use Rattle.sqlcipher_tool.specs.Answer.{IsFault}
-use Rattle.sqlcipher_tool.specs.Change.{IsLateChange, change_status}
-use Rattle.sqlcipher_tool.specs.Draws.{FileDraws}
+use Rattle.sqlcipher_tool.specs.Change.{change_status}
+use Rattle.rekey_job.specs.Draws.{FileDraws}
 use Rattle.sqlcipher_tool.specs.declared.opening.ChangeError.{ChangeError}
 use Rattle.sqlcipher_tool.specs.declared.status.Status.TheVariants.{Done, OutOfMemory, EntropyFault}
-use Rattle.sqlcipher_tool.proofs.Stamping.{SeesFirst, begun, done, draws, failed, main_same, page_faults, page_is, page_late, page_not_done, sees_first, unbegun, unended, unwritten, was_ok}
+use Rattle.sqlcipher_tool.proofs.Stamping.{SeesFirst, begun, done, draws, failed, page_faults, page_is, page_late, sees_first, unbegun, unended, unwritten, was_ok, differ, layout_same}
 use Rattle.sqlcipher_tool.proofs.stamp.stamp_pages.Goals as goal
+use Rattle.sqlcipher_tool.proofs.Changing.{error_not_done}
 
 memory_not_done : OutOfMemory ≡ Done → ⊥
 memory_not_done is = cc
@@ -47,6 +49,12 @@ begin-requires g c κs within =
       ),
     )
 
+pub begin_error-requires : goal.begin_error-requires
+begin_error-requires g c =
+    let p = c.args.pager in
+    let same : c.args.write ≡ p.codec = c.requires.1.1.1.1.1.1.0 in
+    λ is. differ (sym (layout_same p.codec) ∙ (ap (λ (k : FileKeys). same_layout p.codec k) (sym same) ∙ c.in-Err.ensures.layout is))
+
 pub returns-in-Err-clause-safely : goal.returns-in-Err-clause-safely
 returns-in-Err-clause-safely g c = λ told.
     let d = g.D.Disk in
@@ -54,7 +62,8 @@ returns-in-Err-clause-safely g c = λ told.
     let r = c.requires.1.1 in
     let same = c.into_parts-disk.ensures.disk.1 ∙ c.in-Err.ensures.back.1 in
     inl (unbegun d.reads d.images d.moment d.since g.met.D.Disk.counts_now g.met.D.Disk.only_now p.codec (main_of (d.reads p.disk.now)) p.header p.count (r.1.1.1.1.1.1.1.0 told) p.some
-    g.start (r.0 told) p.disk.now p.disk.now c.into_parts-disk.result.0.now (r.1.1.1.1.1.1.1.1 told) OutOfMemory memory_not_done same)
+    g.start (r.0 told) p.disk.now p.disk.now c.into_parts-disk.result.0.now (r.1.1.1.1.1.1.1.1 told) (change_status (Err c.begin_error.result))
+    (subst (λ (error : ChangeError). change_status (Err error) ≡ Done → ⊥) (sym c.begin_error.ensures) memory_not_done) same)
 
 pub returns-in-Err-clause-fresh : goal.returns-in-Err-clause-fresh
 returns-in-Err-clause-fresh g c = λ told.
@@ -71,11 +80,13 @@ returns-in-Err-write_fields-clause-told g c = λ told.
     let t = c.in-Ok.txn in
     let e = c.in-Ok.ensures in
     let file = main_of (d.reads p.disk.now) in
-    let main = sym (main_same (d.reads t.disk.now)) ∙ ap (λ (x : _). main_of (d.reads x)) e.disk.1 in
+    let main = sym (same_main (d.reads t.disk.now)) ∙ ap (λ (x : _). main_of (d.reads x)) e.disk.1 in
     let sees : SeesFirst p.codec file (seen_pages t.read t.write (read_main (d.reads t.disk.now)) t.count t.recorded t.changed.held) =
     sees_first p.codec t.read t.write file (read_main (d.reads t.disk.now)) p.header p.count t.count t.recorded t.changed.held e.file.0 main e.file.2 e.unchanged.0 (e.untouched 1) p.some (r.1.1.1.1.1.1.1.0 told) in
-    inl (subst (λ (error : ChangeError). IsFault (change_status (Err error))) (sym c.page_error.ensures)
-    (page_faults c.in-Err-write_fields.error (λ page is. c.in-Err-write_fields.ensures.refused page is told sees.accepted)))
+    let n = g.E.Entropy in
+    let txn = c.write_fields.new.txn in
+    inl (page_faults d.tells (seen_pages t.read t.write (read_main (d.reads t.disk.now)) t.count t.recorded t.changed.held)
+    (d.faults t.disk.now) (d.faults txn.disk.now) (n.faults t.entropy.now) (n.faults txn.entropy.now) c.in-Err-write_fields.error c.page_error.result c.in-Err-write_fields.ensures.refused c.page_error.ensures told sees.accepted)
 
 pub returns-in-Err-write_fields-clause-safely : goal.returns-in-Err-write_fields-clause-safely
 returns-in-Err-write_fields-clause-safely g c = λ told.
@@ -86,7 +97,7 @@ returns-in-Err-write_fields-clause-safely g c = λ told.
     let last = c.into_parts-disk-in-Err-write_fields in
     inl (unended d.reads d.images d.moment d.since g.met.D.Disk.counts_now g.met.D.Disk.only_now p.codec (main_of (d.reads p.disk.now)) p.header p.count (r.1.1.1.1.1.1.1.0 told) p.some
     g.start (r.0 told) p.disk.now c.write_fields.new.txn.disk.now last.result.0.now (r.1.1.1.1.1.1.1.1 told) run (change_status (Err c.page_error.result))
-    (subst (λ (error : ChangeError). change_status (Err error) ≡ Done → ⊥) (sym c.page_error.ensures) (page_not_done c.in-Err-write_fields.error)) last.ensures.disk.1)
+    (error_not_done c.page_error.result) last.ensures.disk.1)
 
 pub returns-in-Err-write_fields-clause-fresh : goal.returns-in-Err-write_fields-clause-fresh
 returns-in-Err-write_fields-clause-fresh g c = λ told.
@@ -97,7 +108,7 @@ returns-in-Err-write_fields-clause-fresh g c = λ told.
     subst (λ (x : _). LeavesOnly d.moment d.since p.disk.now x (From SameFresh (d.images p.disk.now))) (sym last.ensures.disk.1) run
 
 pub returns-in-Err-write_fields-clause-late : goal.returns-in-Err-write_fields-clause-late
-returns-in-Err-write_fields-clause-late g c = subst (λ (error : ChangeError). IsLateChange error) (sym c.page_error.ensures) (page_late c.in-Err-write_fields.error)
+returns-in-Err-write_fields-clause-late g c = page_late c.in-Err-write_fields.error c.page_error.result c.page_error.ensures
 
 -- of a page more than the first nothing was changed
 one_alone : (m : ℕ) (b : Bool) → b ≡ false → (if m == 1 then true else b) ≡ (m == 1)
@@ -115,7 +126,7 @@ returns-in-Ok-done-clause-safely g c = λ told.
     let t = c.in-Ok.txn in
     let e = c.in-Ok.ensures in
     let file = main_of (d.reads p.disk.now) in
-    let main = sym (main_same (d.reads t.disk.now)) ∙ ap (λ (x : _). main_of (d.reads x)) e.disk.1 in
+    let main = sym (same_main (d.reads t.disk.now)) ∙ ap (λ (x : _). main_of (d.reads x)) e.disk.1 in
     let sees : SeesFirst p.codec file (seen_pages t.read t.write (read_main (d.reads t.disk.now)) t.count t.recorded t.changed.held) =
     sees_first p.codec t.read t.write file (read_main (d.reads t.disk.now)) p.header p.count t.count t.recorded t.changed.held e.file.0 main e.file.2 e.unchanged.0 (e.untouched 1) p.some (r.1.1.1.1.1.1.1.0 told) in
     let txn = c.write_fields.new.txn in
@@ -144,7 +155,7 @@ returns-in-Ok-done-clause-own_draws g c = λ told drawing.
     let t = c.in-Ok.txn in
     let e = c.in-Ok.ensures in
     let file = main_of (d.reads p.disk.now) in
-    let main = sym (main_same (d.reads t.disk.now)) ∙ ap (λ (x : _). main_of (d.reads x)) e.disk.1 in
+    let main = sym (same_main (d.reads t.disk.now)) ∙ ap (λ (x : _). main_of (d.reads x)) e.disk.1 in
     let sees : SeesFirst p.codec file (seen_pages t.read t.write (read_main (d.reads t.disk.now)) t.count t.recorded t.changed.held) =
     sees_first p.codec t.read t.write file (read_main (d.reads t.disk.now)) p.header p.count t.count t.recorded t.changed.held e.file.0 main e.file.2 e.unchanged.0 (e.untouched 1) p.some (r.1.1.1.1.1.1.1.0 told) in
     let txn = c.write_fields.new.txn in
@@ -172,7 +183,7 @@ returns-in-Err-DiskFault-clause-safely g c = λ told.
     let t = c.in-Ok.txn in
     let e = c.in-Ok.ensures in
     let file = main_of (d.reads p.disk.now) in
-    let main = sym (main_same (d.reads t.disk.now)) ∙ ap (λ (x : _). main_of (d.reads x)) e.disk.1 in
+    let main = sym (same_main (d.reads t.disk.now)) ∙ ap (λ (x : _). main_of (d.reads x)) e.disk.1 in
     let sees : SeesFirst p.codec file (seen_pages t.read t.write (read_main (d.reads t.disk.now)) t.count t.recorded t.changed.held) =
     sees_first p.codec t.read t.write file (read_main (d.reads t.disk.now)) p.header p.count t.count t.recorded t.changed.held e.file.0 main e.file.2 e.unchanged.0 (e.untouched 1) p.some (r.1.1.1.1.1.1.1.0 told) in
     let txn = c.write_fields.new.txn in

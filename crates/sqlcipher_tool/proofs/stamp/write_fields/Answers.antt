@@ -1,7 +1,10 @@
-use Rattle.std.proofs.Common.{◌≡◌, ◌==◌, ℕ, Bool, true, false, List, Err, if◌then◌else◌, refl, sym, ap, subst, ◌∙◌, rules}
+use Rattle.std.proofs.Common.{◌≡◌, ◌==◌, ℕ, Bool, true, false, List, Err, if◌then◌else◌, refl, sym, ap, subst, ◌∙◌, arith, rules}
 use Rattle.pager.specs.Pages.{is_number}
+use Rattle.pager.specs.UnderWay.{seen_pages}
+use Rattle.rollback_journal.specs.Playing.{main_of as read_main}
 use Rattle.edge_model.specs.Moments.{and_then, then_from}
 use Rattle.sqlcipher_tool.specs.Stamp.{with_field}
+use Rattle.sqlcipher_tool.proofs.Stamping.{refused_later}
 use Rattle.sqlcipher_tool.proofs.stamp.write_fields.Goals as goal
 
 pub returns-in_err-write_number-2-clause-any_moment : goal.returns-in_err-write_number-2-clause-any_moment
@@ -57,12 +60,44 @@ returns-clause-touched g c = λ m num.
     again m _ _ _ (c.in_ok-write_number-4.ensures.touched m four)
     (again m _ _ _ (c.in_ok-write_number-3.ensures.touched m three) (again m _ _ _ (c.in_ok-write_number-2.ensures.touched m two) (c.in_ok-write_number.ensures.touched m num)))
 
+-- page 1 as it was changed so far has its tag, so each refusal is one of page 1 at the start
+pub returns-in_err-write_number-2-clause-refused : goal.returns-in_err-write_number-2-clause-refused
+returns-in_err-write_number-2-clause-refused g c =
+    let d = g.D.Disk in
+    let n = g.E.Entropy in
+    let first = c.args.txn.now in
+    let before = c.write_number.new.txn in
+    let after = c.write_number-2.new.txn in
+    let is : c.from_residual-in_err-write_number-2.result ≡ Err c.in_err-write_number-2.field-0.0 = search rules in
+    rw is (refused_later d.tells (seen_pages first.read first.write (read_main (d.reads first.disk.now)) first.count first.recorded first.changed.held)
+    (seen_pages before.read before.write (read_main (d.reads before.disk.now)) before.count before.recorded before.changed.held)
+    (d.faults first.disk.now) (d.faults before.disk.now) (d.faults after.disk.now) (n.faults first.entropy.now) (n.faults before.entropy.now) (n.faults after.entropy.now) c.in_err-write_number-2.field-0.0
+    c.write_number.ensures.file.2 c.in_ok-write_number.ensures.accepted c.write_number.ensures.later.0 c.write_number.ensures.later.1 c.in_err-write_number-2.ensures.refused)
+
 pub returns-in_err-write_number-3-clause-refused : goal.returns-in_err-write_number-3-clause-refused
 returns-in_err-write_number-3-clause-refused g c =
+    let d = g.D.Disk in
+    let n = g.E.Entropy in
+    let first = c.args.txn.now in
+    let before = c.write_number-2.new.txn in
+    let after = c.write_number-3.new.txn in
     let is : c.from_residual-in_err-write_number-3.result ≡ Err c.in_err-write_number-3.field-0.0 = search rules in
-    rw is (λ page same told seen. c.in_err-write_number-3.ensures.refused page same told (c.in_ok-write_number-2.ensures.accepted told))
+    rw is (refused_later d.tells (seen_pages first.read first.write (read_main (d.reads first.disk.now)) first.count first.recorded first.changed.held)
+    (seen_pages before.read before.write (read_main (d.reads before.disk.now)) before.count before.recorded before.changed.held)
+    (d.faults first.disk.now) (d.faults before.disk.now) (d.faults after.disk.now) (n.faults first.entropy.now) (n.faults before.entropy.now) (n.faults after.entropy.now) c.in_err-write_number-3.field-0.0
+    (c.write_number-2.ensures.file.2 ∙ c.write_number.ensures.file.2) c.in_ok-write_number-2.ensures.accepted
+    (omega (arith, c.write_number.ensures.later.0, c.write_number-2.ensures.later.0)) (omega (arith, c.write_number.ensures.later.1, c.write_number-2.ensures.later.1)) c.in_err-write_number-3.ensures.refused)
 
 pub returns-in_err-write_number-4-clause-refused : goal.returns-in_err-write_number-4-clause-refused
 returns-in_err-write_number-4-clause-refused g c =
+    let d = g.D.Disk in
+    let n = g.E.Entropy in
+    let first = c.args.txn.now in
+    let before = c.write_number-3.new.txn in
+    let after = c.write_number-4.new.txn in
     let is : c.from_residual-in_err-write_number-4.result ≡ Err c.in_err-write_number-4.field-0.0 = search rules in
-    rw is (λ page same told seen. c.in_err-write_number-4.ensures.refused page same told (c.in_ok-write_number-3.ensures.accepted told))
+    rw is (refused_later d.tells (seen_pages first.read first.write (read_main (d.reads first.disk.now)) first.count first.recorded first.changed.held)
+    (seen_pages before.read before.write (read_main (d.reads before.disk.now)) before.count before.recorded before.changed.held)
+    (d.faults first.disk.now) (d.faults before.disk.now) (d.faults after.disk.now) (n.faults first.entropy.now) (n.faults before.entropy.now) (n.faults after.entropy.now) c.in_err-write_number-4.field-0.0
+    (c.write_number-3.ensures.file.2 ∙ (c.write_number-2.ensures.file.2 ∙ c.write_number.ensures.file.2)) c.in_ok-write_number-3.ensures.accepted
+    (omega (arith, c.write_number.ensures.later.0, c.write_number-2.ensures.later.0, c.write_number-3.ensures.later.0)) (omega (arith, c.write_number.ensures.later.1, c.write_number-2.ensures.later.1, c.write_number-3.ensures.later.1)) c.in_err-write_number-4.ensures.refused)

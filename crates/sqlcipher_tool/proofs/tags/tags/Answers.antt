@@ -4,6 +4,9 @@ use Rattle.sqlcipher_tool.specs.Tags.{tags_answer}
 use Rattle.sqlcipher_tool.specs.declared.status.Status.TheVariants.{OutputFault}
 use Rattle.sqlcipher_tool.specs.Recovered.{recovered_main, recovery_of}
 use Rattle.sqlcipher_tool.proofs.Conclusions.{recovery_status, recovery_text}
+use Rattle.sqlcipher_tool.proofs.LeftAlone.{unwritten_read}
+use Rattle.pager.specs.File.{main_of}
+use Rattle.sqlcipher_tool.proofs.Recoveries.{read_after, tags_recovered}
 use Rattle.sqlcipher_tool.proofs.tags.tags.Goals as goal
 
 pub returns-in-Err-clause-status : goal.returns-in-Err-clause-status
@@ -26,3 +29,19 @@ returns-in-Err-clause-text g c = λ printed told.
     (λ answer is. c.conclude_stop.ensures.text answer is printed)
     (λ is. let failed = c.conclude_stop.ensures.disk is in (failed.0, ap g.S.Sink.taken failed.1))
     (λ is. let starved = c.conclude_stop.ensures.memory is in (starved.0, ap g.S.Sink.taken starved.1))
+
+pub returns-in-Ok-clause-untouched : goal.returns-in-Ok-clause-untouched
+returns-in-Ok-clause-untouched g c = λ told none ok.
+    unwritten_read g.met.D.Disk.counts_now (c.recover_main.ensures.keeps told).later (c.in-Ok.ensures.untouched told none) (c.tags_of_main.ensures.only_read told)
+
+pub returns-in-Err-clause-untouched : goal.returns-in-Err-clause-untouched
+returns-in-Err-clause-untouched g c = λ told none ok. c.in-Err.ensures.unwritten told (λ is. ok (c.conclude_stop.ensures.disk is).0)
+
+pub returns-in-Ok-clause-keeps : goal.returns-in-Ok-clause-keeps
+returns-in-Ok-clause-keeps g c = λ told.
+    read_after g.met.D.Disk.counts_now (c.recover_main.ensures.keeps told) (c.tags_of_main.ensures.only_read told)
+
+pub returns-in-Ok-clause-unrecovered : goal.returns-in-Ok-clause-unrecovered
+returns-in-Ok-clause-unrecovered g c = λ told is.
+    absurd (tags_recovered c.args.profile c.args.secret.now (main_of (g.D.Disk.reads c.recover_main.new.disk)) c.tags_of_main.result
+    (c.tags_of_main.ensures.status told) is)

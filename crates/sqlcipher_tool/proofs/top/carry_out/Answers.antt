@@ -17,6 +17,7 @@ use Rattle.sqlcipher_tool.specs.declared.command.Command.{Command as Asked}
 use Rattle.sqlcipher_tool.proofs.Answered.{answers_one, keeps_held}
 use Rattle.sqlcipher_tool.proofs.Making.{read_stays}
 use Rattle.sqlcipher_tool.proofs.Conclusions.{no_part}
+use Rattle.sqlcipher_tool.specs.Untouched.{LeavesAlone, recovers_by}
 use Rattle.sqlcipher_tool.proofs.top.carry_out.Goals as goal
 
 pub returns-in-Tags-clause-answer : goal.returns-in-Tags-clause-answer
@@ -197,3 +198,38 @@ returns-in-Make-clause-changes g c = λ told.
     let command = Make c.in-Make.profile c.in-Make.rows in
     changes_as c.make_file.result c.args.command command (λ secrets. secrets ≡ c.args.secret.now ∷ []) run c.in-Make.is
     (λ secrets gave. subst (λ (l : List Secret). MakesWith c.make_file.result c.in-Make.profile c.in-Make.rows run l) (sym gave) (c.make_file.ensures.changes told))
+
+pub returns-in-Tags-clause-untouched : goal.returns-in-Tags-clause-untouched
+returns-in-Tags-clause-untouched g c = λ told.
+    let run = disk_run g.D.Disk.reads g.D.Disk.images g.D.Disk.moment g.D.Disk.since c.args.disk.now c.tags.new.disk in
+    subst (λ (command : Asked). LeavesAlone c.tags.result (recovers_by command) run) (sym c.in-Tags.is) (c.tags.ensures.untouched told)
+
+pub returns-in-Header-clause-untouched : goal.returns-in-Header-clause-untouched
+returns-in-Header-clause-untouched g c = λ told.
+    let run = disk_run g.D.Disk.reads g.D.Disk.images g.D.Disk.moment g.D.Disk.since c.args.disk.now c.header.new.disk in
+    subst (λ (command : Asked). LeavesAlone c.header.result (recovers_by command) run) (sym c.in-Header.is) (c.header.ensures.untouched told)
+
+pub returns-in-Verify-clause-untouched : goal.returns-in-Verify-clause-untouched
+returns-in-Verify-clause-untouched g c = λ told.
+    let run = disk_run g.D.Disk.reads g.D.Disk.images g.D.Disk.moment g.D.Disk.since c.args.disk.now c.answer_job.new.disk in
+    subst (λ (command : Asked). LeavesAlone c.answer_job.result (recovers_by command) run) (sym c.in-Verify.is) (c.answer_job.ensures.untouched told)
+
+pub returns-in-Export-clause-untouched : goal.returns-in-Export-clause-untouched
+returns-in-Export-clause-untouched g c = λ told.
+    let run = disk_run g.D.Disk.reads g.D.Disk.images g.D.Disk.moment g.D.Disk.since c.args.disk.now c.answer_job-in-Export.new.disk in
+    subst (λ (command : Asked). LeavesAlone c.answer_job-in-Export.result (recovers_by command) run) (sym c.in-Export.is) (c.answer_job-in-Export.ensures.untouched told)
+
+pub returns-in-Stamp-clause-untouched : goal.returns-in-Stamp-clause-untouched
+returns-in-Stamp-clause-untouched g c = λ told.
+    let run = disk_run g.D.Disk.reads g.D.Disk.images g.D.Disk.moment g.D.Disk.since c.args.disk.now c.change_file.new.disk in
+    subst (λ (command : Asked). LeavesAlone c.change_file.result (recovers_by command) run) (sym c.in-Stamp.is) (c.change_file.ensures.untouched told)
+
+pub returns-in-Probe-clause-untouched : goal.returns-in-Probe-clause-untouched
+returns-in-Probe-clause-untouched g c = λ told.
+    let run = disk_run g.D.Disk.reads g.D.Disk.images g.D.Disk.moment g.D.Disk.since c.args.disk.now c.probe.new.disk in
+    subst (λ (command : Asked). LeavesAlone c.probe.result (recovers_by command) run) (sym c.in-Probe.is) tt
+
+pub returns-in-Make-clause-untouched : goal.returns-in-Make-clause-untouched
+returns-in-Make-clause-untouched g c = λ told.
+    let run = disk_run g.D.Disk.reads g.D.Disk.images g.D.Disk.moment g.D.Disk.since c.args.disk.now c.make_file.new.disk in
+    subst (λ (command : Asked). LeavesAlone c.make_file.result (recovers_by command) run) (sym c.in-Make.is) tt

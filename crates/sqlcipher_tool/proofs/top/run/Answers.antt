@@ -29,8 +29,17 @@ returns-in-Some-clause-complete g c = λ keyed told can none.
     let command = c.in-Some.command in
     let alone = subst (λ (o : Option Asked). IsDoneAlone (command_answers o left files after)) (sym c.parse_words.ensures.form ∙ c.in-Some.is)
     (complete (texts c.args.words.now) left files after can) in
-    done_or_starved (asked_answers (word_refusal command) command left files after) c.serve.result g.S.Sink.tells _ _ _ _ _ _ _ _ _ _ (c.serve.ensures.answer keyed told) alone
+    done_or_starved (asked_answers (word_refusal command) command left files after) c.serve.result g.S.Sink.tells _ _ _ _ _ _ _ _ _ _ (c.serve.ensures.answer (λ is. keyed (command, sym c.parse_words.ensures.form ∙ c.in-Some.is, is)) told) alone
     (λ failed. (c.serve.ensures.input_fault failed).0)
     c.serve.ensures.output_fault
     (λ failed. (c.serve.ensures.entropy_fault failed).0)
     c.serve.ensures.disk_fault none
+
+pub returns-in-Some-clause-answer : goal.returns-in-Some-clause-answer
+returns-in-Some-clause-answer g c = λ keyed told.
+    let files = g.D.Disk.reads c.args.disk.now in
+    let after = g.D.Disk.reads c.serve.new.disk in
+    let left = g.K.Source.left c.args.input.now in
+    let formed = sym c.parse_words.ensures.form ∙ c.in-Some.is in
+    subst (λ (o : Option Asked). AnswersOne (command_answers o left files after) c.serve.result g.S.Sink.tells (g.S.Sink.taken c.args.out.now) (g.S.Sink.taken c.serve.new.out))
+    (sym formed) (c.serve.ensures.answer (λ is. keyed (c.in-Some.command, formed, is)) told)

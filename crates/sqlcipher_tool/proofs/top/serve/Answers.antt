@@ -1,18 +1,20 @@
-use Rattle.std.proofs.Common.{◌≡◌, drop, length, refl, Some, sym, ap, subst, rules, false, Option, None}
+use Rattle.std.proofs.Common.{◌≡◌, ℕ, drop, length, refl, Some, sym, ap, subst, rules, false, Option, None}
 use Rattle.pager.specs.File.{main_of}
 use Rattle.sqlcipher_tool.specs.Crash.{GaveKeys, Keeps}
-use Rattle.sqlcipher_tool.specs.Due.{asked_answers, key_lines, word_refusal}
+use Rattle.sqlcipher_tool.specs.Due.{asked_answers, key_lines, keyed_answers, word_refusal}
 use Rattle.sqlcipher_tool.specs.Holding.{disk_run}
 use Rattle.sqlcipher_tool.specs.Answer.{refused}
 use Rattle.sqlcipher_tool.specs.Promises.{AnswersOne}
 use Rattle.sqlcipher_tool.specs.Recovered.{recovery_answer, recovery_of}
 use Rattle.sqlcipher_tool.specs.Words.{keys_taken, layouts_differ}
 use Rattle.sqlcipher_tool.specs.declared.command.Command.TheVariants.{Recover}
-use Rattle.sqlcipher_tool.proofs.Asked.{changes_as, no_draws, none_refused, refusal_not_done, unchanged_changes, unchanged_keeps}
+use Rattle.sqlcipher_tool.proofs.Asked.{changes_as, no_draws, none_refused, refusal_not_done, takes_one, takes_some, unchanged_changes, unchanged_keeps}
 use Rattle.sqlcipher_tool.specs.declared.command.Command.{Command as Asked}
 use Rattle.sqlcipher_tool.specs.declared.status.Refusal.{Refusal as Refused}
 use Rattle.sqlcipher_tool.proofs.Answered.{answers_one, keeps_held, printed_one}
 use Rattle.sqlcipher_tool.proofs.Conclusions.{no_part}
+use Rattle.sqlcipher_tool.specs.Untouched.{LeavesAlone, recovers_by}
+use Rattle.sqlcipher_tool.proofs.LeftAlone.{left_alone, unmoved}
 use Rattle.sqlcipher_tool.proofs.top.serve.Goals as goal
 
 pub returns-in-Some-clause-answer : goal.returns-in-Some-clause-answer
@@ -76,3 +78,43 @@ pub serve_two_keys-requires-clause-layout : goal.serve_two_keys-requires-clause-
 serve_two_keys-requires-clause-layout g c =
     let none : word_refusal c.args.command ≡ None = search rules in
     subst (λ (command : Asked). layouts_differ command ≡ false) c.in-Rekey.is (none_refused c.args.command none).1
+
+pub returns-in-Recover-clause-untouched : goal.returns-in-Recover-clause-untouched
+returns-in-Recover-clause-untouched g c = λ told.
+    let run = disk_run g.D.Disk.reads g.D.Disk.images g.D.Disk.moment g.D.Disk.since c.args.disk.now c.report_recovery.new.disk in
+    subst (λ (command : Asked). LeavesAlone c.report_recovery.result (recovers_by command) run) (sym c.in-Recover.is) (c.report_recovery.ensures.untouched told)
+
+pub returns-in-Some-clause-untouched : goal.returns-in-Some-clause-untouched
+returns-in-Some-clause-untouched g c = λ told. left_alone c.conclude_refusal.result (recovers_by c.args.command) _ (unmoved g.D.Disk.reads g.D.Disk.images g.D.Disk.moment g.D.Disk.since g.met.D.Disk.only_now c.args.disk.now)
+
+pub returns-in-Rekey-clause-untouched : goal.returns-in-Rekey-clause-untouched
+returns-in-Rekey-clause-untouched g c = λ told.
+    let run = disk_run g.D.Disk.reads g.D.Disk.images g.D.Disk.moment g.D.Disk.since c.args.disk.now c.serve_two_keys.new.disk in
+    subst (λ (command : Asked). LeavesAlone c.serve_two_keys.result (recovers_by command) run) (sym c.in-Rekey.is) (c.serve_two_keys.ensures.untouched told)
+
+pub returns-in-Migrate-clause-untouched : goal.returns-in-Migrate-clause-untouched
+returns-in-Migrate-clause-untouched g c = λ told.
+    let run = disk_run g.D.Disk.reads g.D.Disk.images g.D.Disk.moment g.D.Disk.since c.args.disk.now c.serve_two_keys-in-Migrate.new.disk in
+    subst (λ (command : Asked). LeavesAlone c.serve_two_keys-in-Migrate.result (recovers_by command) run) (sym c.in-Migrate.is) (c.serve_two_keys-in-Migrate.ensures.untouched told)
+
+pub returns-in-Tags-clause-untouched : goal.returns-in-Tags-clause-untouched
+returns-in-Tags-clause-untouched g c = c.serve_keyed.ensures.untouched
+
+pub returns-in-Tags-clause-takes_none : goal.returns-in-Tags-clause-takes_none
+returns-in-Tags-clause-takes_none g c = λ none.
+    let one : keys_taken c.args.command ≡ 1 = search rules in
+    absurd (takes_some c.args.command one none)
+
+pub returns-in-Tags-clause-answer : goal.returns-in-Tags-clause-answer
+returns-in-Tags-clause-answer g c = λ keyed told.
+    let files = g.D.Disk.reads c.args.disk.now in
+    let last = g.D.Disk.reads c.serve_keyed.new.disk in
+    let left = g.K.Source.left c.args.input.now in
+    let before = g.S.Sink.taken c.args.out.now in
+    let after = g.S.Sink.taken c.serve_keyed.new.out in
+    let status = c.serve_keyed.result in
+    let none : word_refusal c.args.command ≡ None = search rules in
+    let one : keys_taken c.args.command ≡ 1 = search rules in
+    let was = c.serve_keyed.ensures.answer (keyed (takes_one c.args.command one)) told in
+    subst (λ (o : Option Refused). AnswersOne (asked_answers o c.args.command left files last) status g.S.Sink.tells before after) (sym none)
+    (subst (λ (n : ℕ). AnswersOne (keyed_answers c.args.command (key_lines n left) files last) status g.S.Sink.tells before after) (sym one) was)

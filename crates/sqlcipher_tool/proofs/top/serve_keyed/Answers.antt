@@ -9,6 +9,8 @@ use Rattle.sqlcipher_tool.specs.Due.{and_secrets, key_lines}
 use Rattle.sqlcipher_tool.specs.Holding.{disk_run}
 use Rattle.sqlcipher_tool.proofs.Answered.{key_early, key_not_done, key_one, one_line, takes_key, unless_fault}
 use Rattle.sqlcipher_tool.proofs.Asked.{changes_of, draws_of, same_secrets, unchanged_changes, unchanged_keeps}
+use Rattle.sqlcipher_tool.specs.Untouched.{recovers_by}
+use Rattle.sqlcipher_tool.proofs.LeftAlone.{left_alone, unmoved}
 use Rattle.sqlcipher_tool.proofs.top.serve_keyed.Goals as goal
 
 pub returns-in-Ok-clause-memory_keys : goal.returns-in-Ok-clause-memory_keys
@@ -58,3 +60,6 @@ returns-in-Err-clause-changes g c = λ told. unchanged_changes g.D.Disk.reads g.
 
 pub returns-in-Err-clause-own_draws : goal.returns-in-Err-clause-own_draws
 returns-in-Err-clause-own_draws g c = λ told drawing done. absurd (key_not_done c.conclude_key.result c.conclude_key.ensures.others done)
+
+pub returns-in-Err-clause-untouched : goal.returns-in-Err-clause-untouched
+returns-in-Err-clause-untouched g c = λ told. left_alone c.conclude_key.result (recovers_by c.args.command) _ (unmoved g.D.Disk.reads g.D.Disk.images g.D.Disk.moment g.D.Disk.since g.met.D.Disk.only_now c.args.disk.now)

@@ -12,6 +12,9 @@ use Rattle.sqlcipher_tool.specs.Change.{command_of}
 use Rattle.sqlcipher_tool.specs.Renewal.{Renewal, two_keys}
 use Rattle.sqlcipher_tool.proofs.Answered.{key_early, key_not_done, key_one, takes_key, unless_fault}
 use Rattle.sqlcipher_tool.proofs.Asked.{changes_of, draws_of, same_secrets, two_answers, two_between, two_changes, two_keeps, two_renewal, unchanged_changes, unchanged_keeps}
+use Rattle.cipher_profile.specs.declared.profile.Profile.{Profile}
+use Rattle.sqlcipher_tool.specs.Untouched.{LeavesAlone, recovers_by}
+use Rattle.sqlcipher_tool.proofs.LeftAlone.{change_recovers, left_alone, unmoved}
 use Rattle.sqlcipher_tool.proofs.top.serve_two_keys.Goals as goal
 
 pub change_file-requires-clause-between : goal.change_file-requires-clause-between
@@ -87,3 +90,11 @@ returns-in-Err-clause-changes g c = λ told. unchanged_changes g.D.Disk.reads g.
 
 pub returns-in-Err-clause-own_draws : goal.returns-in-Err-clause-own_draws
 returns-in-Err-clause-own_draws g c = λ told drawing done. absurd (key_not_done c.conclude_key.result c.conclude_key.ensures.others done)
+
+pub returns-in-Ok-clause-untouched : goal.returns-in-Ok-clause-untouched
+returns-in-Ok-clause-untouched g c = λ told.
+    let run = disk_run g.D.Disk.reads g.D.Disk.images g.D.Disk.moment g.D.Disk.since c.args.disk.now c.change_file.new.disk in
+    subst (λ (profile : Option Profile). LeavesAlone c.change_file.result profile run) (sym (change_recovers c.args.change c.args.old c.args.new)) (c.change_file.ensures.untouched told)
+
+pub returns-in-Err-clause-untouched : goal.returns-in-Err-clause-untouched
+returns-in-Err-clause-untouched g c = λ told. left_alone c.conclude_key.result (recovers_by (command_of c.args.change c.args.old c.args.new)) _ (unmoved g.D.Disk.reads g.D.Disk.images g.D.Disk.moment g.D.Disk.since g.met.D.Disk.only_now c.args.disk.now)

@@ -2,10 +2,12 @@ use Rattle.std.proofs.Common.{◌≡◌, ◌++◌, List, ℕ, None, Some, Ok, sy
 use Rattle.std.specs.Prelude.{slice_get}
 use Rattle.std.specs.List.{Contains}
 use Rattle.db_format.specs.Seen.{marked}
+use Rattle.migrate_job.proofs.WalkStops.{given_stop}
 use Rattle.pager.specs.File.{main_of}
 use Rattle.pager.specs.Pages.{opened_pages}
 use Rattle.pager.specs.Reads.{disk_then_read}
 use Rattle.btree_model.specs.Parts.{counts}
+use Rattle.rekey_job.proofs.Stopped.{pages_same}
 use Rattle.sqlcipher_tool.specs.Answer.{Answer, Puts, PutsPart, done, refused}
 use Rattle.sqlcipher_tool.specs.Plain.{refused_but}
 use Rattle.sqlcipher_tool.specs.Stop.{stop_answer}
@@ -13,8 +15,11 @@ use Rattle.sqlcipher_tool.specs.Text.{tag_lines, refusal_line, verify_report}
 use Rattle.sqlcipher_tool.specs.Verify.{pages_answers, rest_answers}
 use Rattle.sqlcipher_tool.proofs.SomeDue.{pages_some, rest_some}
 use Rattle.sqlcipher_tool.proofs.Answered.{printed_among}
-use Rattle.sqlcipher_tool.proofs.Verified.{free_stop, hold_next, left_is, outside_stop, pages_same, refused_one, rest_stop, stop_one, stopped_one, tags_due}
+use Rattle.sqlcipher_tool.proofs.Verified.{free_stop, hold_next, left_is, outside_stop, refused_one, rest_stop, stop_one, stopped_one, tags_due}
 use Rattle.sqlcipher_tool.proofs.walk.report_stop.Goals as goal
+
+pub walk_stop-requires : goal.walk_stop-requires
+walk_stop-requires g c = given_stop g.D.Disk.tells _ _ _ c.in-Err-start.error (λ s t read. read.4) c.in-Err-start.ensures.given
 
 pub returns-in-Err-clause-answer : goal.returns-in-Err-clause-answer
 returns-in-Err-clause-answer g c = λ told.

@@ -1,21 +1,23 @@
-use Rattle.std.proofs.Common.{refl, sym, ap, ◌∙◌, subst}
+use Rattle.std.proofs.Common.{sym, ap, ◌∙◌, subst}
 use Rattle.db_format.specs.Pages.{Pages}
+use Rattle.migrate_job.proofs.WalkStops.{given_stop}
 use Rattle.pager.specs.File.{main_of}
 use Rattle.pager.specs.Pages.{opened_pages}
 use Rattle.pager.specs.Reads.{disk_then_read}
 use Rattle.schema_map.specs.Census.{IsWhole}
+use Rattle.rekey_job.proofs.Stopped.{pages_same}
 use Rattle.sqlcipher_tool.specs.Promises.{AnswersOne}
 use Rattle.sqlcipher_tool.specs.Stop.{stop_answer}
 use Rattle.sqlcipher_tool.specs.Verify.{pages_answers}
 use Rattle.sqlcipher_tool.proofs.SomeDue.{pages_some}
-use Rattle.sqlcipher_tool.proofs.Verified.{free_stop, memory_one, pages_same, stop_one}
+use Rattle.sqlcipher_tool.proofs.Verified.{free_stop, stop_one}
 use Rattle.sqlcipher_tool.proofs.walk.verify_pages.Goals as goal
 
-pub returns-then-pages-eq0-clause-answer : goal.returns-then-pages-eq0-clause-answer
-returns-then-pages-eq0-clause-answer g c = λ told.
-    let start = c.args.pager.now in
-    let pages = opened_pages start.codec (main_of (g.D.Disk.reads start.disk.now)) start.count in
-    memory_one (pages_answers pages) g.S.Sink.tells (g.S.Sink.taken c.args.out.now) (g.S.Sink.taken c.args.out.now) (pages_some pages) refl
+pub walk_stop-requires : goal.walk_stop-requires
+walk_stop-requires g c = given_stop g.D.Disk.tells _ _ _ c.in-Err.error (λ s t read. read.4) c.in-Err.ensures.given
+
+pub report_stop-requires-clause-is_stop : goal.report_stop-requires-clause-is_stop
+report_stop-requires-clause-is_stop g c = given_stop g.D.Disk.tells _ _ _ c.in-Err-finish.error (λ s t read. read.4) c.in-Err-finish.ensures.given
 
 pub report_census-requires : goal.report_census-requires
 report_census-requires g c = λ told.

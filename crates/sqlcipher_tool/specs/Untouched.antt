@@ -1,0 +1,39 @@
+-- A command that recovers Main first leaves the disk alone where there is no file to recover.
+use Rattle.std.specs.Prelude.{◌≡◌, ◌≢◌, ◌⊎◌, length, Option, Some, None, IsErr}
+use Rattle.cipher_profile.specs.declared.profile.Profile.{Profile}
+use Rattle.edge_model.specs.Files.{Files}
+use Rattle.edge_model.specs.Images.{Each}
+use Rattle.pager.specs.File.{main_of}
+use Rattle.sqlcipher_tool.specs.Holding.{DiskRun}
+use Rattle.sqlcipher_tool.specs.Recovered.{recovery_of}
+use Rattle.sqlcipher_tool.specs.declared.command.Command.{Command}
+use Rattle.sqlcipher_tool.specs.declared.command.Command.TheVariants.{Tags, Header, Verify, Export, Probe, Recover, Stamp, Rekey, Migrate, Make}
+use Rattle.sqlcipher_tool.specs.declared.status.Status.{Status}
+use Rattle.sqlcipher_tool.specs.declared.status.Status.TheVariants.{DiskFault}
+
+-- the profile by which it recovers Main; `probe` and `make` recover nothing
+abbrev pub recovers_by : Command → Option Profile
+recovers_by (Tags profile) = Some profile
+recovers_by (Header profile) = Some profile
+recovers_by (Verify profile) = Some profile
+recovers_by (Export profile) = Some profile
+recovers_by Probe = None
+recovers_by (Recover profile) = Some profile
+recovers_by (Stamp profile field value) = Some profile
+recovers_by (Rekey old new) = Some old
+recovers_by (Migrate old new) = Some old
+recovers_by (Make profile rows) = None
+
+-- Main is absent or has no byte, or its recovery is refused
+abbrev pub HasNoFile : Profile → Files → Type 0
+HasNoFile profile files = (length (main_of files) ≡ 0) ⊎ IsErr (recovery_of profile files)
+
+-- Nothing is written: the disk reads as before, and no crash leaves an image that was not one at the start. A sync may leave fewer.
+pub record IsUnwritten (run : DiskRun) : Type 0 where
+  pub reads : run.after ≡ run.before
+  pub no_more : Each run.ever run.at_start
+
+-- where there is no file to recover, nothing is written, unless the disk fails
+abbrev pub LeavesAlone : Status → Option Profile → DiskRun → Type 0
+LeavesAlone status None run = Unit {0}
+LeavesAlone status (Some profile) run = HasNoFile profile run.before → status ≢ DiskFault → IsUnwritten run
