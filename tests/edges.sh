@@ -23,7 +23,7 @@ python3 "$oracle" file.db make 4 40 --seed 7 < key > made || exit 1
 pages=$(($(stat -c %s file.db) / 4096))
 hold="tags hold: $pages pages"
 
-row() { # row STATUS OUTPUT ERRORS COMMAND: ERRORS is a piece of the line on standard error, nothing where there is no line
+row() { # row STATUS OUTPUT ERRORS COMMAND: ERRORS has a piece of each line on standard error, a line each, and is empty where there is no line
     local status=$1 output=$2 errors=$3 command=$4 found
     (eval "$command") > "$folder/output" 2> "$folder/errors"
     found=$?
@@ -37,12 +37,12 @@ row() { # row STATUS OUTPUT ERRORS COMMAND: ERRORS is a piece of the line on sta
     fi
 }
 
-says() { # one line of the program that has these words; no line for no words
-    if [ -z "$1" ]; then
-        [ ! -s "$folder/errors" ]
-    else
-        [ "$(wc -l < "$folder/errors")" -eq 1 ] && grep -q '^sqlcipher-tool: ' "$folder/errors" && grep -qF -- "$1" "$folder/errors"
-    fi
+says() { # as many lines of the program as there are pieces, each with its piece; no line for no piece
+    local line piece
+    [ "$(wc -l < "$folder/errors")" -eq "$(printf '%s' "${1:+$1$'\n'}" | wc -l)" ] || return 1
+    while IFS= read -r line <&3 && IFS= read -r piece <&4; do
+        case $line in "sqlcipher-tool: "*"$piece"*) ;; *) return 1 ;; esac
+    done 3< "$folder/errors" 4<<< "$1"
 }
 
 kept() { # kept NAME..: the file and the folder are as they were
@@ -127,9 +127,11 @@ touch linked/app.db-journal
 row 0 "$hold" '' '"$tool" linked/app.db tags 4 < key'
 row 4 '' 'dangling.db: resolve: No such file' '"$tool" dangling.db tags 4 < key'
 row 4 '' 'loop.db: resolve: Too many levels of symbolic links' '"$tool" loop.db tags 4 < key'
-row 2 'key missing' '' '"$tool" loop.db tags 4 < /dev/null'
+row 2 'key missing' 'take two, the old key and the new one' '"$tool" loop.db tags 4 < /dev/null'
 row 1 usage "$usage" '"$tool" loop.db'
 row 2 'file is empty' 'absent.db: there is no such file' '"$tool" absent.db tags 4 < key'
+row 0 'nothing' 'absent.db: there is no such file' '"$tool" absent.db recover 4'
+row 2 'file is empty' 'new?line?.db: there is no such file' '"$tool" $'"'new\\nline\\e.db'"' tags 4 < key'
 row 4 '' 'none: open: No such file or directory' '"$tool" none/absent.db tags 4 < key'
 row 2 'file is empty' 'none/absent.db: there is no such file' '"$tool" none/absent.db probe < key'
 row 4 '' 'file.db/app.db: resolve: Not a directory' '"$tool" file.db/app.db tags 4 < key'
@@ -172,6 +174,12 @@ if [ -z "$as_nobody" ] || $as_nobody "$tool" --version > /dev/null; then
     row 0 'profile 4' '' "$as_nobody \"\$tool\" hidden/app.db probe < key"
     row 4 '' 'closed/app.db: resolve: Permission denied' "$as_nobody \"\$tool\" closed/app.db tags 4 < key"
     row 4 '' 'unreadable.db: open: Permission denied' "$as_nobody \"\$tool\" unreadable.db tags 4 < key"
+    # A file that may not be written gets no journal, which would bar it to those who only read.
+    mkdir shut && cp file.db shut/app.db && chmod 444 shut/app.db && chmod 777 shut
+    row 4 '' 'shut/app.db: open: Permission denied' "$as_nobody \"\$tool\" shut/app.db stamp 4 user-version 7 < key"
+    row 4 '' 'shut/app.db: open: Permission denied' "cat key key | $as_nobody \"\$tool\" shut/app.db rekey 4 4"
+    row 0 "$hold" '' "$as_nobody \"\$tool\" shut/app.db tags 4 < key"
+    row 1 '' '' '[ -e shut/app.db-journal ]'
     chmod 755 open closed hidden
 else
     echo "edges: rows on permissions are left out, since setpriv is missing"
@@ -226,6 +234,41 @@ rows=$((rows + 1))
 for line in "$digits" "old carriage" 'quoted secret"'; do
     printf '%s\n' "$line" | "$tool" file.db tags 4 2>&1 > /dev/null | grep -qF -- "$line" && wrong=$((wrong + 1))
 done
+
+row 2 'key with salt' 'give the first 64 digits alone' "echo \"x'$digits${digits:0:32}'\" | \"\$tool\" file.db tags 4"
+
+# A new key that may have been meant otherwise. The old key is not spoken of.
+other="x'ffffffffffffffffffffffffffffffffffffffffffffffffffffffffffffffff'"
+printf '%s\n' "$k0" "$other" > keys
+cp file.db rekeyed.db
+row 2 'key missing' 'take two, the old key and the new one' '"$tool" rekeyed.db rekey 4 4 < key'
+row 0 "rekeyed: $pages pages" '' '"$tool" rekeyed.db rekey 4 4 < keys'
+row 0 "rekeyed: $pages pages" 'of the new key: the key line ends in a carriage return' \
+    'printf "%s\n%s\r\n" "$other" "$k0" | "$tool" rekeyed.db rekey 4 4'
+row 0 '' 'of the new key: the key line is 64 hex digits' \
+    'cp file.db migrated.db; printf "%s\n%s\n" "$k0" "$digits" | "$tool" migrated.db migrate 4 2 > lines.txt'
+row 0 'made: 1 rows, 500 data bytes' 'of the new key: the key line ends in a space' 'echo "old " | "$tool" made.db make 2 1'
+
+# The output fails after the work, or the disk in its midst: the file is one of two, and the lines say so.
+full='standard output: write: No space left on device'
+cp file.db ended.db
+row 5 '' "$full"$'\n''under the old key or under the new one' '"$tool" ended.db rekey 4 4 < keys > /dev/full'
+row 0 "$hold" '' 'tail -n 1 keys | "$tool" ended.db tags 4'
+row 5 '' "$full"$'\n''with the old number or with the new one' 'tail -n 1 keys | "$tool" ended.db stamp 4 user-version 7 > /dev/full'
+row 5 '' "$full"$'\n''there is no database, or the whole one' '"$tool" filled.db make 4 1 < key > /dev/full'
+row 5 '' "$full" '"$tool" ended.db rekey 4 4 < keys > /dev/full'
+if command -v strace > /dev/null; then
+    cp file.db partly.db
+    row 4 '' $'partly.db-migrated: write: No space left\nunder the old key or under the new one\npartly.db-migrated: it was not finished' \
+        'strace -f -qq -o /dev/null -e trace=pwrite64 -e inject=pwrite64:error=ENOSPC:when=3 "$tool" partly.db migrate 4 4 < keys'
+    row 0 '' '' 'cmp partly.db file.db'
+    row 0 "migrated: $pages pages" '' '"$tool" partly.db migrate 4 4 < keys'
+    row 1 '' '' '[ -e partly.db-migrated ]'
+fi
+
+# A file that was cut.
+head -c 10000 file.db > cut.db
+row 2 'file is short: 10000 bytes' 'it was cut' '"$tool" cut.db verify 4 < key'
 
 # A write-ahead log is kept.
 python3 "$oracle" file.db decrypt 4 decrypted < key > made

@@ -1,6 +1,8 @@
 // The line on standard error that says why, or what to do.
+use crate::failure::Shown;
 use crate::folder_disk::FolderDisk;
 use crate::line_form::LineForm;
+use crate::progress::Progress;
 use crate::streams::{DeviceEntropy, InputSource, OutputSink};
 use sqlcipher_tool::{Refusal, Status};
 use std::fmt::Display;
@@ -25,6 +27,30 @@ const SUPER_JOURNAL: &str =
 
 const JOURNAL_THERE: &str =
     "a journal is there; if its file is too, then on a copy of both `recover 4`, or else `recover 3`, plays it back or removes it";
+
+const KEY_MISSING: &str =
+    "standard input ended before the last key line: `rekey` and `migrate` take two, the old key and the new one, and the others \
+    one";
+
+const KEY_WITH_SALT: &str =
+    "the key line has a raw key and 32 digits of salt; the file begins with its salt, so give the first 64 digits alone, as x'..'";
+
+const SHORT: &str = "the file ends before its last page: it was cut, or it was not copied whole";
+
+const RAGGED: &str =
+    "the file does not end with a page: it was cut, or something stands behind its pages";
+
+const AUTO_VACUUM: &str =
+    "the file has pointer-map pages; on a copy of it, `PRAGMA auto_vacuum = 0` and then `VACUUM` in the program that wrote it \
+    take them out";
+
+const EITHER_KEY: &str =
+    "the database is whole, under the old key or under the new one: run `recover`, then try both";
+
+const EITHER_NUMBER: &str =
+    "the database is whole, with the old number or with the new one: run `recover`, then `header`";
+
+const EITHER_FILE: &str = "there is no database, or the whole one: `verify` tells which";
 
 const NOT_ENCRYPTED: &str = "the file begins with `SQLite format 3`: it is not encrypted";
 
@@ -52,10 +78,12 @@ pub fn explain(
     rt: &HostRuntime,
     status: Status,
     path: &str,
+    words: &[&str],
     input: &InputSource,
     out: &OutputSink,
     entropy: &DeviceEntropy,
     disk: &mut FolderDisk,
+    progress: &Progress,
 ) {
     let failure = match status {
         Status::DiskFault => disk.last,
@@ -67,16 +95,67 @@ pub fn explain(
     if let Some(failure) = failure {
         say(rt, failure);
     }
-    if status == Status::Refused(Refusal::Empty) && disk.lacks_main() {
-        say(rt, format_args!("{path}: there is no such file"));
-    }
+    explain_file(rt, status, path, words, disk, progress);
     let advice = match status {
         Status::KeyRefused if disk.is_plain() => Some(NOT_ENCRYPTED),
-        Status::KeyRefused => Some(advice_on_key(&input.line)),
+        Status::KeyRefused => Some(advice_on_form(&input.line).unwrap_or(KEY_REFUSED)),
         _ => advice_on(status),
     };
     if let Some(words) = advice {
         say(rt, words);
+    }
+    if status == Status::Done {
+        explain_new_key(rt, words, input);
+    }
+}
+
+// Says what is there, or may be, where the lines of the output can't.
+fn explain_file(
+    rt: &HostRuntime,
+    status: Status,
+    path: &str,
+    words: &[&str],
+    disk: &FolderDisk,
+    progress: &Progress,
+) {
+    let is_sought = status == Status::Done || status == Status::Refused(Refusal::Empty);
+    if is_sought && disk.lacks_main() {
+        say(rt, format_args!("{}: there is no such file", Shown(path)));
+    }
+    let is_open = status == Status::DiskFault || status == Status::OutputFault;
+    if let (true, Some(words)) = (is_open && progress.has_written(), advice_on_end(words)) {
+        say(rt, words);
+    }
+    if let Some(fresh) = disk.left_fresh() {
+        say(
+            rt,
+            format_args!(
+                "{}: it was not finished and is no part of the database; it may be removed",
+                Shown(fresh)
+            ),
+        );
+    }
+}
+
+// A key that was set otherwise than it was meant opens the file to nobody who does not know that.
+fn explain_new_key(rt: &HostRuntime, words: &[&str], input: &InputSource) {
+    let form = match words {
+        ["rekey", ..] | ["migrate", ..] => advice_on_form(&input.second),
+        ["make", ..] => advice_on_form(&input.line),
+        _ => None,
+    };
+    if let Some(words) = form {
+        say(rt, format_args!("of the new key: {words}"));
+    }
+}
+
+// What the file is where a fault leaves open whether the command was done.
+fn advice_on_end(words: &[&str]) -> Option<&'static str> {
+    match words {
+        ["rekey", ..] | ["migrate", ..] => Some(EITHER_KEY),
+        ["stamp", ..] => Some(EITHER_NUMBER),
+        ["make", ..] => Some(EITHER_FILE),
+        _ => None,
     }
 }
 
@@ -85,25 +164,37 @@ fn advice_on(status: Status) -> Option<&'static str> {
     match status {
         Status::Usage => Some(USAGE),
         Status::OutOfMemory => Some(OUT_OF_MEMORY),
-        Status::Refused(Refusal::WalMode) => Some(WAL_MODE),
-        Status::Refused(Refusal::JournalPageSize { .. }) => Some(JOURNAL_PAGE_SIZE),
-        Status::Refused(Refusal::SuperJournal) => Some(SUPER_JOURNAL),
-        Status::Refused(Refusal::JournalThere) => Some(JOURNAL_THERE),
+        Status::Refused(refusal) => advice_on_refusal(refusal),
         _ => None,
     }
 }
 
-// What the form of the key line tells, where the key does not fit.
-fn advice_on_key(line: &LineForm) -> &'static str {
+fn advice_on_refusal(refusal: Refusal) -> Option<&'static str> {
+    match refusal {
+        Refusal::KeyMissing => Some(KEY_MISSING),
+        Refusal::KeyForm => Some(KEY_WITH_SALT),
+        Refusal::JournalThere => Some(JOURNAL_THERE),
+        Refusal::JournalPageSize { .. } => Some(JOURNAL_PAGE_SIZE),
+        Refusal::SuperJournal => Some(SUPER_JOURNAL),
+        Refusal::Short { .. } => Some(SHORT),
+        Refusal::Ragged { .. } => Some(RAGGED),
+        Refusal::WalMode => Some(WAL_MODE),
+        Refusal::AutoVacuum => Some(AUTO_VACUUM),
+        _ => None,
+    }
+}
+
+// What the form of a key line tells of how else it may have been meant.
+fn advice_on_form(line: &LineForm) -> Option<&'static str> {
     if line.is_bare_key() {
-        BARE_KEY
+        Some(BARE_KEY)
     } else if line.ends_in_return() {
-        CARRIAGE_RETURN
+        Some(CARRIAGE_RETURN)
     } else if line.ends_in_space() {
-        SPACE
+        Some(SPACE)
     } else if line.is_quoted() {
-        QUOTES
+        Some(QUOTES)
     } else {
-        KEY_REFUSED
+        None
     }
 }

@@ -19,7 +19,21 @@ pub struct Failure<'a> {
 
 impl<'a> Display for Failure<'a> {
     fn fmt<W: fmt::Write>(&self, f: &mut Formatter<W>) -> fmt::Result {
-        write!(f, "{}: {}: {}", self.name, self.call, self.error)
+        write!(f, "{}: {}: {}", Shown(self.name), self.call, self.error)
+    }
+}
+
+/// A name as one line shows it: what would end the line or steer the terminal is a question mark.
+#[derive(Clone, Copy)]
+pub struct Shown<'a>(pub &'a str);
+
+impl<'a> Display for Shown<'a> {
+    fn fmt<W: fmt::Write>(&self, f: &mut Formatter<W>) -> fmt::Result {
+        for letter in self.0.chars() {
+            let shown = if letter.is_control() { '?' } else { letter };
+            write!(f, "{shown}")?;
+        }
+        Ok(())
     }
 }
 

@@ -58,6 +58,11 @@ impl<'a> FolderDisk<'a> {
         self.main.is_absent()
     }
 
+    /// The path of Fresh where it was made, or found, and has not taken Main's place.
+    pub fn left_fresh(&self) -> Option<&'a str> {
+        self.fresh.left()
+    }
+
     /// Whether Main begins as SQLite's files do that are not encrypted.
     pub fn is_plain(&mut self) -> bool {
         let mut bytes = [0u8; 15];
@@ -79,6 +84,10 @@ impl<'a> FolderDisk<'a> {
         ensures uncounted { self.new.faults ≡ self.old.faults }
     {
         let model = self.model(role)?;
+        if role == Role::Journal && model.is_some() {
+            // A journal beside a file that can't be written would only stand in the way of those who read.
+            self.main.prepare(self.rt)?;
+        }
         match role {
             Role::Main => self.main.create(self.rt, model.as_ref()),
             Role::Journal => self.journal.create(self.rt, model.as_ref()),

@@ -35,10 +35,13 @@ commands
   migrate PROFILE PROFILE
                   write the database anew in the second profile, under the second
                   key, and put it in the file's place; prints `migrated: N pages`.
-                  A stop at any moment leaves the old file or the new one
+                  A stop at any moment leaves the old file or the new one.
+                  The new one is FILE-migrated until it is done: what else has this
+                  name is removed, and what a stop leaves there is of no use
   make PROFILE N  make a database of N rows, at most 4294967295, where there is
                   neither a file nor a journal; prints `made: N rows, B data bytes`.
-                  A stop at any moment leaves no file or the whole one
+                  A stop at any moment leaves no file or the whole one. It uses the
+                  name FILE-migrated too
 
 profiles
   1, 2, 3, 4      the version of SQLCipher that wrote the file (1 has no tags)
@@ -53,13 +56,14 @@ exit status
   1  the words are no command
   2  refused: the lines say why
   3  the key does not fit the file
-  4  the disk failed
-  5  standard output failed
+  4  the disk failed. A command that changes or makes a file may be done or not
+  5  standard output failed. The same
   6  standard input failed
   7  the source of random bytes failed
   8  out of memory
 
-Standard error has a line that says why, where the answer leaves that open.
+Standard error says why and what to do, where the answer leaves that open. After a
+stop or a fault, `recover` settles what the file is.
 
 examples, on a file FILE
   sqlcipher-tool FILE probe < KEYFILE

@@ -10,7 +10,7 @@ enum Mark {
     Other,
 }
 
-/// What the first line of the input looks like. None of its bytes is kept.
+/// What a line of the input looks like. None of its bytes is kept.
 #[derive(Clone, Copy, PartialEq, Eq)]
 pub struct LineForm {
     /// Its length so far, in bytes.
@@ -43,6 +43,11 @@ impl LineForm {
                 self.see_byte(*byte);
             }
         }
+    }
+
+    /// Whether its line feed was seen.
+    pub fn has_ended(&self) -> bool {
+        self.has_ended
     }
 
     fn see_byte(&mut self, byte: u8) {

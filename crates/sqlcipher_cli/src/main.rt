@@ -89,6 +89,8 @@ fn serve(rt: &HostRuntime, file: &str, words: &[&str]) -> u8 {
     let alloc = rt.alloc();
     let status = run(alloc, words, &mut input, &mut out, &mut entropy, &mut disk);
     progress.clear();
-    advice::explain(rt, status, file, &input, &out, &entropy, &mut disk);
+    advice::explain(
+        rt, status, file, words, &input, &out, &entropy, &mut disk, &progress,
+    );
     status.code()
 }

@@ -59,6 +59,11 @@ impl<'a> Progress<'a> {
         self.step(len);
     }
 
+    /// Whether a write of a byte was asked for.
+    pub fn has_written(&self) -> bool {
+        self.written.get() > 0
+    }
+
     /// Takes the line away, so that another can stand in its place.
     pub fn clear(&self) {
         if self.is_shown.get() {

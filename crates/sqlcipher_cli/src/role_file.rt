@@ -45,6 +45,20 @@ impl<'a> RoleFile<'a> {
         self.known
     }
 
+    /// The path, where the file was there when it was last asked for or made.
+    pub fn left(&self) -> Option<&'a str> {
+        match self.known {
+            Some(_) => Some(self.path),
+            None => None,
+        }
+    }
+
+    /// Opens the file for writing, so that a later write doesn't fail for want of a permission.
+    pub fn prepare(&mut self, rt: &HostRuntime) -> Result<(), Failure<'a>> {
+        self.opened_for_writing(rt)?;
+        Ok(())
+    }
+
     /// The length in bytes, none where nothing has the path. What is there and is no regular file is an error.
     pub fn length(&mut self, rt: &HostRuntime) -> Result<Option<u64>, Failure<'a>>
         ensures known { IfOk result (λ len. self.new.known ≡ len) }

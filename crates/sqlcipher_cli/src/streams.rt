@@ -16,6 +16,8 @@ pub struct InputSource<'a> {
     rt: &'a HostRuntime,
     /// What shows of the first line.
     pub line: LineForm,
+    /// What shows of the second line.
+    pub second: LineForm,
     /// How often the stream has failed.
     pub faults: u64,
     /// The last failure.
@@ -27,6 +29,7 @@ impl<'a> InputSource<'a> {
         InputSource {
             rt,
             line: LineForm::new(),
+            second: LineForm::new(),
             faults: 0,
             last: None,
         }
@@ -43,7 +46,12 @@ impl<'a> Source for InputSource<'a> {
     fn take(&mut self, buf: &mut [u8]) -> Result<usize, Failed> {
         let outcome = called("standard input", "read", read_some(self.rt, buf));
         if let Ok(count) = outcome {
-            self.line.see(&buf[..count]);
+            // A key line is read byte by byte, so no piece has two lines.
+            if self.line.has_ended() {
+                self.second.see(&buf[..count]);
+            } else {
+                self.line.see(&buf[..count]);
+            }
         }
         settle(&mut self.faults, &mut self.last, outcome)
     }

@@ -212,6 +212,10 @@ fn refuses(test: &impl Abort, rt: &HostRuntime, path: &str) -> Result<(), Fail> 
     // A privileged process may write it all the same.
     let denied = OpenOptions::new().write(true).open(rt, path).is_err();
     assert_eq!(test; disk.write_at(Main, 0, b"x").is_err(), denied);
+    assert_eq!(test; disk.create(Journal).is_err(), denied);
+    let journal = if denied { None } else { Some(0) };
+    assert_eq!(test; disk.length(Journal), Ok(journal));
+    assert_eq!(test; disk.remove(Journal).is_err(), denied);
     fs::remove_file(rt, path)?;
     Ok(())
 }
