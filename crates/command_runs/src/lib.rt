@@ -2,7 +2,13 @@
 #![tactic(auto)]
 
 #[cfg(test)]
+mod batches;
+#[cfg(test)]
 mod large;
+#[cfg(test)]
+mod left_journal;
+#[cfg(test)]
+mod moved_pages;
 #[cfg(test)]
 mod renewal;
 #[cfg(test)]
