@@ -7,9 +7,9 @@ use std::process::Abort;
 use std::test::Fail;
 
 // Only each eleventh call is tried, and each of the last ones, so that a test takes some seconds.
-// So many steps are more than a run here makes.
 const STEP: u64 = 11;
 
+// So many steps are more than a run here makes.
 const MOST_STEPS: u64 = 400;
 
 const LAST: u64 = 30;
