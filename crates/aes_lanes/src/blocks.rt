@@ -3,7 +3,7 @@
 ghost use Rattle.std.specs.Prelude.{◌≡◌, ℕ, ◌+◌, ◌*◌, ◌/◌, ◌%◌, ◌^◌, ◌<◌, [], ◌∷◌, ◌++◌, length, map, slice_index};
 ghost use Rattle.std.specs.Int.{w64, to_le_bytes};
 ghost use Rattle.std.specs.List.{range_with_len};
-ghost use Rattle.aes_block.specs.Aes.{inv_aes256};
+ghost use Rattle.aes_block.specs.Aes.{aes256, inv_aes256};
 ghost use Rattle.aes_block.specs.Blocks.{block_at};
 ghost use Rattle.aes_lanes.specs.Blocks.{block_in, four_bytes, word_bits};
 ghost use Rattle.aes_lanes.specs.States.{IsState, state_in};
@@ -11,7 +11,7 @@ ghost use Rattle.aes_lanes.specs.Transposed.{bits, state_vectors};
 
 use crate::keys::add_key;
 use crate::lanes::{Lanes, Row, State};
-use crate::rounds::{inv_round, inv_start};
+use crate::rounds::{inv_round, inv_start, last_round, round};
 use crate::transpose::transpose;
 use aes_block::Aes256;
 use std::simd::prelude::*;
@@ -131,6 +131,17 @@ fn vectors(s: State) -> [Lanes; 32]
     ]
 }
 
+/// Encrypts 64 blocks of 16 bytes: Cipher (FIPS 197, section 5.1). `block_of` takes one out.
+pub fn encrypt_blocks(aes: &Aes256, text: &[u8; 1024]) -> [Lanes; 32]
+    ensures { (j : ℕ) → j < 64 → block_in result j ≡ aes256 aes.now (block_at text.now j) }
+{
+    let mut s = add_key(states(text), &aes.round_key(0));
+    'rounds: for i in 0..13 {
+        s = round(s, &aes.round_key(i + 1));
+    }
+    vectors(last_round(s, &aes.round_key(14)))
+}
+
 /// Decrypts 64 blocks of 16 bytes: InvCipher (FIPS 197, section 5.3). `block_of` takes one out.
 pub fn decrypt_blocks(aes: &Aes256, text: &[u8; 1024]) -> [Lanes; 32]
     ensures { (j : ℕ) → j < 64 → block_in result j ≡ inv_aes256 aes.now (block_at text.now j) }
@@ -171,7 +182,7 @@ fn bytes_of(low: u64, high: u64) -> [u8; 16]
     [a, b, c, d, e, f, g, h, i, j, k, l, m, n, o, p]
 }
 
-/// Block `j`, from 0, of the 64 that `decrypt_blocks` gave.
+/// Block `j`, from 0, of the 64 that were encrypted or decrypted.
 #[inline(always)]
 pub fn block_of(blocks: &[Lanes; 32], j: usize) -> [u8; 16]
     requires { j < 64 }

@@ -1,7 +1,7 @@
-// Sums and products of the bytes of rows, and InvMixColumns.
+// Sums and products of the bytes of rows, MixColumns and InvMixColumns.
 ghost use Rattle.std.specs.Prelude.{◌≡◌, ℕ, ◌<◌, [], ◌∷◌, bit_xor};
 ghost use Rattle.aes_block.specs.Field.{gf_mul};
-ghost use Rattle.aes_block.specs.Aes.{inv_mix_columns};
+ghost use Rattle.aes_block.specs.Aes.{inv_mix_columns, mix_columns};
 ghost use Rattle.aes_lanes.specs.Planes.{IsRow, byte_in};
 ghost use Rattle.aes_lanes.specs.States.{AreHalfMixed, AreMixed, IsState, state_in};
 
@@ -64,12 +64,13 @@ fn half_mixed(s: State) -> State
     }
 }
 
-// MixColumns.
+/// MixColumns (FIPS 197, section 5.1.3).
 #[inline(always)]
-fn mix_columns(s: State) -> State
+pub fn mix_columns(s: State) -> State
     requires { IsState s }
     ensures lanes { IsState result }
     ensures bytes { (c j : ℕ) → c < 4 → j < 64 → AreMixed s result c j }
+    ensures blocks { (j : ℕ) → j < 64 → state_in result j ≡ mix_columns (state_in s j) }
 {
     let s01 = xor(s.r0, s.r1);
     let s12 = xor(s.r1, s.r2);

@@ -1,6 +1,6 @@
-// InvShiftRows.
+// ShiftRows and InvShiftRows.
 ghost use Rattle.std.specs.Prelude.{◌≡◌, ℕ, ◌<◌};
-ghost use Rattle.aes_block.specs.Aes.{inv_shift_rows};
+ghost use Rattle.aes_block.specs.Aes.{inv_shift_rows, shift_rows};
 ghost use Rattle.aes_lanes.specs.Planes.{IsRow, byte_in};
 ghost use Rattle.aes_lanes.specs.States.{AreMoved, IsState, state_in};
 
@@ -61,6 +61,21 @@ fn rotate_by_3(a: Row) -> Row
         p5: a.p5.swizzle([1, 2, 3, 0]),
         p6: a.p6.swizzle([1, 2, 3, 0]),
         p7: a.p7.swizzle([1, 2, 3, 0]),
+    }
+}
+
+/// ShiftRows (FIPS 197, section 5.1.2).
+#[inline(always)]
+pub fn shift_rows(s: State) -> State
+    requires { IsState s }
+    ensures lanes { IsState result }
+    ensures blocks { (j : ℕ) → j < 64 → state_in result j ≡ shift_rows (state_in s j) }
+{
+    State {
+        r0: s.r0,
+        r1: rotate_by_3(s.r1),
+        r2: rotate_by_2(s.r2),
+        r3: rotate_by_1(s.r3),
     }
 }
 

@@ -9,8 +9,6 @@ mod kind;
 mod page;
 mod payload;
 mod step;
-#[cfg(test)]
-mod tests;
 
 pub use cell::Cell;
 pub use kind::{Family, Kind, page_kind};

@@ -12,10 +12,6 @@ mod number;
 mod order;
 mod page;
 mod path;
-#[cfg(test)]
-mod real_pages;
-#[cfg(test)]
-mod tests;
 mod turn;
 
 pub use cursor::{Cursor, Entry};

@@ -17,8 +17,6 @@ mod out;
 mod pair;
 mod putting;
 mod root;
-#[cfg(test)]
-mod tests;
 
 pub use error::LoadError;
 pub use loader::Loader;

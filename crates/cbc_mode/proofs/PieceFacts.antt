@@ -9,7 +9,7 @@ use Rattle.aes_block.specs.Blocks.{block_at}
 use Rattle.cbc_mode.specs.Cbc.{block_before, cbc_decrypted, plain_block}
 use Rattle.cbc_mode.proofs.BlockFacts.{block_in_front, joined, joined_same, joined_suc}
 
-joined_split : (f : ℕ → List ℕ) (m n : ℕ) → joined f (m + n) ≡ joined f m ++ joined (λ j. f (m + j)) n
+pub joined_split : (f : ℕ → List ℕ) (m n : ℕ) → joined f (m + n) ≡ joined f m ++ joined (λ j. f (m + j)) n
 joined_split f m zero =
     let e : m + 0 ≡ m = omega arith in
     ap (joined f) e ∙ sym (append-nil (joined f m))

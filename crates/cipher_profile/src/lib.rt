@@ -6,8 +6,6 @@ mod key_line;
 mod keys;
 mod passphrase;
 mod profile;
-#[cfg(test)]
-mod tests;
 
 pub use key_line::{KeyError, read_key};
 pub use keys::{PageKeys, Secret, derive};

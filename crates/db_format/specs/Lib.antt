@@ -1,6 +1,7 @@
 pub mod Bytes
 pub mod Column
 pub mod Count
+pub mod Counted
 pub mod Header
 pub mod MemPages
 pub mod Pages

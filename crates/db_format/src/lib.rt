@@ -7,29 +7,23 @@
 mod bytes;
 mod column;
 mod count;
+mod counted;
 mod defect;
 mod header;
 mod mem_pages;
 mod memory;
 mod record;
-#[cfg(test)]
-mod record_tests;
 mod row;
 mod seen;
 mod serial;
 mod source;
-#[cfg(test)]
-mod source_tests;
-#[cfg(test)]
-mod tests;
 mod value;
 mod values;
 mod varint;
-#[cfg(test)]
-mod varint_tests;
 
 pub use bytes::{u16_at, u32_at};
 pub use count::{CountRefusal, LARGEST_DATABASE, counted_pages};
+pub use counted::Counted;
 pub use defect::Defect;
 pub use header::{Header, HeaderRefusal, read_header, write_header};
 pub use mem_pages::{MemPages, NoPage};

@@ -6,7 +6,5 @@ mod making;
 mod part;
 mod rows;
 mod schema;
-#[cfg(test)]
-mod tests;
 
 pub use making::{Made, fill};

@@ -8,8 +8,6 @@ mod clearing;
 mod pair;
 mod publishing;
 mod side;
-#[cfg(test)]
-mod tests;
 
 pub use clearing::{clear_fresh, create_fresh};
 pub use pair::Pair;

@@ -18,8 +18,6 @@ mod silent_source;
 mod sink;
 mod source;
 mod supply;
-#[cfg(test)]
-mod tests;
 
 pub use disk::Disk;
 pub use entropy::Entropy;

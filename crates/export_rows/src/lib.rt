@@ -16,8 +16,6 @@ mod item;
 mod line_out;
 mod lines;
 mod plain;
-#[cfg(test)]
-mod tests;
 mod tree;
 mod values;
 

@@ -25,6 +25,12 @@ beside reads images is_new disk after same written synced =
     subst (λ d. IsBeside reads images is_new d) (sym same)
     (record { file = there.0; is = there.1; made = subst is_new (sym there.2) written.made; synced = synced })
 
+-- and what holds of the file that is there
+pub drawn_beside : {D : Type 0} (reads : D → Files) (images : D → Files → Type 0) (is_new own : List ℕ → Type 0) (disk : D) → IsBeside reads images is_new disk
+    → ((file : File) → (reads disk).fresh ≡ Some file → own file.bytes) → IsBeside reads images (λ file. is_new file × own file) disk
+drawn_beside reads images is_new own disk there draws =
+    record { file = there.file; is = there.is; made = (there.made, draws there.file there.is); synced = there.synced }
+
 -- ---- in its place
 
 -- from old to mid Fresh alone changed, and then it was published

@@ -7,8 +7,6 @@ mod finishing;
 mod fresh_out;
 mod sealing;
 mod state;
-#[cfg(test)]
-mod tests;
 
 pub use fresh_out::FreshOut;
 pub use sealing::CommitFault;

@@ -7,8 +7,6 @@ mod mac;
 mod page_hash;
 mod sha1_hash;
 mod sha512_hash;
-#[cfg(test)]
-mod tests;
 
 pub use key_derivation::pbkdf2;
 pub use mac::{Hmac, HmacKey};

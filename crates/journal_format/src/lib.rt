@@ -7,8 +7,6 @@ mod bytes;
 mod header;
 mod record;
 mod super_journal;
-#[cfg(test)]
-mod tests;
 
 pub use header::{SegmentHeader, read_header, sector_ok, write_header};
 pub use record::{checksum, record_page, write_record};

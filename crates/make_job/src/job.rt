@@ -38,9 +38,12 @@ pub fn make<D: Disk, E: Entropy>(
     ensures made { OnOk result (IsTrue D.tells → TakesPlace D.reads D.images D.moment D.since (IsMade profile secret.now rows) disk.old disk.new) }
     ensures own_draws { OnOk result (IsTrue D.tells → IsTrue E.tells
         → HasOwnDraws (keys_of profile secret.now (main_of (D.reads disk.new))) (main_of (D.reads disk.new)) (drop (length (E.drawn entropy.old)) (E.drawn entropy.new))) }
-    // each moment: the files of the start or one made file; after an error that is no fault of the disk those of the start alone
+    // each moment: the files of the start, or one made file, each page of which has drawn bytes of its own; after an error that is no fault
+    // of the disk those of the start alone
     ensures any_moment { IsTrue D.tells → LeavesOld D.reads D.images D.moment D.since disk.old disk.new
-        ⊎ MayTakePlace D.images D.moment D.since (IsMade profile secret.now rows) disk.old disk.new }
+        ⊎ MayTakePlace D.images D.moment D.since
+        (λ file. IsMade profile secret.now rows file × (IsTrue E.tells → HasOwnDraws (keys_of profile secret.now file) file (drop (length (E.drawn entropy.old)) (E.drawn entropy.new))))
+        disk.old disk.new }
     ensures only_old { IfErr result (λ e. (e ≡ MakeError.DiskFault → ⊥) → IsTrue D.tells → LeavesOld D.reads D.images D.moment D.since disk.old disk.new) }
     // a file in the way: it is answered, the disk was only read, and nothing was drawn
     ensures stopped { (e : MakeError) → IsTrue D.tells → in_the_way (D.reads disk.old) ≡ Some e

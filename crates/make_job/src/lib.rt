@@ -4,8 +4,6 @@
 mod error;
 mod job;
 mod publishing;
-#[cfg(test)]
-mod tests;
 mod writing;
 
 pub use db_maker::Made;

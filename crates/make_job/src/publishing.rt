@@ -36,7 +36,8 @@ pub(crate) fn publish_rows<D: Disk, E: Entropy>(
         → AreOwnDraws codec (main_of (D.reads disk.new)) (length (E.drawn entropy.old)) (E.drawn entropy.new)) }
     ensures grown { IsTrue E.tells → StartsWith (E.drawn entropy.new) (E.drawn entropy.old) }
     ensures any_moment { IsTrue D.tells → LeavesOld D.reads D.images D.moment D.since disk.old disk.new
-        ⊎ MayTakePlace D.images D.moment D.since (IsMadeWith codec rows) disk.old disk.new }
+        ⊎ MayTakePlace D.images D.moment D.since
+        (λ file. IsMadeWith codec rows file × (IsTrue E.tells → AreOwnDraws codec file (length (E.drawn entropy.old)) (E.drawn entropy.new))) disk.old disk.new }
     ensures only_old { IfErr result (λ e. (e ≡ MakeError.DiskFault → ⊥) → IsTrue D.tells → LeavesOld D.reads D.images D.moment D.since disk.old disk.new) }
     ensures no_refusal { IfErr result (λ e. is_refusal e ≡ false) }
     ensures limit { (limit : ℕ) → result ≡ Err (MakeError.TooManyPages limit) → (limit ≡ most_pages codec.profile) × (most_pages codec.profile < made_pages (usable codec.profile) rows) }

@@ -53,10 +53,12 @@ pub fn migrate<'d, D: Disk, E: Entropy>(
     ensures own_draws { OnOk result.2 (IsTrue D.tells → IsTrue E.tells
         → HasOwnDraws (keys_of profile secret.now (main_of (D.reads result.0.now))) (main_of (D.reads result.0.now))
         (drop (length (E.drawn pager.entry.entropy.now)) (E.drawn result.1.now))) }
-    // each moment: the files of the start, or one migrated file; after an error that is no fault of the disk those of the start alone
+    // each moment: the files of the start, or one migrated file, each page of which has drawn bytes of its own; after an error that is no
+    // fault of the disk those of the start alone
     ensures any_moment { IsTrue D.tells → LeavesOld D.reads D.images D.moment D.since pager.entry.disk.now result.0.now
         ⊎ MayTakePlace D.images D.moment D.since
-        (IsMigrated profile secret.now pager.entry.header (opened_pages pager.entry.codec (main_of (D.reads pager.entry.disk.now)) pager.entry.count))
+        (λ file. IsMigrated profile secret.now pager.entry.header (opened_pages pager.entry.codec (main_of (D.reads pager.entry.disk.now)) pager.entry.count) file
+        × (IsTrue E.tells → HasOwnDraws (keys_of profile secret.now file) file (drop (length (E.drawn pager.entry.entropy.now)) (E.drawn result.1.now))))
         pager.entry.disk.now result.0.now }
     ensures only_old { IfErr result.2 (λ e. (e ≡ MigrateError.DiskFault → ⊥) → IsTrue D.tells
         → LeavesOld D.reads D.images D.moment D.since pager.entry.disk.now result.0.now) }

@@ -12,14 +12,8 @@ mod error;
 mod job;
 mod renewing;
 mod row;
-#[cfg(test)]
-mod row_tests;
 mod rows;
-#[cfg(test)]
-mod tests;
 mod tree;
-#[cfg(test)]
-mod tree_tests;
 
 pub use copying::copy_next;
 pub use error::MigrateError;

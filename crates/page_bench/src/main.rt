@@ -1,11 +1,11 @@
 //! Hashes, derives keys, and opens and seals pages, to be timed.
 //!
 //! `page_bench hash PIECES`: SHA-512 of PIECES times 4,096 bytes of zeros. `page_bench derive P TIMES`: the keys of
-//! profile P for a passphrase, so many times. `page_bench open P TIMES` and `page_bench seal P TIMES`: page 2 of profile P,
+//! profile P for a passphrase, so many times. `page_bench many P TIMES`: 64 pages of profile P, sealed side by side. `page_bench open P TIMES` and `page_bench seal P TIMES`: page 2 of profile P,
 //! opened or sealed so many times. Each prints one byte that rests on the last result.
 #![tactic(auto)]
 
-ghost use Rattle.std.specs.Prelude.{◌≡◌, length};
+ghost use Rattle.std.specs.Prelude.{◌≡◌, ◌*◌, ◌≤◌, All, length};
 ghost use Rattle.cipher_profile.specs.Profile.{IsListed, usable};
 
 use cipher_profile::{Profile, Secret, derive, profile_of, read_key};
@@ -15,6 +15,8 @@ use sha2::{Digest, Sha512};
 use std::{env, io};
 
 const MAX_PAGE: usize = 4096;
+
+const MAX_PAGES: usize = 262_144;
 
 fn hash(pieces: u64) -> u8 {
     let piece = [0u8; MAX_PAGE];
@@ -61,6 +63,34 @@ fn open_often(codec: &Codec, plain: &mut [u8], stored: &mut [u8], times: u64) ->
     opened
 }
 
+// 64 pages side by side, in as many of these bytes as they have.
+fn seal_many(codec: &Codec, bytes: &mut [u8], times: u64) {
+    let size = codec.profile().page_size as usize;
+    let numbers = [2u32; 64];
+    if bytes.len() == size * 64 {
+        seal_again(codec, &numbers, bytes, times);
+    }
+}
+
+fn seal_again(codec: &Codec, numbers: &[u32; 64], pages: &mut [u8], times: u64)
+    requires numbers { All (λ n. 2 ≤ n) numbers.now }
+    requires size { length pages.old ≡ codec.now.profile.page_size * 64 }
+{
+    for _ in 0..times {
+        codec.seal_pages(numbers, pages);
+    }
+}
+
+fn many(codec: &Codec, times: u64) -> u8 {
+    let mut bytes = [0u8; MAX_PAGES];
+    if codec.profile().page_size == 4096 {
+        seal_many(codec, &mut bytes, times);
+    } else {
+        seal_many(codec, &mut bytes[..65_536], times);
+    }
+    bytes[0]
+}
+
 fn of_profile(profile: Profile, secret: &Secret, word: &str, times: u64) -> u8
     requires { IsListed profile }
 {
@@ -75,6 +105,9 @@ fn of_profile(profile: Profile, secret: &Secret, word: &str, times: u64) -> u8
     );
     let mut plain = [0u8; MAX_PAGE];
     let plain = &mut plain[..profile.usable()];
+    if word == "many" {
+        return many(&codec, times);
+    }
     let mut stored = [0u8; MAX_PAGE];
     let stored = &mut stored[..profile.page_size as usize];
     if word == "open" {

@@ -6,8 +6,6 @@
 mod builder;
 mod bytes;
 mod cell;
-#[cfg(test)]
-mod tests;
 
 pub use builder::PageBuilder;
 pub use bytes::{four_bytes, lay};

@@ -5,3 +5,4 @@ pub mod FreeLast
 pub mod Effects
 pub mod CallerLemmas
 pub mod Options
+mod Newest

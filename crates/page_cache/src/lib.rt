@@ -10,7 +10,5 @@ mod frame;
 mod index;
 mod lending;
 mod table;
-#[cfg(test)]
-mod tests;
 
 pub use cache::{Cache, Full, OutOfMemory};

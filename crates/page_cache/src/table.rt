@@ -45,8 +45,25 @@ pub(crate) fn frame_of(index: &Index, table: &LruCache<u32, Option<Held>>, n: u3
     ensures value { result ≡ frame_at n table.now.entries }
     ensures valid { IsValid nat_eq table.now }
 {
+    match newest(table, n) {
+        Some(frame) => Some(frame),
+        None => index.find(n),
+    }
+}
+
+// The frame of the page that was used last, where that is page n: most look-ups are of this one, and no key is hashed.
+fn newest(table: &LruCache<u32, Option<Held>>, n: u32) -> Option<u32>
+    ensures value { IfSome result (λ frame. frame_at n table.now.entries ≡ Some frame) }
+    ensures valid { IsValid nat_eq table.now }
+{
     let _count = table.len();
-    index.find(n)
+    let Some((frame, held)) = table.peek_mru() else {
+        return None;
+    };
+    match held {
+        Some(held) => { if held.page == n { Some(*frame) } else { None } }
+        None => None,
+    }
 }
 
 /// The frame of page n, and what is known of the page.

@@ -1,3 +1,4 @@
 pub mod Parts
 pub mod PlainPages
 pub mod TagPlace
+pub mod PageFacts

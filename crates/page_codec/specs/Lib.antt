@@ -1,2 +1,3 @@
 pub mod MacKey
 pub mod Page
+pub mod Pages

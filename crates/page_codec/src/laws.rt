@@ -22,8 +22,8 @@ pub fn no_tag_law()
         → IsTrue (accepts file n stored) }
 {}
 
-// 32 bytes are a key.
-fn key_law(key: &[u8])
+/// 32 bytes are a key.
+pub(crate) fn key_law(key: &[u8])
     requires { length key.now ≡ 32 }
     ensures { IsKey key.now }
 {}

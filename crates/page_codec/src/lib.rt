@@ -6,8 +6,6 @@ mod laws;
 mod opening;
 mod sealing;
 mod tag;
-#[cfg(test)]
-mod tests;
 
 pub use codec::Codec;
 pub use laws::{no_tag_law, opened_law};

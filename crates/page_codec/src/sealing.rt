@@ -1,10 +1,12 @@
-// Sealing a plain page.
-ghost use Rattle.std.specs.Prelude.{◌≡◌, ◌≤◌, ◌++◌, length, take, drop, IsTrue};
+// Sealing a plain page, or several side by side.
+ghost use Rattle.std.specs.Prelude.{◌≡◌, ℕ, ◌*◌, ◌<◌, ◌≤◌, ◌++◌, All, length, slice_index, take, drop, IsTrue};
 ghost use Rattle.cipher_profile.specs.Profile.{usable};
 ghost use Rattle.page_codec.specs.Page.{accepts, cipher_start, magic, opened, sealed, tag, untagged, with_tag};
+ghost use Rattle.page_codec.specs.Pages.{IsTagged, page_at, sealed_page};
 
 use crate::codec::{Codec, IV_LEN, cipher_start};
-use cbc_mode::cbc_encrypt;
+use crate::laws::key_law;
+use cbc_mode::{cbc_encrypt, cbc_encrypt_records, cbc_round_trip_law};
 
 impl Codec {
     /// Seals a plain page as page n, numbered from 1. The drawn bytes fill the reserve, and must serve no other page.
@@ -20,6 +22,57 @@ impl Codec {
     {
         self.encipher(n, plain, draw, stored);
         self.put_tag(n, stored);
+    }
+
+    /// Seals at most 64 plain pages side by side as pages of these numbers, none of them page 1. Each stands where its stored page
+    /// will be, and its drawn bytes behind it, in the reserve; they must serve no other page. Few pages take as long as 64.
+    pub fn seal_pages(&self, numbers: &[u32], pages: &mut [u8])
+        requires numbers { All (λ n. 2 ≤ n) numbers.now }
+        requires most { length numbers.now ≤ 64 }
+        requires size { length pages.old ≡ self.now.profile.page_size * length numbers.now }
+        ensures size { length pages.new ≡ length pages.old }
+        ensures value { (i : ℕ) → i < length numbers.now → page_at self.now.profile.page_size pages.new i
+            ≡ sealed_page self.now (slice_index numbers.now i) (page_at self.now.profile.page_size pages.old i) }
+        ensures accepted { (i : ℕ) → i < length numbers.now
+            → IsTrue (accepts self.now (slice_index numbers.now i) (page_at self.now.profile.page_size pages.new i)) }
+        ensures opens_to { (i : ℕ) → i < length numbers.now
+            → opened self.now (slice_index numbers.now i) (page_at self.now.profile.page_size pages.new i)
+            ≡ take (usable self.now.profile) (page_at self.now.profile.page_size pages.old i) }
+    {
+        self.encipher_pages(numbers.len(), pages);
+        self.put_tags(numbers, pages);
+    }
+
+    // The pages without their tags, whatever their numbers from 2 on are.
+    fn encipher_pages(&self, count: usize, pages: &mut [u8])
+        requires most { count ≤ 64 }
+        requires size { length pages.old ≡ self.now.profile.page_size * count }
+        ensures size { length pages.new ≡ length pages.old }
+        ensures value { (i n : ℕ) → i < count → 2 ≤ n → page_at self.now.profile.page_size pages.new i
+            ≡ untagged self.now n (take (usable self.now.profile) (page_at self.now.profile.page_size pages.old i))
+            (drop (usable self.now.profile) (page_at self.now.profile.page_size pages.old i)) }
+        ensures opens_to { (i n : ℕ) → i < count → 2 ≤ n → opened self.now n (page_at self.now.profile.page_size pages.new i)
+            ≡ take (usable self.now.profile) (page_at self.now.profile.page_size pages.old i) }
+    {
+        key_law(&self.keys.enc);
+        cbc_round_trip_law();
+        let text = self.profile.usable() / 16;
+        let stride = self.profile.page_size as usize / 16;
+        cbc_encrypt_records(&self.cipher, text, stride, count, pages);
+    }
+
+    // Writes each page's tag over its place.
+    fn put_tags(&self, numbers: &[u32], pages: &mut [u8])
+        requires size { length pages.old ≡ self.now.profile.page_size * length numbers.now }
+        ensures size { length pages.new ≡ length pages.old }
+        ensures pages { (i : ℕ) → i < length numbers.now → IsTagged self.now (slice_index numbers.now i)
+            (page_at self.now.profile.page_size pages.old i) (page_at self.now.profile.page_size pages.new i) }
+    {
+        let _usable = self.profile.usable();
+        let size = self.profile.page_size as usize;
+        'pages: for i in 0..numbers.len() {
+            self.put_tag(numbers[i], &mut pages[size * i..size * i + size]);
+        }
     }
 
     // The page without its tag.

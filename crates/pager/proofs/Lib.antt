@@ -9,3 +9,4 @@ pub mod TxnLemmas
 pub mod BatchLemmas
 pub mod UnderWayLemmas
 pub mod UnreadLemmas
+mod Sealed

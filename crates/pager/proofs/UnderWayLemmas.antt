@@ -52,11 +52,11 @@ batches_less base marks safe waiting left beside now images fewer less has = rec
   recorded = has.recorded;
 }
 
-pub under_way_read : (start : Start) (keys : FileKeys) (marks : List Bool) (w : Writing) (now new : Files) (images fewer : Files → Type 0) (tells : Bool) (drawn : List ℕ)
-    → new ≡ now → ((c : Files) → fewer c → images c) → IsUnderWay start keys marks w now images tells drawn → IsUnderWay start keys marks w new fewer tells drawn
-under_way_read start keys marks w now new images fewer tells drawn same less way =
-    subst (λ (f : Files). IsUnderWay start keys marks w f fewer tells drawn) (sym same)
-    (record { batches = batches_less start.base marks _ _ _ _ now images fewer less way.batches; pages = way.pages })
+pub under_way_read : (start : Start) (keys : FileKeys) (recorded written : List Bool) (w : Writing) (now new : Files) (images fewer : Files → Type 0) (tells : Bool) (drawn : List ℕ)
+    → new ≡ now → ((c : Files) → fewer c → images c) → IsUnderWay start keys recorded written w now images tells drawn → IsUnderWay start keys recorded written w new fewer tells drawn
+under_way_read start keys recorded written w now new images fewer tells drawn same less way =
+    subst (λ (f : Files). IsUnderWay start keys recorded written w f fewer tells drawn) (sym same)
+    (record { batches = batches_less start.base recorded _ _ _ _ now images fewer less way.batches; pages = way.pages })
 
 -- Main has all pages
 pub batches_long : (base : Base) (marks : List Bool) (safe waiting : List ℕ → List Record) (left : Files → Type 0) (beside : Files → Files → Type 0) (now : Files) (images : Files → Type 0)
@@ -104,7 +104,7 @@ new_none start keys plain tells drawn main size same others = record {
 }
 
 pub under_way_first : (start : Start) (keys : FileKeys) (w : Writing) (now : Files) (images : Files → Type 0) (tells : Bool) (drawn : List ℕ) → keys.profile.page_size ≡ start.base.size → start.drawn ≡ drawn
-    → images now → IsBegun start.base images → IsUnderWay start keys (replicate start.base.pages false) w now images tells drawn
+    → images now → IsBegun start.base images → IsUnderWay start keys (replicate start.base.pages false) (replicate start.base.pages false) w now images tells drawn
 under_way_first start keys w now images tells drawn size same here begun = record {
   batches = batches_first start.base (replicate start.base.pages false) _ _ _ _ now images (count_none start.base.pages) begun;
   pages = new_none start keys _ tells drawn (main_of now) size same (λ n num.

@@ -4,6 +4,7 @@ use Rattle.std.specs.List.{AllByRecursion}
 use Rattle.std.specs.Str.{bytes_eq}
 use Rattle.cipher_profile.specs.Profile.{usable}
 use Rattle.page_codec.specs.Page.{FileKeys, accepts, magic, opened, sealed}
+use Rattle.page_codec.specs.Pages.{page_at}
 use Rattle.page_cache.specs.Pages.{Page, is_held}
 use Rattle.pager.specs.Held.{bytes_of_page}
 
@@ -59,6 +60,16 @@ pub record IsSealed (keys : FileKeys) (c : Changed) (draws : List ℕ) (k : ℕ)
   pub accepted : IsTrue (accepts keys (slice_index c.numbers k) stored)
   pub opens_to : opened keys (slice_index c.numbers k) stored ≡ bytes_of_page (slice_index c.numbers k) c.held
   pub plain : length (bytes_of_page (slice_index c.numbers k) c.held) ≡ usable keys.profile
+
+-- These bytes are the changed page at an index, with its draw behind it, where its stored page will be.
+pub record IsLaid (keys : FileKeys) (c : Changed) (draws : List ℕ) (k : ℕ) (page : List ℕ) : Type 0 where
+  pub is : page ≡ bytes_of_page (slice_index c.numbers k) c.held ++ draw_of keys.profile.reserve draws k
+  pub plain : length (bytes_of_page (slice_index c.numbers k) c.held) ≡ usable keys.profile
+
+-- These bytes begin with so many of the changed pages, one after another, each sealed with its draw.
+pub record AreSealed (keys : FileKeys) (c : Changed) (draws stored : List ℕ) (count : ℕ) : Type 0 where
+  pub size : keys.profile.page_size * count ≤ length stored
+  pub pages : (k : ℕ) → k < count → IsSealed keys c draws k (page_at keys.profile.page_size stored k)
 
 -- These are the bytes that were drawn in between, so many. An entropy that does not tell says only how many they are.
 pub record IsDrawn (tells : Bool) (before after : List ℕ) (count : ℕ) (draws : List ℕ) : Type 0 where

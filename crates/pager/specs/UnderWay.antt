@@ -1,5 +1,5 @@
 -- A transaction under way. A page that it changed stands in a frame; once it has left that, it stands in Main, sealed under the
--- codec for writing, and is marked.
+-- codec for writing, and is marked as written.
 use Rattle.std.specs.Prelude.{ℕ, ◌≡◌, ◌++◌, ◌*◌, ◌&&◌, ◌||◌, Bool, true, false, List, length, replicate, unwrap_or, IsTrue, if◌then◌else◌}
 use Rattle.cipher_profile.specs.Profile.{usable}
 use Rattle.db_format.specs.Pages.{Pages as Plain}
@@ -57,12 +57,13 @@ pub record HasNewPages (start : Start) (keys : FileKeys) (touched : ℕ → Bool
 abbrev pub IsReadyFor : List Bool → Writing → Type 0
 IsReadyFor marks w = (length marks ≡ w.initial) × IsReady marks (w ≡ at_first w.page_size w.initial) w.stage w.count w.total (IsSmall w)
 
--- The disk between two calls of a transaction, none of which answered a fault. In each image the old database alone is recovered;
--- the marked pages stand in Main as they were changed last, and the others as at the start.
-pub record IsUnderWay (start : Start) (keys : FileKeys) (marks : List Bool) (w : Writing) (now : Files) (images : Files → Type 0) (tells : Bool) (drawn : List ℕ) : Type 0 where
-  pub batches : HasBatches start.base marks (safe_records w) (waiting_records w) (λ n. IsLeft w n.journal)
+-- The disk between two calls of a transaction, none of which answered a fault. In each image the old database alone is recovered; the pages
+-- of `recorded` have a record behind an open gate, whether they were written or not; those of `written` stand in Main as they were changed
+-- last, and the others as at the start.
+pub record IsUnderWay (start : Start) (keys : FileKeys) (recorded written : List Bool) (w : Writing) (now : Files) (images : Files → Type 0) (tells : Bool) (drawn : List ℕ) : Type 0 where
+  pub batches : HasBatches start.base recorded (safe_records w) (waiting_records w) (λ n. IsLeft w n.journal)
       (λ n c. IsLeftBeside w n.journal c.journal) now images
-  pub pages : HasNewPages start keys (λ n. is_marked n marks) (λ n. opened keys n (page_stored keys (main_of now) n)) tells drawn (main_of now)
+  pub pages : HasNewPages start keys (λ n. is_marked n written) (λ n. opened keys n (page_stored keys (main_of now) n)) tells drawn (main_of now)
 
 -- Page n of these pages is refused so, while the counts of faults of the disk and of the entropy went from one number to the other.
 abbrev pub IsRefusedAs : Bool → Plain → ℕ → ℕ → ℕ → ℕ → ℕ → PageError → Type 0

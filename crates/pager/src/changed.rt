@@ -81,6 +81,14 @@ impl ChangedPages {
         self.numbers.len() == self.frames as usize
     }
 
+    /// The numbers of the changed pages.
+    pub(crate) fn numbers(&self) -> &[u32]
+        ensures value { result.now ≡ self.now.numbers }
+        ensures listing { IsListing self.now }
+    {
+        &self.numbers
+    }
+
     /// The number of the page at an index.
     pub(crate) fn number(&self, k: usize) -> u32
         requires { k < length self.now.numbers }

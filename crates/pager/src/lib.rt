@@ -31,8 +31,6 @@ mod sealing;
 mod side;
 mod source;
 mod spilled;
-#[cfg(test)]
-mod tests;
 mod txn;
 
 pub use changed::ChangedPages;

@@ -14,11 +14,11 @@ ghost use Rattle.pager.specs.Changed.{HasMagic, IsDrawn, IsSealed};
 ghost use Rattle.pager.specs.UnderWay.{HasNewPages, IsReadyFor, IsUnderWay, Start, is_touched, seen_pages};
 
 use crate::changed::ChangedPages;
-use crate::sealing::Sealing;
+use crate::sealing::{Sealing, seal_side_by_side};
 use edge_model::{Disk, Entropy, Failed};
 use page_codec::Codec;
 use rollback_journal::JournalWriter;
-use transaction::{CommitFault, PageMarks, end_batches, write_batch};
+use transaction::{CommitFault, PageMarks, end_batches, mark_pages, write_batch};
 
 // Draws as many bytes, at the start of the buffer. For none the entropy is not called.
 fn draw_for<E: Entropy>(entropy: &mut E, draws: &mut [u8], count: usize) -> Result<(), Failed>
@@ -35,29 +35,33 @@ fn draw_for<E: Entropy>(entropy: &mut E, draws: &mut [u8], count: usize) -> Resu
     entropy.fill(&mut draws[..count])
 }
 
-/// Writes the changed pages as a batch, each sealed with bytes of its own that are drawn here. The buffers are for the draws and for
-/// a stored page.
+/// Writes the changed pages as a batch, each sealed with bytes of its own that are drawn here. The buffers are for the draws, for
+/// the pages that are sealed side by side, and for a stored page.
 pub(crate) fn write_frames<D: Disk, E: Entropy>(
     disk: &mut D,
     entropy: &mut E,
     writer: &mut JournalWriter,
     recorded: &mut PageMarks,
+    written: &mut PageMarks,
     codec: &Codec,
     changed: &ChangedPages,
     draws: &mut [u8],
+    room: &mut [u8],
     buffer: &mut [u8],
 ) -> Result<(), CommitFault>
     ghost start: { Start }
     requires sizes { (codec.now.profile.page_size ≡ start.base.size) × (changed.now.pages ≡ start.base.pages) × (length buffer.old ≡ start.base.size) }
     requires journal { (writer.old.page_size ≡ start.base.size) × (writer.old.initial ≡ start.base.pages) }
     requires some { 0 < start.base.pages }
+    requires marks { length written.old ≡ start.base.pages }
     requires plain { (changed.now.usable ≡ usable codec.now.profile) × HasMagic changed.now.held }
     requires room { length changed.now.numbers * codec.now.profile.reserve ≤ length draws.old }
     requires ready { IsReadyFor recorded.old writer.old }
-    requires under_way { IsTrue D.tells → IsUnderWay start codec.now recorded.old writer.old (D.reads disk.old) (D.images disk.old) E.tells (E.drawn entropy.old) }
+    requires under_way { IsTrue D.tells → IsUnderWay start codec.now recorded.old written.old writer.old (D.reads disk.old) (D.images disk.old) E.tells (E.drawn entropy.old) }
     ensures ready { OnOk result (IsReadyFor recorded.new writer.new) }
-    ensures under_way { OnOk result (IsTrue D.tells → IsUnderWay start codec.now recorded.new writer.new (D.reads disk.new) (D.images disk.new) E.tells (E.drawn entropy.new)) }
-    ensures marks { OnOk result (HasMarked changed.now.numbers (length changed.now.numbers) recorded.old recorded.new) }
+    ensures under_way { OnOk result (IsTrue D.tells → IsUnderWay start codec.now recorded.new written.new writer.new (D.reads disk.new) (D.images disk.new) E.tells (E.drawn entropy.new)) }
+    ensures marks { OnOk result (HasMarked changed.now.numbers (length changed.now.numbers) written.old written.new) }
+    ensures as_many { length written.new ≡ length written.old }
     ensures written { OnOk result (IsTrue D.tells → (drawn : List ℕ) × IsWritten start.base (main_of (D.reads disk.old)) changed.now.numbers
         (IsSealed codec.now changed.now drawn) (length changed.now.numbers) (main_of (D.reads disk.new))) }
     ensures journal { (writer.new.page_size ≡ start.base.size) × (writer.new.initial ≡ start.base.pages) }
@@ -74,24 +78,31 @@ pub(crate) fn write_frames<D: Disk, E: Entropy>(
         Ok(()) => {}
         Err(_) => return Err(CommitFault::EntropyFault),
     }
+    let sealed = seal_side_by_side(codec, changed, &draws[..count], room);
     let mut sealing = Sealing {
         codec,
         changed,
         draws: &draws[..count],
+        stored: room,
+        sealed,
     };
     write_batch(disk, writer, recorded, &mut sealing, buffer)?;
+    mark_pages(written, &sealing);
     Ok(())
 }
 
-/// Writes the changed pages as the last batch and commits. Where no page was changed at all, no call is made.
+/// Writes the changed pages as the last batch and commits. Where no page was changed at all, no call is made. The clauses speak of the
+/// pages that were written before; no code asks for them.
 pub(crate) fn end_frames<D: Disk, E: Entropy>(
     disk: &mut D,
     entropy: &mut E,
     writer: &mut JournalWriter,
     recorded: &mut PageMarks,
+    written: &PageMarks,
     codec: &Codec,
     changed: &ChangedPages,
     draws: &mut [u8],
+    room: &mut [u8],
     buffer: &mut [u8],
 ) -> Result<(), CommitFault>
     ghost start: { Start }
@@ -101,15 +112,15 @@ pub(crate) fn end_frames<D: Disk, E: Entropy>(
     requires room { length changed.now.numbers * codec.now.profile.reserve ≤ length draws.old }
     requires base_is { IsBase start.base }
     requires ready { IsReadyFor recorded.old writer.old }
-    requires under_way { IsTrue D.tells → IsUnderWay start codec.now recorded.old writer.old (D.reads disk.old) (D.images disk.old) E.tells (E.drawn entropy.old) }
-    ensures changed { OnOk result (IsTrue D.tells → (read : FileKeys) → codec.now.profile.page_size ≡ read.profile.page_size → HasNewPages start codec.now (is_touched recorded.old changed.now.held)
-        (λ n. (seen_pages read codec.now (main_of (D.reads disk.old)) start.base.pages recorded.old changed.now.held).page n)
+    requires under_way { IsTrue D.tells → IsUnderWay start codec.now recorded.old written.now writer.old (D.reads disk.old) (D.images disk.old) E.tells (E.drawn entropy.old) }
+    ensures changed { OnOk result (IsTrue D.tells → (read : FileKeys) → codec.now.profile.page_size ≡ read.profile.page_size → HasNewPages start codec.now (is_touched written.now changed.now.held)
+        (λ n. (seen_pages read codec.now (main_of (D.reads disk.old)) start.base.pages written.now changed.now.held).page n)
         E.tells (E.drawn entropy.new) (main_of (D.reads disk.new))) }
     ensures new { OnOk result (IsTrue D.tells → Each (D.images disk.new) (IsCommitted start.base (main_of (D.reads disk.new)))) }
     ensures one_new { OnOk result (IsTrue D.tells → LeavesOnly D.moment D.since disk.old disk.new
         (HoldsEither start.base (stored_pages start.base.size start.base.pages (main_of (D.reads disk.new))))) }
-    ensures any_moment { IsTrue D.tells → (read : FileKeys) → codec.now.profile.page_size ≡ read.profile.page_size → LeavesChanged D.moment D.since start.base (HasNewPages start codec.now (is_touched recorded.old changed.now.held)
-        (λ n. (seen_pages read codec.now (main_of (D.reads disk.old)) start.base.pages recorded.old changed.now.held).page n)
+    ensures any_moment { IsTrue D.tells → (read : FileKeys) → codec.now.profile.page_size ≡ read.profile.page_size → LeavesChanged D.moment D.since start.base (HasNewPages start codec.now (is_touched written.now changed.now.held)
+        (λ n. (seen_pages read codec.now (main_of (D.reads disk.old)) start.base.pages written.now changed.now.held).page n)
         E.tells (E.drawn entropy.new)) disk.old disk.new }
     ensures only_old { result ≡ Err CommitFault.EntropyFault → IsTrue D.tells → LeavesOnly D.moment D.since disk.old disk.new (HoldsOld start.base) }
     ensures fresh { IsTrue D.tells → LeavesOnly D.moment D.since disk.old disk.new (From SameFresh (D.images disk.old)) }
@@ -124,10 +135,13 @@ pub(crate) fn end_frames<D: Disk, E: Entropy>(
         Ok(()) => {}
         Err(_) => return Err(CommitFault::EntropyFault),
     }
+    let sealed = seal_side_by_side(codec, changed, &draws[..count], room);
     let mut sealing = Sealing {
         codec,
         changed,
         draws: &draws[..count],
+        stored: room,
+        sealed,
     };
     end_batches(disk, writer, recorded, &mut sealing, buffer)?;
     Ok(())

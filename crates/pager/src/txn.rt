@@ -1,12 +1,14 @@
 // A transaction of any size: pages are changed in frames. Where more pages are changed than there are frames, the changed pages are
 // written before the commit, behind records of their old bytes.
 ghost use Rattle.std.specs.Prelude.{◌≡◌, ◌≢◌, ◌≤◌, ◌<◌, ◌+◌, ◌-◌, ◌*◌, ◌==◌, ◌⊎◌, [], ℕ, length, take, vec_len, true, false, Some, None, Err, IsOk, IfOk, IfErr, IsErrAnd, OnOk, IsTrue, if◌then◌else◌, replicate};
+ghost use Rattle.std.specs.List.{range_with_len};
 ghost use Rattle.edge_model.specs.Causes.{HasCause, Rose};
 ghost use Rattle.edge_model.specs.Images.{Each, From, LeavesOnly};
 ghost use Rattle.cipher_profile.specs.Profile.{usable};
 ghost use Rattle.page_cache.specs.Pages.{bytes_at, is_held};
 ghost use Rattle.page_codec.specs.Page.{magic};
 ghost use Rattle.rollback_journal.specs.Playing.{main_of};
+ghost use Rattle.transaction.specs.Batches.{HasMarked};
 ghost use Rattle.transaction.specs.Commit.{IsCommitted, LeavesChanged};
 ghost use Rattle.transaction.specs.Database.{HoldsEither, HoldsOld, stored_pages};
 ghost use Rattle.transaction.specs.Facts.{IsBase, IsBegun, SameFresh};
@@ -24,7 +26,7 @@ use edge_model::{Disk, Entropy, Failed};
 use page_codec::Codec;
 use rollback_journal::JournalWriter;
 use std::alloc::Global;
-use transaction::{CommitFault, PageMarks, undo_batches};
+use transaction::{CommitFault, PageMarks, guard_ahead, undo_batches};
 
 /// Why a transaction was not begun.
 #[derive(Clone, Copy, Debug, PartialEq, Eq)]
@@ -45,10 +47,14 @@ pub struct Txn<'d, D: Disk, E: Entropy> {
     pub(crate) write: Codec,
     pub(crate) count: u32,
     pub(crate) changed: ChangedPages,
-    // the pages that were written, and so have a record
+    // the pages that have a record behind an open gate
     pub(crate) recorded: PageMarks,
+    // the pages that were written, each after its record
+    pub(crate) written: PageMarks,
     pub(crate) writer: JournalWriter,
     draws: Vec<u8>,
+    // as many stored pages as there are frames
+    batch: Vec<u8>,
     // a page as it is stored
     stored: Vec<u8>,
     // the page that was read last
@@ -64,6 +70,7 @@ pub struct Txn<'d, D: Disk, E: Entropy> {
     ghost begins: { HasMagic changed.held },
     ghost long: { 16 ≤ usable write.profile },
     ghost journal: { (writer.page_size ≡ write.profile.page_size) × (writer.initial ≡ count) },
+    ghost marks: { length written ≡ count },
 }
 
 /// What page 1 begins with (SQLite file format, section 1.3.1).
@@ -85,6 +92,14 @@ impl<'d, D: Disk, E: Entropy> Txn<'d, D, E> {
         self.count
     }
 
+    /// The length of a stored page, in bytes.
+    pub fn page_size(&self) -> u32
+        ensures value { result ≡ self.now.write.profile.page_size }
+        ensures range { (512 ≤ result) × (result ≤ 65536) }
+    {
+        self.write.profile().page_size
+    }
+
     /// The length of a plain page, in bytes.
     pub fn usable(&self) -> usize
         ensures { result ≡ usable self.now.write.profile }
@@ -97,12 +112,12 @@ impl<'d, D: Disk, E: Entropy> Txn<'d, D, E> {
         ghost start: { Start }
         requires sizes { (self.old.write.profile.page_size ≡ start.base.size) × (self.old.count ≡ start.base.pages) }
         requires ready { IsReadyFor self.old.recorded self.old.writer }
-        requires under_way { IsTrue D.tells → IsUnderWay start self.old.write self.old.recorded self.old.writer (D.reads self.old.disk.now)
+        requires under_way { IsTrue D.tells → IsUnderWay start self.old.write self.old.recorded self.old.written self.old.writer (D.reads self.old.disk.now)
             (D.images self.old.disk.now) E.tells (E.drawn self.old.entropy.now) }
-        ensures told { IfOk result (λ page. IsTrue D.tells → page.now ≡ (seen_pages self.old.read self.old.write (main_of (D.reads self.old.disk.now)) self.old.count self.old.recorded self.old.changed.held).page n) }
+        ensures told { IfOk result (λ page. IsTrue D.tells → page.now ≡ (seen_pages self.old.read self.old.write (main_of (D.reads self.old.disk.now)) self.old.count self.old.written self.old.changed.held).page n) }
         ensures range { IfOk result (λ page. is_number self.old.count n ≡ true) }
         ensures out_of_range { is_number self.old.count n ≡ false → result ≡ Err PageError.OutOfRange }
-        ensures refused { IfErr result (MayRefuseAs D.tells (seen_pages self.old.read self.old.write (main_of (D.reads self.old.disk.now)) self.old.count self.old.recorded self.old.changed.held) n) }
+        ensures refused { IfErr result (MayRefuseAs D.tells (seen_pages self.old.read self.old.write (main_of (D.reads self.old.disk.now)) self.old.count self.old.written self.old.changed.held) n) }
     {
         self.load(n)?;
         Ok(self.loaded())
@@ -114,19 +129,19 @@ impl<'d, D: Disk, E: Entropy> Txn<'d, D, E> {
         ghost start: { Start }
         requires sizes { (self.old.write.profile.page_size ≡ start.base.size) × (self.old.count ≡ start.base.pages) }
         requires ready { IsReadyFor self.old.recorded self.old.writer }
-        requires under_way { IsTrue D.tells → IsUnderWay start self.old.write self.old.recorded self.old.writer (D.reads self.old.disk.now)
+        requires under_way { IsTrue D.tells → IsUnderWay start self.old.write self.old.recorded self.old.written self.old.writer (D.reads self.old.disk.now)
             (D.images self.old.disk.now) E.tells (E.drawn self.old.entropy.now) }
-        ensures told { OnOk result (IsTrue D.tells → lent_out self.new.last self.new.changed.held self.new.plain.items ≡ (seen_pages self.old.read self.old.write (main_of (D.reads self.old.disk.now)) self.old.count self.old.recorded self.old.changed.held).page n) }
+        ensures told { OnOk result (IsTrue D.tells → lent_out self.new.last self.new.changed.held self.new.plain.items ≡ (seen_pages self.old.read self.old.write (main_of (D.reads self.old.disk.now)) self.old.count self.old.written self.old.changed.held).page n) }
         ensures range { OnOk result (is_number self.old.count n ≡ true) }
         ensures out_of_range { is_number self.old.count n ≡ false → result ≡ Err PageError.OutOfRange }
-        ensures refused { IfErr result (IsRefusedAs D.tells (seen_pages self.old.read self.old.write (main_of (D.reads self.old.disk.now)) self.old.count self.old.recorded self.old.changed.held)
+        ensures refused { IfErr result (IsRefusedAs D.tells (seen_pages self.old.read self.old.write (main_of (D.reads self.old.disk.now)) self.old.count self.old.written self.old.changed.held)
             n (D.faults self.old.disk.now) (D.faults self.new.disk.now) (E.faults self.old.entropy.now) (E.faults self.new.entropy.now)) }
         // what stays
-        ensures under_way { IsTrue D.tells → IsUnderWay start self.new.write self.new.recorded self.new.writer (D.reads self.new.disk.now)
+        ensures under_way { IsTrue D.tells → IsUnderWay start self.new.write self.new.recorded self.new.written self.new.writer (D.reads self.new.disk.now)
             (D.images self.new.disk.now) E.tells (E.drawn self.new.entropy.now) }
         ensures disk { DiskRead D.tells D.reads D.images D.moment D.since D.faults self.old.disk self.new.disk }
         ensures entropy { Untouched self.old.entropy self.new.entropy }
-        ensures kept { (self.new.changed ≡ self.old.changed) × (self.new.recorded ≡ self.old.recorded) × (self.new.writer ≡ self.old.writer) }
+        ensures kept { (self.new.changed ≡ self.old.changed) × (self.new.recorded ≡ self.old.recorded) × (self.new.writer ≡ self.old.writer) × (self.new.written ≡ self.old.written) }
         ensures file { (self.new.read ≡ self.old.read) × (self.new.write ≡ self.old.write) × (self.new.count ≡ self.old.count) }
     {
         if n == 0 || n > self.count {
@@ -157,22 +172,22 @@ impl<'d, D: Disk, E: Entropy> Txn<'d, D, E> {
         requires other { n ≢ 1 }
         requires sizes { (self.old.write.profile.page_size ≡ start.base.size) × (self.old.count ≡ start.base.pages) }
         requires ready { IsReadyFor self.old.recorded self.old.writer }
-        requires under_way { IsTrue D.tells → IsUnderWay start self.old.write self.old.recorded self.old.writer (D.reads self.old.disk.now)
+        requires under_way { IsTrue D.tells → IsUnderWay start self.old.write self.old.recorded self.old.written self.old.writer (D.reads self.old.disk.now)
             (D.images self.old.disk.now) E.tells (E.drawn self.old.entropy.now) }
-        ensures zeros { OnOk result (IsTrue D.tells → (m : ℕ) → (seen_pages self.new.read self.new.write (main_of (D.reads self.new.disk.now)) self.new.count self.new.recorded self.new.changed.held).page m
-            ≡ (if m == n then replicate (usable self.old.write.profile) 0 else (seen_pages self.old.read self.old.write (main_of (D.reads self.old.disk.now)) self.old.count self.old.recorded self.old.changed.held).page m)) }
-        ensures touched { OnOk result ((m : ℕ) → is_number self.old.count m ≡ true → is_touched self.new.recorded self.new.changed.held m ≡ (if m == n then true else is_touched self.old.recorded self.old.changed.held m)) }
+        ensures zeros { OnOk result (IsTrue D.tells → (m : ℕ) → (seen_pages self.new.read self.new.write (main_of (D.reads self.new.disk.now)) self.new.count self.new.written self.new.changed.held).page m
+            ≡ (if m == n then replicate (usable self.old.write.profile) 0 else (seen_pages self.old.read self.old.write (main_of (D.reads self.old.disk.now)) self.old.count self.old.written self.old.changed.held).page m)) }
+        ensures touched { OnOk result ((m : ℕ) → is_number self.old.count m ≡ true → is_touched self.new.written self.new.changed.held m ≡ (if m == n then true else is_touched self.old.written self.old.changed.held m)) }
         ensures out_of_range { is_number self.old.count n ≡ false → result ≡ Err PageError.OutOfRange }
-        ensures refused { IfErr result (IsRefusedAs D.tells (seen_pages self.old.read self.old.write (main_of (D.reads self.old.disk.now)) self.old.count self.old.recorded self.old.changed.held)
+        ensures refused { IfErr result (IsRefusedAs D.tells (seen_pages self.old.read self.old.write (main_of (D.reads self.old.disk.now)) self.old.count self.old.written self.old.changed.held)
             n (D.faults self.old.disk.now) (D.faults self.new.disk.now) (E.faults self.old.entropy.now) (E.faults self.new.entropy.now)) }
         ensures unopened { IfErr result (λ e. (page : ℕ) → e ≢ PageError.TagRefused page) }
         ensures ready { OnOk result (IsReadyFor self.new.recorded self.new.writer) }
-        ensures under_way { OnOk result (IsTrue D.tells → IsUnderWay start self.new.write self.new.recorded self.new.writer (D.reads self.new.disk.now)
+        ensures under_way { OnOk result (IsTrue D.tells → IsUnderWay start self.new.write self.new.recorded self.new.written self.new.writer (D.reads self.new.disk.now)
             (D.images self.new.disk.now) E.tells (E.drawn self.new.entropy.now)) }
         ensures still { IfErr result (λ e. is_failure e ≡ false → (self.new.changed ≡ self.old.changed) × (self.new.recorded ≡ self.old.recorded)
-            × (self.new.writer ≡ self.old.writer) × DiskRead D.tells D.reads D.images D.moment D.since D.faults self.old.disk self.new.disk × Untouched self.old.entropy self.new.entropy) }
+            × (self.new.writer ≡ self.old.writer) × DiskRead D.tells D.reads D.images D.moment D.since D.faults self.old.disk self.new.disk × Untouched self.old.entropy self.new.entropy × (self.new.written ≡ self.old.written)) }
         ensures unwritten { length self.old.changed.numbers < self.old.changed.frames → (self.new.recorded ≡ self.old.recorded) × (self.new.writer ≡ self.old.writer)
-            × DiskRead D.tells D.reads D.images D.moment D.since D.faults self.old.disk self.new.disk × Untouched self.old.entropy self.new.entropy }
+            × DiskRead D.tells D.reads D.images D.moment D.since D.faults self.old.disk self.new.disk × Untouched self.old.entropy self.new.entropy × (self.new.written ≡ self.old.written) }
         ensures frames { self.new.changed.frames ≡ self.old.changed.frames }
         ensures any_moment { IsTrue D.tells → LeavesOnly D.moment D.since self.old.disk.now self.new.disk.now (HoldsOld start.base) }
         ensures fresh { IsTrue D.tells → LeavesOnly D.moment D.since self.old.disk.now self.new.disk.now (From SameFresh (D.images self.old.disk.now)) }
@@ -200,21 +215,21 @@ impl<'d, D: Disk, E: Entropy> Txn<'d, D, E> {
         requires first { n ≡ 1 → 16 ≤ at }
         requires sizes { (self.old.write.profile.page_size ≡ start.base.size) × (self.old.count ≡ start.base.pages) }
         requires ready { IsReadyFor self.old.recorded self.old.writer }
-        requires under_way { IsTrue D.tells → IsUnderWay start self.old.write self.old.recorded self.old.writer (D.reads self.old.disk.now)
+        requires under_way { IsTrue D.tells → IsUnderWay start self.old.write self.old.recorded self.old.written self.old.writer (D.reads self.old.disk.now)
             (D.images self.old.disk.now) E.tells (E.drawn self.old.entropy.now) }
-        ensures changed { OnOk result (IsTrue D.tells → (m : ℕ) → (seen_pages self.new.read self.new.write (main_of (D.reads self.new.disk.now)) self.new.count self.new.recorded self.new.changed.held).page m
-            ≡ (if m == n then with_bytes at bytes.now ((seen_pages self.old.read self.old.write (main_of (D.reads self.old.disk.now)) self.old.count self.old.recorded self.old.changed.held).page n) else (seen_pages self.old.read self.old.write (main_of (D.reads self.old.disk.now)) self.old.count self.old.recorded self.old.changed.held).page m)) }
-        ensures touched { OnOk result ((m : ℕ) → is_number self.old.count m ≡ true → is_touched self.new.recorded self.new.changed.held m ≡ (if m == n then true else is_touched self.old.recorded self.old.changed.held m)) }
+        ensures changed { OnOk result (IsTrue D.tells → (m : ℕ) → (seen_pages self.new.read self.new.write (main_of (D.reads self.new.disk.now)) self.new.count self.new.written self.new.changed.held).page m
+            ≡ (if m == n then with_bytes at bytes.now ((seen_pages self.old.read self.old.write (main_of (D.reads self.old.disk.now)) self.old.count self.old.written self.old.changed.held).page n) else (seen_pages self.old.read self.old.write (main_of (D.reads self.old.disk.now)) self.old.count self.old.written self.old.changed.held).page m)) }
+        ensures touched { OnOk result ((m : ℕ) → is_number self.old.count m ≡ true → is_touched self.new.written self.new.changed.held m ≡ (if m == n then true else is_touched self.old.written self.old.changed.held m)) }
         ensures out_of_range { is_number self.old.count n ≡ false → result ≡ Err PageError.OutOfRange }
-        ensures refused { IfErr result (IsRefusedAs D.tells (seen_pages self.old.read self.old.write (main_of (D.reads self.old.disk.now)) self.old.count self.old.recorded self.old.changed.held)
+        ensures refused { IfErr result (IsRefusedAs D.tells (seen_pages self.old.read self.old.write (main_of (D.reads self.old.disk.now)) self.old.count self.old.written self.old.changed.held)
             n (D.faults self.old.disk.now) (D.faults self.new.disk.now) (E.faults self.old.entropy.now) (E.faults self.new.entropy.now)) }
         ensures ready { OnOk result (IsReadyFor self.new.recorded self.new.writer) }
-        ensures under_way { OnOk result (IsTrue D.tells → IsUnderWay start self.new.write self.new.recorded self.new.writer (D.reads self.new.disk.now)
+        ensures under_way { OnOk result (IsTrue D.tells → IsUnderWay start self.new.write self.new.recorded self.new.written self.new.writer (D.reads self.new.disk.now)
             (D.images self.new.disk.now) E.tells (E.drawn self.new.entropy.now)) }
         ensures still { IfErr result (λ e. is_failure e ≡ false → (self.new.changed ≡ self.old.changed) × (self.new.recorded ≡ self.old.recorded)
-            × (self.new.writer ≡ self.old.writer) × DiskRead D.tells D.reads D.images D.moment D.since D.faults self.old.disk self.new.disk × Untouched self.old.entropy self.new.entropy) }
+            × (self.new.writer ≡ self.old.writer) × DiskRead D.tells D.reads D.images D.moment D.since D.faults self.old.disk self.new.disk × Untouched self.old.entropy self.new.entropy × (self.new.written ≡ self.old.written)) }
         ensures unwritten { length self.old.changed.numbers < self.old.changed.frames → (self.new.recorded ≡ self.old.recorded) × (self.new.writer ≡ self.old.writer)
-            × DiskRead D.tells D.reads D.images D.moment D.since D.faults self.old.disk self.new.disk × Untouched self.old.entropy self.new.entropy }
+            × DiskRead D.tells D.reads D.images D.moment D.since D.faults self.old.disk self.new.disk × Untouched self.old.entropy self.new.entropy × (self.new.written ≡ self.old.written) }
         ensures frames { self.new.changed.frames ≡ self.old.changed.frames }
         ensures any_moment { IsTrue D.tells → LeavesOnly D.moment D.since self.old.disk.now self.new.disk.now (HoldsOld start.base) }
         ensures fresh { IsTrue D.tells → LeavesOnly D.moment D.since self.old.disk.now self.new.disk.now (From SameFresh (D.images self.old.disk.now)) }
@@ -234,6 +249,40 @@ impl<'d, D: Disk, E: Entropy> Txn<'d, D, E> {
         Ok(())
     }
 
+    /// Puts the old bytes of so many pages from one on behind a gate of the journal, one gate for all that have none there. They may be
+    /// changed later, and are then written without waiting for the journal again. What the transaction sees stays, and so does Main.
+    pub fn keep_ahead(&mut self, first: u32, count: u32) -> Result<(), Failed>
+        ghost start: { Start }
+        requires pages { (1 ≤ first) × (first + count ≤ self.old.count + 1) }
+        requires sizes { (self.old.write.profile.page_size ≡ start.base.size) × (self.old.count ≡ start.base.pages) }
+        requires ready { IsReadyFor self.old.recorded self.old.writer }
+        requires under_way { IsTrue D.tells → IsUnderWay start self.old.write self.old.recorded self.old.written self.old.writer (D.reads self.old.disk.now)
+            (D.images self.old.disk.now) E.tells (E.drawn self.old.entropy.now) }
+        ensures recorded { OnOk result (HasMarked (range_with_len first count) count self.old.recorded self.new.recorded) }
+        ensures seen { OnOk result (IsTrue D.tells → (m : ℕ) → (seen_pages self.new.read self.new.write (main_of (D.reads self.new.disk.now)) self.new.count self.new.written self.new.changed.held).page m ≡ (seen_pages self.old.read self.old.write (main_of (D.reads self.old.disk.now)) self.old.count self.old.written self.old.changed.held).page m) }
+        ensures ready { OnOk result (IsReadyFor self.new.recorded self.new.writer) }
+        ensures under_way { OnOk result (IsTrue D.tells → IsUnderWay start self.new.write self.new.recorded self.new.written self.new.writer (D.reads self.new.disk.now)
+            (D.images self.new.disk.now) E.tells (E.drawn self.new.entropy.now)) }
+        ensures kept { (self.new.changed ≡ self.old.changed) × (self.new.written ≡ self.old.written) }
+        ensures any_moment { IsTrue D.tells → LeavesOnly D.moment D.since self.old.disk.now self.new.disk.now (HoldsOld start.base) }
+        ensures fresh { IsTrue D.tells → LeavesOnly D.moment D.since self.old.disk.now self.new.disk.now (From SameFresh (D.images self.old.disk.now)) }
+        ensures disk { self.new.disk.ghost_name ≡ self.old.disk.ghost_name }
+        ensures entropy { Untouched self.old.entropy self.new.entropy }
+        ensures cause { HasCause (D.faults self.old.disk.now) (D.faults self.new.disk.now) result }
+        ensures file { (self.new.read ≡ self.old.read) × (self.new.write ≡ self.old.write) × (self.new.count ≡ self.old.count) }
+    {
+        let _listed = self.write.profile();
+        let _pages = self.pages();
+        guard_ahead(
+            &mut *self.disk,
+            &mut self.writer,
+            &mut self.recorded,
+            first,
+            count,
+            &mut self.stored,
+        )
+    }
+
     // Reads page n, which no frame holds, out of Main, under the codec that it stands under.
     fn read_in(&mut self, n: u32) -> Result<(), PageError>
         ghost start: { Start }
@@ -241,19 +290,19 @@ impl<'d, D: Disk, E: Entropy> Txn<'d, D, E> {
         requires free { is_held n self.old.changed.held ≡ false }
         requires sizes { (self.old.write.profile.page_size ≡ start.base.size) × (self.old.count ≡ start.base.pages) }
         requires ready { IsReadyFor self.old.recorded self.old.writer }
-        requires under_way { IsTrue D.tells → IsUnderWay start self.old.write self.old.recorded self.old.writer (D.reads self.old.disk.now)
+        requires under_way { IsTrue D.tells → IsUnderWay start self.old.write self.old.recorded self.old.written self.old.writer (D.reads self.old.disk.now)
             (D.images self.old.disk.now) E.tells (E.drawn self.old.entropy.now) }
-        ensures told { OnOk result (IsTrue D.tells → self.new.plain.items ≡ (seen_pages self.old.read self.old.write (main_of (D.reads self.old.disk.now)) self.old.count self.old.recorded self.old.changed.held).page n) }
-        ensures refused { IfErr result (IsRefusedAs D.tells (seen_pages self.old.read self.old.write (main_of (D.reads self.old.disk.now)) self.old.count self.old.recorded self.old.changed.held)
+        ensures told { OnOk result (IsTrue D.tells → self.new.plain.items ≡ (seen_pages self.old.read self.old.write (main_of (D.reads self.old.disk.now)) self.old.count self.old.written self.old.changed.held).page n) }
+        ensures refused { IfErr result (IsRefusedAs D.tells (seen_pages self.old.read self.old.write (main_of (D.reads self.old.disk.now)) self.old.count self.old.written self.old.changed.held)
             n (D.faults self.old.disk.now) (D.faults self.new.disk.now) (E.faults self.old.entropy.now) (E.faults self.new.entropy.now)) }
-        ensures under_way { IsTrue D.tells → IsUnderWay start self.new.write self.new.recorded self.new.writer (D.reads self.new.disk.now)
+        ensures under_way { IsTrue D.tells → IsUnderWay start self.new.write self.new.recorded self.new.written self.new.writer (D.reads self.new.disk.now)
             (D.images self.new.disk.now) E.tells (E.drawn self.new.entropy.now) }
         ensures disk { DiskRead D.tells D.reads D.images D.moment D.since D.faults self.old.disk self.new.disk }
         ensures entropy { Untouched self.old.entropy self.new.entropy }
-        ensures kept { (self.new.changed ≡ self.old.changed) × (self.new.recorded ≡ self.old.recorded) × (self.new.writer ≡ self.old.writer) }
+        ensures kept { (self.new.changed ≡ self.old.changed) × (self.new.recorded ≡ self.old.recorded) × (self.new.writer ≡ self.old.writer) × (self.new.written ≡ self.old.written) }
         ensures file { (self.new.read ≡ self.old.read) × (self.new.write ≡ self.old.write) × (self.new.count ≡ self.old.count) }
     {
-        if self.recorded.has(n) {
+        if self.written.has(n) {
             return read_plain(
                 &mut *self.disk,
                 &self.write,
@@ -278,20 +327,20 @@ impl<'d, D: Disk, E: Entropy> Txn<'d, D, E> {
         requires free { is_held n self.old.changed.held ≡ false }
         requires sizes { (self.old.write.profile.page_size ≡ start.base.size) × (self.old.count ≡ start.base.pages) }
         requires ready { IsReadyFor self.old.recorded self.old.writer }
-        requires under_way { IsTrue D.tells → IsUnderWay start self.old.write self.old.recorded self.old.writer (D.reads self.old.disk.now)
+        requires under_way { IsTrue D.tells → IsUnderWay start self.old.write self.old.recorded self.old.written self.old.writer (D.reads self.old.disk.now)
             (D.images self.old.disk.now) E.tells (E.drawn self.old.entropy.now) }
-        ensures seen { OnOk result (IsTrue D.tells → (m : ℕ) → (seen_pages self.new.read self.new.write (main_of (D.reads self.new.disk.now)) self.new.count self.new.recorded self.new.changed.held).page m ≡ (seen_pages self.old.read self.old.write (main_of (D.reads self.old.disk.now)) self.old.count self.old.recorded self.old.changed.held).page m) }
+        ensures seen { OnOk result (IsTrue D.tells → (m : ℕ) → (seen_pages self.new.read self.new.write (main_of (D.reads self.new.disk.now)) self.new.count self.new.written self.new.changed.held).page m ≡ (seen_pages self.old.read self.old.write (main_of (D.reads self.old.disk.now)) self.old.count self.old.written self.old.changed.held).page m) }
         ensures held { OnOk result (is_held n self.new.changed.held ≡ true) }
-        ensures touched { OnOk result ((m : ℕ) → is_number self.old.count m ≡ true → is_touched self.new.recorded self.new.changed.held m ≡ (if m == n then true else is_touched self.old.recorded self.old.changed.held m)) }
-        ensures refused { IfErr result (IsRefusedAs D.tells (seen_pages self.old.read self.old.write (main_of (D.reads self.old.disk.now)) self.old.count self.old.recorded self.old.changed.held)
+        ensures touched { OnOk result ((m : ℕ) → is_number self.old.count m ≡ true → is_touched self.new.written self.new.changed.held m ≡ (if m == n then true else is_touched self.old.written self.old.changed.held m)) }
+        ensures refused { IfErr result (IsRefusedAs D.tells (seen_pages self.old.read self.old.write (main_of (D.reads self.old.disk.now)) self.old.count self.old.written self.old.changed.held)
             n (D.faults self.old.disk.now) (D.faults self.new.disk.now) (E.faults self.old.entropy.now) (E.faults self.new.entropy.now)) }
         ensures ready { OnOk result (IsReadyFor self.new.recorded self.new.writer) }
-        ensures under_way { OnOk result (IsTrue D.tells → IsUnderWay start self.new.write self.new.recorded self.new.writer (D.reads self.new.disk.now)
+        ensures under_way { OnOk result (IsTrue D.tells → IsUnderWay start self.new.write self.new.recorded self.new.written self.new.writer (D.reads self.new.disk.now)
             (D.images self.new.disk.now) E.tells (E.drawn self.new.entropy.now)) }
         ensures still { IfErr result (λ e. is_failure e ≡ false → (self.new.changed ≡ self.old.changed) × (self.new.recorded ≡ self.old.recorded)
-            × (self.new.writer ≡ self.old.writer) × DiskRead D.tells D.reads D.images D.moment D.since D.faults self.old.disk self.new.disk × Untouched self.old.entropy self.new.entropy) }
+            × (self.new.writer ≡ self.old.writer) × DiskRead D.tells D.reads D.images D.moment D.since D.faults self.old.disk self.new.disk × Untouched self.old.entropy self.new.entropy × (self.new.written ≡ self.old.written)) }
         ensures unwritten { length self.old.changed.numbers < self.old.changed.frames → (self.new.recorded ≡ self.old.recorded) × (self.new.writer ≡ self.old.writer)
-            × DiskRead D.tells D.reads D.images D.moment D.since D.faults self.old.disk self.new.disk × Untouched self.old.entropy self.new.entropy }
+            × DiskRead D.tells D.reads D.images D.moment D.since D.faults self.old.disk self.new.disk × Untouched self.old.entropy self.new.entropy × (self.new.written ≡ self.old.written) }
         ensures frames { self.new.changed.frames ≡ self.old.changed.frames }
         ensures any_moment { IsTrue D.tells → LeavesOnly D.moment D.since self.old.disk.now self.new.disk.now (HoldsOld start.base) }
         ensures fresh { IsTrue D.tells → LeavesOnly D.moment D.since self.old.disk.now self.new.disk.now (From SameFresh (D.images self.old.disk.now)) }
@@ -314,7 +363,7 @@ impl<'d, D: Disk, E: Entropy> Txn<'d, D, E> {
         ensures listed { (m : ℕ) → is_held m self.new.changed.held ≡ (if m == n then true else is_held m self.old.changed.held) }
         ensures held { is_held n self.new.changed.held ≡ true }
         ensures sizes { (self.new.changed.frames ≡ self.old.changed.frames) × (self.new.changed.usable ≡ self.old.changed.usable) × (self.new.changed.pages ≡ self.old.changed.pages) }
-        ensures kept { (self.new.recorded ≡ self.old.recorded) × (self.new.writer ≡ self.old.writer) × (self.new.last ≡ self.old.last) }
+        ensures kept { (self.new.recorded ≡ self.old.recorded) × (self.new.writer ≡ self.old.writer) × (self.new.last ≡ self.old.last) × (self.new.written ≡ self.old.written) }
         ensures disk { Untouched self.old.disk self.new.disk }
         ensures entropy { Untouched self.old.entropy self.new.entropy }
         ensures file { (self.new.read ≡ self.old.read) × (self.new.write ≡ self.old.write) × (self.new.count ≡ self.old.count) }
@@ -331,14 +380,14 @@ impl<'d, D: Disk, E: Entropy> Txn<'d, D, E> {
         requires some { 0 < start.base.pages }
         requires sizes { (self.old.write.profile.page_size ≡ start.base.size) × (self.old.count ≡ start.base.pages) }
         requires ready { IsReadyFor self.old.recorded self.old.writer }
-        requires under_way { IsTrue D.tells → IsUnderWay start self.old.write self.old.recorded self.old.writer (D.reads self.old.disk.now)
+        requires under_way { IsTrue D.tells → IsUnderWay start self.old.write self.old.recorded self.old.written self.old.writer (D.reads self.old.disk.now)
             (D.images self.old.disk.now) E.tells (E.drawn self.old.entropy.now) }
-        ensures seen { OnOk result (IsTrue D.tells → (m : ℕ) → (seen_pages self.new.read self.new.write (main_of (D.reads self.new.disk.now)) self.new.count self.new.recorded self.new.changed.held).page m ≡ (seen_pages self.old.read self.old.write (main_of (D.reads self.old.disk.now)) self.old.count self.old.recorded self.old.changed.held).page m) }
-        ensures touched { OnOk result ((m : ℕ) → is_number self.old.count m ≡ true → is_touched self.new.recorded self.new.changed.held m ≡ is_touched self.old.recorded self.old.changed.held m) }
+        ensures seen { OnOk result (IsTrue D.tells → (m : ℕ) → (seen_pages self.new.read self.new.write (main_of (D.reads self.new.disk.now)) self.new.count self.new.written self.new.changed.held).page m ≡ (seen_pages self.old.read self.old.write (main_of (D.reads self.old.disk.now)) self.old.count self.old.written self.old.changed.held).page m) }
+        ensures touched { OnOk result ((m : ℕ) → is_number self.old.count m ≡ true → is_touched self.new.written self.new.changed.held m ≡ is_touched self.old.written self.old.changed.held m) }
         ensures room { OnOk result (length self.new.changed.numbers < self.new.changed.frames) }
         ensures free { OnOk result ((m : ℕ) → is_held m self.old.changed.held ≡ false → is_held m self.new.changed.held ≡ false) }
         ensures ready { OnOk result (IsReadyFor self.new.recorded self.new.writer) }
-        ensures under_way { OnOk result (IsTrue D.tells → IsUnderWay start self.new.write self.new.recorded self.new.writer (D.reads self.new.disk.now)
+        ensures under_way { OnOk result (IsTrue D.tells → IsUnderWay start self.new.write self.new.recorded self.new.written self.new.writer (D.reads self.new.disk.now)
             (D.images self.new.disk.now) E.tells (E.drawn self.new.entropy.now)) }
         ensures faults { IfErr result (λ e. ((e ≡ PageError.DiskFault) × Rose (D.faults self.old.disk.now) (D.faults self.new.disk.now))
             ⊎ ((e ≡ PageError.EntropyFault) × Rose (E.faults self.old.entropy.now) (E.faults self.new.entropy.now))) }
@@ -348,7 +397,7 @@ impl<'d, D: Disk, E: Entropy> Txn<'d, D, E> {
         ensures later { (D.faults self.old.disk.now ≤ D.faults self.new.disk.now) × (E.faults self.old.entropy.now ≤ E.faults self.new.entropy.now) }
         ensures plain { self.new.plain.items ≡ self.old.plain.items }
         ensures unwritten { length self.old.changed.numbers < self.old.changed.frames → (self.new.recorded ≡ self.old.recorded) × (self.new.writer ≡ self.old.writer)
-            × Untouched self.old.disk self.new.disk × Untouched self.old.entropy self.new.entropy }
+            × Untouched self.old.disk self.new.disk × Untouched self.old.entropy self.new.entropy × (self.new.written ≡ self.old.written) }
         ensures frames { self.new.changed.frames ≡ self.old.changed.frames }
         ensures file { (self.new.read ≡ self.old.read) × (self.new.write ≡ self.old.write) × (self.new.count ≡ self.old.count) }
     {
@@ -364,13 +413,13 @@ impl<'d, D: Disk, E: Entropy> Txn<'d, D, E> {
         requires some { 0 < start.base.pages }
         requires sizes { (self.old.write.profile.page_size ≡ start.base.size) × (self.old.count ≡ start.base.pages) }
         requires ready { IsReadyFor self.old.recorded self.old.writer }
-        requires under_way { IsTrue D.tells → IsUnderWay start self.old.write self.old.recorded self.old.writer (D.reads self.old.disk.now)
+        requires under_way { IsTrue D.tells → IsUnderWay start self.old.write self.old.recorded self.old.written self.old.writer (D.reads self.old.disk.now)
             (D.images self.old.disk.now) E.tells (E.drawn self.old.entropy.now) }
-        ensures seen { OnOk result (IsTrue D.tells → (m : ℕ) → (seen_pages self.new.read self.new.write (main_of (D.reads self.new.disk.now)) self.new.count self.new.recorded self.new.changed.held).page m ≡ (seen_pages self.old.read self.old.write (main_of (D.reads self.old.disk.now)) self.old.count self.old.recorded self.old.changed.held).page m) }
-        ensures touched { OnOk result ((m : ℕ) → is_number self.old.count m ≡ true → is_touched self.new.recorded self.new.changed.held m ≡ is_touched self.old.recorded self.old.changed.held m) }
+        ensures seen { OnOk result (IsTrue D.tells → (m : ℕ) → (seen_pages self.new.read self.new.write (main_of (D.reads self.new.disk.now)) self.new.count self.new.written self.new.changed.held).page m ≡ (seen_pages self.old.read self.old.write (main_of (D.reads self.old.disk.now)) self.old.count self.old.written self.old.changed.held).page m) }
+        ensures touched { OnOk result ((m : ℕ) → is_number self.old.count m ≡ true → is_touched self.new.written self.new.changed.held m ≡ is_touched self.old.written self.old.changed.held m) }
         ensures free { OnOk result (self.new.changed ≡ unchanged self.old.changed.frames self.old.changed.usable self.old.changed.pages) }
         ensures ready { OnOk result (IsReadyFor self.new.recorded self.new.writer) }
-        ensures under_way { OnOk result (IsTrue D.tells → IsUnderWay start self.new.write self.new.recorded self.new.writer (D.reads self.new.disk.now)
+        ensures under_way { OnOk result (IsTrue D.tells → IsUnderWay start self.new.write self.new.recorded self.new.written self.new.writer (D.reads self.new.disk.now)
             (D.images self.new.disk.now) E.tells (E.drawn self.new.entropy.now)) }
         ensures faults { IfErr result (λ e. ((e ≡ PageError.DiskFault) × Rose (D.faults self.old.disk.now) (D.faults self.new.disk.now))
             ⊎ ((e ≡ PageError.EntropyFault) × Rose (E.faults self.old.entropy.now) (E.faults self.new.entropy.now))) }
@@ -388,9 +437,11 @@ impl<'d, D: Disk, E: Entropy> Txn<'d, D, E> {
             &mut *self.entropy,
             &mut self.writer,
             &mut self.recorded,
+            &mut self.written,
             &self.write,
             &self.changed,
             &mut self.draws,
+            &mut self.batch,
             &mut self.stored,
         );
         match written {
@@ -413,18 +464,18 @@ impl<'d, D: Disk, E: Entropy> Txn<'d, D, E> {
         requires sizes { (self.write.profile.page_size ≡ start.base.size) × (self.count ≡ start.base.pages) }
         requires base_is { IsBase start.base }
         requires ready { IsReadyFor self.recorded self.writer }
-        requires under_way { IsTrue D.tells → IsUnderWay start self.write self.recorded self.writer (D.reads self.disk.now)
+        requires under_way { IsTrue D.tells → IsUnderWay start self.write self.recorded self.written self.writer (D.reads self.disk.now)
             (D.images self.disk.now) E.tells (E.drawn self.entropy.now) }
         ensures disk { result.0.ghost_name ≡ self.entry.disk.ghost_name }
         ensures entropy { result.1.ghost_name ≡ self.entry.entropy.ghost_name }
-        ensures changed { OnOk result.2 (IsTrue D.tells → HasNewPages start self.entry.write (is_touched self.entry.recorded self.entry.changed.held)
-            (λ n. (seen_pages self.entry.read self.entry.write (main_of (D.reads self.entry.disk.now)) self.entry.count self.entry.recorded self.entry.changed.held).page n)
+        ensures changed { OnOk result.2 (IsTrue D.tells → HasNewPages start self.entry.write (is_touched self.entry.written self.entry.changed.held)
+            (λ n. (seen_pages self.entry.read self.entry.write (main_of (D.reads self.entry.disk.now)) self.entry.count self.entry.written self.entry.changed.held).page n)
             E.tells (E.drawn result.1.now) (main_of (D.reads result.0.now))) }
         ensures new { OnOk result.2 (IsTrue D.tells → Each (D.images result.0.now) (IsCommitted start.base (main_of (D.reads result.0.now)))) }
         ensures one_new { OnOk result.2 (IsTrue D.tells → LeavesOnly D.moment D.since self.entry.disk.now result.0.now
             (HoldsEither start.base (stored_pages start.base.size start.base.pages (main_of (D.reads result.0.now))))) }
-        ensures any_moment { IsTrue D.tells → LeavesChanged D.moment D.since start.base (HasNewPages start self.entry.write (is_touched self.entry.recorded self.entry.changed.held)
-            (λ n. (seen_pages self.entry.read self.entry.write (main_of (D.reads self.entry.disk.now)) self.entry.count self.entry.recorded self.entry.changed.held).page n)
+        ensures any_moment { IsTrue D.tells → LeavesChanged D.moment D.since start.base (HasNewPages start self.entry.write (is_touched self.entry.written self.entry.changed.held)
+            (λ n. (seen_pages self.entry.read self.entry.write (main_of (D.reads self.entry.disk.now)) self.entry.count self.entry.written self.entry.changed.held).page n)
             E.tells (E.drawn result.1.now)) self.entry.disk.now result.0.now }
         ensures only_old { result.2 ≡ Err CommitFault.EntropyFault → IsTrue D.tells → LeavesOnly D.moment D.since self.entry.disk.now result.0.now (HoldsOld start.base) }
         ensures fresh { IsTrue D.tells → LeavesOnly D.moment D.since self.entry.disk.now result.0.now (From SameFresh (D.images self.entry.disk.now)) }
@@ -443,8 +494,10 @@ impl<'d, D: Disk, E: Entropy> Txn<'d, D, E> {
             count: _,
             changed,
             mut recorded,
+            written,
             mut writer,
             mut draws,
+            mut batch,
             mut stored,
             plain: _,
             last: _,
@@ -455,9 +508,11 @@ impl<'d, D: Disk, E: Entropy> Txn<'d, D, E> {
             &mut *entropy,
             &mut writer,
             &mut recorded,
+            &written,
             &write,
             &changed,
             &mut draws,
+            &mut batch,
             &mut stored,
         );
         (disk, entropy, done)
@@ -477,8 +532,10 @@ impl<'d, D: Disk, E: Entropy> Txn<'d, D, E> {
             count: _,
             changed: _,
             recorded: _,
+            written: _,
             writer: _,
             draws: _,
+            batch: _,
             stored: _,
             plain: _,
             last: _,
@@ -493,7 +550,7 @@ impl<'d, D: Disk, E: Entropy> Txn<'d, D, E> {
         requires sizes { (self.write.profile.page_size ≡ start.base.size) × (self.count ≡ start.base.pages) }
         requires base_is { IsBase start.base }
         requires ready { IsReadyFor self.recorded self.writer }
-        requires under_way { IsTrue D.tells → IsUnderWay start self.write self.recorded self.writer (D.reads self.disk.now)
+        requires under_way { IsTrue D.tells → IsUnderWay start self.write self.recorded self.written self.writer (D.reads self.disk.now)
             (D.images self.disk.now) E.tells (E.drawn self.entropy.now) }
         ensures disk { result.0.ghost_name ≡ self.entry.disk.ghost_name }
         ensures entropy { (result.1.ghost_name ≡ self.entry.entropy.ghost_name) × (result.1.now ≡ self.entry.entropy.now) }
@@ -511,8 +568,10 @@ impl<'d, D: Disk, E: Entropy> Txn<'d, D, E> {
             count: _,
             changed: _,
             recorded,
+            written: _,
             mut writer,
             draws: _,
+            batch: _,
             stored: _,
             plain: _,
             last: _,
@@ -541,10 +600,10 @@ impl<'d, D: Disk, E: Entropy> Pager<'d, D, E> {
         ensures entropy { IfOk result (λ t. (t.entropy.ghost_name ≡ self.entry.entropy.ghost_name) × (t.entropy.now ≡ self.entry.entropy.now)) }
         ensures file { IfOk result (λ t. (t.read ≡ self.entry.codec) × (t.write ≡ write) × (t.count ≡ self.entry.count)) }
         ensures unchanged { IfOk result (λ t. (t.changed.held ≡ []) × (marked_count t.recorded ≡ 0)) }
-        ensures untouched { IfOk result (λ t. (n : ℕ) → is_touched t.recorded t.changed.held n ≡ false) }
+        ensures untouched { IfOk result (λ t. (n : ℕ) → is_touched t.written t.changed.held n ≡ false) }
         ensures room { IfOk result (λ t. t.changed.frames ≤ frames) }
         ensures ready { IfOk result (λ t. IsReadyFor t.recorded t.writer) }
-        ensures under_way { IfOk result (λ t. IsTrue D.tells → IsUnderWay start write t.recorded t.writer (D.reads t.disk.now) (D.images t.disk.now)
+        ensures under_way { IfOk result (λ t. IsTrue D.tells → IsUnderWay start write t.recorded t.written t.writer (D.reads t.disk.now) (D.images t.disk.now)
             E.tells (E.drawn t.entropy.now)) }
         ensures back { IfErr result (λ e. (e.0.disk.ghost_name ≡ self.entry.disk.ghost_name) × (e.0.disk.now ≡ self.entry.disk.now)
             × (e.0.entropy.ghost_name ≡ self.entry.entropy.ghost_name) × (e.0.entropy.now ≡ self.entry.entropy.now) × (e.0.codec ≡ self.entry.codec)
@@ -567,6 +626,9 @@ impl<'d, D: Disk, E: Entropy> Pager<'d, D, E> {
         let Ok(recorded) = PageMarks::new(alloc, self.count) else {
             return Err((self, BeginError::OutOfMemory));
         };
+        let Ok(written) = PageMarks::new(alloc, self.count) else {
+            return Err((self, BeginError::OutOfMemory));
+        };
         let Ok(writer) = JournalWriter::new(alloc, profile.page_size, self.count) else {
             return Err((self, BeginError::OutOfMemory));
         };
@@ -577,6 +639,9 @@ impl<'d, D: Disk, E: Entropy> Pager<'d, D, E> {
             return Err((self, BeginError::OutOfMemory));
         };
         let Ok(plain) = vec![in alloc; 0u8; profile.usable()] else {
+            return Err((self, BeginError::OutOfMemory));
+        };
+        let Ok(batch) = vec![in alloc; 0u8; frames as usize * profile.page_size as usize] else {
             return Err((self, BeginError::OutOfMemory));
         };
         let Pager {
@@ -596,8 +661,10 @@ impl<'d, D: Disk, E: Entropy> Pager<'d, D, E> {
             count,
             changed,
             recorded,
+            written,
             writer,
             draws,
+            batch,
             stored,
             plain,
             last: 0,

@@ -24,7 +24,7 @@ use Rattle.rekey_job.specs.Rekeyed.{IsRekeyed}
 use Rattle.rekey_job.specs.Stops.{AreClean, IsLate, IsShown, is_unwritten}
 use Rattle.rekey_job.specs.declared.error.RekeyError.{RekeyError}
 use Rattle.rekey_job.specs.declared.error.RekeyError.TheVariants.{LayoutDiffers, PageTag, Defect, DiskFault, EntropyFault, OutOfMemory}
-use Rattle.rekey_job.proofs.Renewed.{any_base, committed_counts, is_rekeyed, leaves_rekeyed, own_draws, told_base}
+use Rattle.rekey_job.proofs.Renewed.{IsResealed, any_base, committed_counts, is_rekeyed, leaves_rekeyed, own_draws, told_base}
 
 -- ---- the transaction
 
@@ -66,7 +66,7 @@ module _ (tells : Bool) (keys write : FileKeys) (count : ℕ) (now : Files) (ima
       (own_draws keys write count old draws_told before after layout some room salt clean begun.base_is was (main_of files) (has_told (main_of files) has) drawing)
 
   pub at_moments : {D : Type 0} (moment : D → ℕ) (since : D → ℕ → Files → Type 0) (start end : D) → LeavesChanged moment since any (HasAny any) start end
-      → LeavesChanged moment since base (IsRekeyed keys write count old) start end
+      → LeavesChanged moment since base (IsResealed keys write count old draws_told (drop (length before) after)) start end
   at_moments moment since start end run =
       leaves_rekeyed keys write count old draws_told before after layout some room salt clean begun.base_is was moment since start end
       (subst (λ (b : Base). LeavesChanged moment since b (HasAny b) start end) same_base run)

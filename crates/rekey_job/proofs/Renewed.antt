@@ -123,6 +123,10 @@ same_salt read write is = search (rules, is)
 
 -- ---- the new file
 
+-- a rekeyed file, each of whose pages has bytes of its own, where the draws are told
+abbrev pub IsResealed : FileKeys → FileKeys → ℕ → List ℕ → Bool → List ℕ → List ℕ → Type 0
+IsResealed keys write count old tells drawn file = IsRekeyed keys write count old file × (IsTrue tells → FileDraws write file (is_number count) 0 drawn)
+
 module _ (keys write : FileKeys) (count : ℕ) (old : List ℕ) (tells : Bool) (before after : List ℕ) (layout : same_layout keys write ≡ true) (some : 1 ≤ count) (room : 16 ≤ keys.profile.page_size)
     (salt : keys.salt ≡ salt_of old) (clean : AreClean (opened_pages keys old count))
     (base : IsBase (base_of keys old count)) (was : (base_of keys old count).counts (length old) ≡ true) where
@@ -197,12 +201,16 @@ module _ (keys write : FileKeys) (count : ℕ) (old : List ℕ) (tells : Bool) (
     abbrev cut : List ℕ
     cut = take (count * keys.profile.page_size) main
 
+    -- its pages are those of Main
+    cut_stored : (n : ℕ) → is_number count n ≡ true → page_stored write cut n ≡ page_stored write main n
+    cut_stored n num =
+        let within = number_in count n num in
+        subst (λ (s : ℕ). stored_page s n cut ≡ stored_page s n main) (sym sizes.0) (cut_page n count keys.profile.page_size main within.0 within.1 main_long)
+
     -- and what Main has without what stands behind its pages
     pub cut_rekeyed : IsRekeyed keys write count old cut
     cut_rekeyed = with_pages cut
-        (λ n num.
-        let within = number_in count n num in
-        subst (λ (s : ℕ). stored_page s n cut ≡ stored_page s n main) (sym sizes.0) (cut_page n count keys.profile.page_size main within.0 within.1 main_long))
+        cut_stored
         (take-take 16 (count * keys.profile.page_size) main (omega (arith, room, one_page count keys.profile.page_size some)))
         (subst (λ (k : ℕ). (base_of keys old count).counts k ≡ true) (sym (cut_length)) base.whole)
       where
@@ -224,13 +232,25 @@ module _ (keys write : FileKeys) (count : ℕ) (old : List ℕ) (tells : Bool) (
         drawn : drop (length before) after ≡ has.draws
         drawn = ap (λ (l : List ℕ). drop (length before) l) (has.since told) ∙ drop-append_seam before has.draws
 
+    pub cut_draws : IsTrue tells → FileDraws write cut (is_number count) 0 (drop (length before) after)
+    cut_draws told =
+        let own = own_draws told in
+        record {
+          place = own.place;
+          later = own.later;
+          within = own.within;
+          is_sealed = λ n num. subst (λ (l : List ℕ). l ≡ sealed write n (opened write n l) (draw_at write.profile.reserve (own.place n) (drop (length before) after)))
+              (sym (cut_stored n num)) (own.is_sealed n num);
+          apart = own.apart;
+        }
+
   -- at each moment
   pub leaves_rekeyed : {D : Type 0} (moment : D → ℕ) (since : D → ℕ → Files → Type 0) (old_disk new_disk : D)
       → LeavesChanged moment since (base_of keys old count) HasNew old_disk new_disk
-      → LeavesChanged moment since (base_of keys old count) (IsRekeyed keys write count old) old_disk new_disk
+      → LeavesChanged moment since (base_of keys old count) (IsResealed keys write count old tells (drop (length before) after)) old_disk new_disk
   leaves_rekeyed moment since old_disk new_disk (inl run) = inl run
   leaves_rekeyed moment since old_disk new_disk (inr new) = inr (
     take (count * keys.profile.page_size) new.0,
-    cut_rekeyed new.0 new.1,
+    (cut_rekeyed new.0 new.1, cut_draws new.0 new.1),
     subst (λ (db : List (List ℕ)). LeavesOnly moment since old_disk new_disk (HoldsEither (base_of keys old count) db)) (cut_same new.0 new.1) new.2,
   )

@@ -44,9 +44,9 @@ and_both : (a b : Bool) → a ≡ true → b ≡ true → (a && b) ≡ true
 and_both true b x y = y
 and_both false b x y = cc
 
-module _ (start : Start) (read write : FileKeys) (marks : List Bool) (w : Writing) (now : Files) (images : Files → Type 0) (tells : Bool) (drawn : List ℕ) (held : List Page) (count n : ℕ)
+module _ (start : Start) (read write : FileKeys) (recorded marks : List Bool) (w : Writing) (now : Files) (images : Files → Type 0) (tells : Bool) (drawn : List ℕ) (held : List Page) (count n : ℕ)
     (layout : write.profile.page_size ≡ read.profile.page_size) (whole : count ≡ start.base.pages) (num : is_number count n ≡ true)
-    (accepted : accepts read n (page_stored read start.base.start n) ≡ true) (way : IsUnderWay start write marks w now images tells drawn) where
+    (accepted : accepts read n (page_stored read start.base.start n) ≡ true) (way : IsUnderWay start write recorded marks w now images tells drawn) where
   in_base : is_number start.base.pages n ≡ true
   in_base = subst (λ (p : ℕ). is_number p n ≡ true) whole num
 

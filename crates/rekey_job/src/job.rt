@@ -49,9 +49,10 @@ pub fn rekey<'d, D: Disk, E: Entropy>(
     ensures new { OnOk result.2 (IsTrue D.tells
         → Each (D.images result.0.now) (IsCommitted (base_of pager.entry.codec (main_of (D.reads pager.entry.disk.now)) pager.entry.count) (main_of (D.reads result.0.now)))) }
     ensures clean { OnOk result.2 (IsTrue D.tells → AreClean (opened_pages pager.entry.codec (main_of (D.reads pager.entry.disk.now)) pager.entry.count)) }
-    // each moment: the old pages, or those of one rekeyed file
+    // each moment: the old pages, or those of one rekeyed file, each of which has drawn bytes of its own
     ensures any_moment { IsTrue D.tells → LeavesChanged D.moment D.since (base_of pager.entry.codec (main_of (D.reads pager.entry.disk.now)) pager.entry.count)
-        (IsRekeyed pager.entry.codec write pager.entry.count (main_of (D.reads pager.entry.disk.now))) pager.entry.disk.now result.0.now }
+        (λ main. IsRekeyed pager.entry.codec write pager.entry.count (main_of (D.reads pager.entry.disk.now)) main × (IsTrue E.tells
+        → FileDraws write main (is_number pager.entry.count) 0 (drop (length (E.drawn pager.entry.entropy.now)) (E.drawn result.1.now)))) pager.entry.disk.now result.0.now }
     ensures one_new { OnOk result.2 (IsTrue D.tells → LeavesOnly D.moment D.since pager.entry.disk.now result.0.now
         (HoldsEither (base_of pager.entry.codec (main_of (D.reads pager.entry.disk.now)) pager.entry.count)
         (stored_pages pager.entry.codec.profile.page_size pager.entry.count (main_of (D.reads result.0.now))))) }
@@ -104,7 +105,8 @@ fn rekey_clean<'d, D: Disk, E: Entropy>(
     ensures new { OnOk result.2 (IsTrue D.tells
         → Each (D.images result.0.now) (IsCommitted (base_of pager.entry.codec (main_of (D.reads pager.entry.disk.now)) pager.entry.count) (main_of (D.reads result.0.now)))) }
     ensures any_moment { IsTrue D.tells → LeavesChanged D.moment D.since (base_of pager.entry.codec (main_of (D.reads pager.entry.disk.now)) pager.entry.count)
-        (IsRekeyed pager.entry.codec write pager.entry.count (main_of (D.reads pager.entry.disk.now))) pager.entry.disk.now result.0.now }
+        (λ main. IsRekeyed pager.entry.codec write pager.entry.count (main_of (D.reads pager.entry.disk.now)) main × (IsTrue E.tells
+        → FileDraws write main (is_number pager.entry.count) 0 (drop (length (E.drawn pager.entry.entropy.now)) (E.drawn result.1.now)))) pager.entry.disk.now result.0.now }
     ensures one_new { OnOk result.2 (IsTrue D.tells → LeavesOnly D.moment D.since pager.entry.disk.now result.0.now
         (HoldsEither (base_of pager.entry.codec (main_of (D.reads pager.entry.disk.now)) pager.entry.count)
         (stored_pages pager.entry.codec.profile.page_size pager.entry.count (main_of (D.reads result.0.now))))) }

@@ -8,8 +8,6 @@ mod check;
 mod error;
 mod job;
 mod rewrite;
-#[cfg(test)]
-mod tests;
 
 pub use error::RekeyError;
 pub use job::rekey;

@@ -1,5 +1,5 @@
 // All pages are sealed under another codec, in one transaction.
-ghost use Rattle.std.specs.Prelude.{◌≡◌, ◌≢◌, ◌⊎◌, ◌≤◌, ◌==◌, ◌&&◌, ℕ, true, false, Err, IfErr, OnOk, IsTrue, if◌then◌else◌, replicate};
+ghost use Rattle.std.specs.Prelude.{◌≡◌, ◌≢◌, ◌⊎◌, ◌≤◌, ◌<◌, ◌+◌, ◌*◌, ◌==◌, ◌&&◌, ℕ, true, false, Err, IfErr, OnOk, IsTrue, if◌then◌else◌, replicate};
 ghost use Rattle.edge_model.specs.Causes.{Rose};
 ghost use Rattle.edge_model.specs.Images.{Each, From, LeavesOnly};
 ghost use Rattle.cipher_profile.specs.Profile.{usable};
@@ -9,6 +9,7 @@ ghost use Rattle.page_codec.specs.Page.{accepts};
 ghost use Rattle.pager.specs.Changed.{same_layout};
 ghost use Rattle.pager.specs.File.{main_of, page_stored};
 ghost use Rattle.pager.specs.Pages.{is_number, opened_pages};
+ghost use Rattle.pager.specs.Reads.{Untouched};
 ghost use Rattle.pager.specs.UnderWay.{HasNewPages, IsReadyFor, IsUnderWay, Start, is_failure, is_touched, seen_pages};
 ghost use Rattle.rollback_journal.specs.Playing.{main_of as read_main};
 ghost use Rattle.transaction.specs.Commit.{IsCommitted, LeavesChanged};
@@ -26,6 +27,9 @@ use std::alloc::Global;
 
 /// How many changed pages stand in memory.
 const FRAMES: u32 = 64;
+
+/// How many bytes of old pages wait for the journal together, behind one gate: 16 MiB. A stop costs the laying back of so many at most.
+const SEGMENT: u32 = 16 * 1024 * 1024;
 
 /// Where the part of page 1 begins that a transaction may write: no byte is written there.
 const AT: usize = 16;
@@ -94,7 +98,7 @@ fn rewrite<'d, D: Disk, E: Entropy>(
     requires sizes { (txn.write.profile.page_size ≡ start.base.size) × (txn.count ≡ start.base.pages) }
     requires base_is { IsBase start.base }
     requires ready { IsReadyFor txn.recorded txn.writer }
-    requires under_way { IsTrue D.tells → IsUnderWay start txn.write txn.recorded txn.writer (D.reads txn.disk.now)
+    requires under_way { IsTrue D.tells → IsUnderWay start txn.write txn.recorded txn.written txn.writer (D.reads txn.disk.now)
         (D.images txn.disk.now) E.tells (E.drawn txn.entropy.now) }
     requires accepted { IsTrue D.tells → (n : ℕ) → is_number txn.count n ≡ true → is_zeroed leaves.now.leaves n ≡ false
         → accepts txn.read n (page_stored txn.read start.base.start n) ≡ true }
@@ -102,14 +106,14 @@ fn rewrite<'d, D: Disk, E: Entropy>(
     ensures entropy { result.1.ghost_name ≡ txn.entry.entropy.ghost_name }
     ensures changed { OnOk result.2 (IsTrue D.tells → HasNewPages start txn.entry.write (λ n. true)
         (rewritten leaves.now.leaves (usable txn.entry.write.profile)
-        (seen_pages txn.entry.read txn.entry.write (read_main (D.reads txn.entry.disk.now)) txn.entry.count txn.entry.recorded txn.entry.changed.held))
+        (seen_pages txn.entry.read txn.entry.write (read_main (D.reads txn.entry.disk.now)) txn.entry.count txn.entry.written txn.entry.changed.held))
         E.tells (E.drawn result.1.now) (read_main (D.reads result.0.now))) }
     ensures new { OnOk result.2 (IsTrue D.tells → Each (D.images result.0.now) (IsCommitted start.base (read_main (D.reads result.0.now)))) }
     ensures one_new { OnOk result.2 (IsTrue D.tells → LeavesOnly D.moment D.since txn.entry.disk.now result.0.now
         (HoldsEither start.base (stored_pages start.base.size start.base.pages (read_main (D.reads result.0.now))))) }
     ensures any_moment { IsTrue D.tells → LeavesChanged D.moment D.since start.base (HasNewPages start txn.entry.write (λ n. true)
         (rewritten leaves.now.leaves (usable txn.entry.write.profile)
-        (seen_pages txn.entry.read txn.entry.write (read_main (D.reads txn.entry.disk.now)) txn.entry.count txn.entry.recorded txn.entry.changed.held))
+        (seen_pages txn.entry.read txn.entry.write (read_main (D.reads txn.entry.disk.now)) txn.entry.count txn.entry.written txn.entry.changed.held))
         E.tells (E.drawn result.1.now)) txn.entry.disk.now result.0.now }
     ensures only_old { result.2 ≡ Err RekeyError.EntropyFault → IsTrue D.tells → LeavesOnly D.moment D.since txn.entry.disk.now result.0.now (HoldsOld start.base) }
     ensures fresh { IsTrue D.tells → LeavesOnly D.moment D.since txn.entry.disk.now result.0.now (From SameFresh (D.images txn.entry.disk.now)) }
@@ -135,18 +139,18 @@ fn finish<'d, D: Disk, E: Entropy>(
     requires sizes { (txn.write.profile.page_size ≡ start.base.size) × (txn.count ≡ start.base.pages) }
     requires base_is { IsBase start.base }
     requires ready { IsReadyFor txn.recorded txn.writer }
-    requires under_way { IsTrue D.tells → IsUnderWay start txn.write txn.recorded txn.writer (D.reads txn.disk.now)
+    requires under_way { IsTrue D.tells → IsUnderWay start txn.write txn.recorded txn.written txn.writer (D.reads txn.disk.now)
         (D.images txn.disk.now) E.tells (E.drawn txn.entropy.now) }
     ensures disk { result.0.ghost_name ≡ txn.entry.disk.ghost_name }
     ensures entropy { result.1.ghost_name ≡ txn.entry.entropy.ghost_name }
-    ensures changed { OnOk result.2 (IsTrue D.tells → HasNewPages start txn.entry.write (is_touched txn.entry.recorded txn.entry.changed.held)
-        (λ n. (seen_pages txn.entry.read txn.entry.write (read_main (D.reads txn.entry.disk.now)) txn.entry.count txn.entry.recorded txn.entry.changed.held).page n)
+    ensures changed { OnOk result.2 (IsTrue D.tells → HasNewPages start txn.entry.write (is_touched txn.entry.written txn.entry.changed.held)
+        (λ n. (seen_pages txn.entry.read txn.entry.write (read_main (D.reads txn.entry.disk.now)) txn.entry.count txn.entry.written txn.entry.changed.held).page n)
         E.tells (E.drawn result.1.now) (read_main (D.reads result.0.now))) }
     ensures new { OnOk result.2 (IsTrue D.tells → Each (D.images result.0.now) (IsCommitted start.base (read_main (D.reads result.0.now)))) }
     ensures one_new { OnOk result.2 (IsTrue D.tells → LeavesOnly D.moment D.since txn.entry.disk.now result.0.now
         (HoldsEither start.base (stored_pages start.base.size start.base.pages (read_main (D.reads result.0.now))))) }
-    ensures any_moment { IsTrue D.tells → LeavesChanged D.moment D.since start.base (HasNewPages start txn.entry.write (is_touched txn.entry.recorded txn.entry.changed.held)
-        (λ n. (seen_pages txn.entry.read txn.entry.write (read_main (D.reads txn.entry.disk.now)) txn.entry.count txn.entry.recorded txn.entry.changed.held).page n)
+    ensures any_moment { IsTrue D.tells → LeavesChanged D.moment D.since start.base (HasNewPages start txn.entry.write (is_touched txn.entry.written txn.entry.changed.held)
+        (λ n. (seen_pages txn.entry.read txn.entry.write (read_main (D.reads txn.entry.disk.now)) txn.entry.count txn.entry.written txn.entry.changed.held).page n)
         E.tells (E.drawn result.1.now)) txn.entry.disk.now result.0.now }
     ensures only_old { result.2 ≡ Err RekeyError.EntropyFault → IsTrue D.tells → LeavesOnly D.moment D.since txn.entry.disk.now result.0.now (HoldsOld start.base) }
     ensures fresh { IsTrue D.tells → LeavesOnly D.moment D.since txn.entry.disk.now result.0.now (From SameFresh (D.images txn.entry.disk.now)) }
@@ -224,17 +228,17 @@ fn reseal_pages<D: Disk, E: Entropy>(
     ghost start: { Start }
     requires sizes { (txn.old.write.profile.page_size ≡ start.base.size) × (txn.old.count ≡ start.base.pages) }
     requires ready { IsReadyFor txn.old.recorded txn.old.writer }
-    requires under_way { IsTrue D.tells → IsUnderWay start txn.old.write txn.old.recorded txn.old.writer (D.reads txn.old.disk.now)
+    requires under_way { IsTrue D.tells → IsUnderWay start txn.old.write txn.old.recorded txn.old.written txn.old.writer (D.reads txn.old.disk.now)
         (D.images txn.old.disk.now) E.tells (E.drawn txn.old.entropy.now) }
     requires accepted { IsTrue D.tells → (n : ℕ) → is_number txn.old.count n ≡ true → is_zeroed leaves.now.leaves n ≡ false
         → accepts txn.old.read n (page_stored txn.old.read start.base.start n) ≡ true }
     ensures seen { OnOk result (IsTrue D.tells → (n : ℕ) → is_number txn.old.count n ≡ true
-        → (seen_pages txn.new.read txn.new.write (read_main (D.reads txn.new.disk.now)) txn.new.count txn.new.recorded txn.new.changed.held).page n
+        → (seen_pages txn.new.read txn.new.write (read_main (D.reads txn.new.disk.now)) txn.new.count txn.new.written txn.new.changed.held).page n
         ≡ rewritten leaves.now.leaves (usable txn.old.write.profile)
-        (seen_pages txn.old.read txn.old.write (read_main (D.reads txn.old.disk.now)) txn.old.count txn.old.recorded txn.old.changed.held) n) }
-    ensures touched { OnOk result ((n : ℕ) → is_number txn.old.count n ≡ true → is_touched txn.new.recorded txn.new.changed.held n ≡ true) }
+        (seen_pages txn.old.read txn.old.write (read_main (D.reads txn.old.disk.now)) txn.old.count txn.old.written txn.old.changed.held) n) }
+    ensures touched { OnOk result ((n : ℕ) → is_number txn.old.count n ≡ true → is_touched txn.new.written txn.new.changed.held n ≡ true) }
     ensures ready { OnOk result (IsReadyFor txn.new.recorded txn.new.writer) }
-    ensures under_way { OnOk result (IsTrue D.tells → IsUnderWay start txn.new.write txn.new.recorded txn.new.writer (D.reads txn.new.disk.now)
+    ensures under_way { OnOk result (IsTrue D.tells → IsUnderWay start txn.new.write txn.new.recorded txn.new.written txn.new.writer (D.reads txn.new.disk.now)
         (D.images txn.new.disk.now) E.tells (E.drawn txn.new.entropy.now)) }
     ensures refused { IfErr result (λ e. is_failure e ≡ false → IsReadyFor txn.new.recorded txn.new.writer × (IsTrue D.tells → ⊥)) }
     ensures asked { IfErr result IsChangeRefusal }
@@ -248,12 +252,96 @@ fn reseal_pages<D: Disk, E: Entropy>(
 {
     let pages = txn.pages();
     for done in 0..pages {
-        match reseal(txn, done + 1, leaves) {
+        match reseal_next(txn, done + 1, leaves) {
             Ok(()) => {}
             Err(error) => return Err(error),
         }
     }
     Ok(())
+}
+
+// Page n is written, once its old bytes and those of the pages that come next are kept.
+fn reseal_next<D: Disk, E: Entropy>(
+    txn: &mut Txn<'_, D, E>,
+    n: u32,
+    leaves: &FreeMap,
+) -> Result<(), PageError>
+    ghost start: { Start }
+    requires number { is_number txn.old.count n ≡ true }
+    requires sizes { (txn.old.write.profile.page_size ≡ start.base.size) × (txn.old.count ≡ start.base.pages) }
+    requires ready { IsReadyFor txn.old.recorded txn.old.writer }
+    requires under_way { IsTrue D.tells → IsUnderWay start txn.old.write txn.old.recorded txn.old.written txn.old.writer (D.reads txn.old.disk.now)
+        (D.images txn.old.disk.now) E.tells (E.drawn txn.old.entropy.now) }
+    requires accepted { IsTrue D.tells → is_zeroed leaves.now.leaves n ≡ false → accepts txn.old.read n (page_stored txn.old.read start.base.start n) ≡ true }
+    ensures seen { OnOk result (IsTrue D.tells → (m : ℕ)
+        → (seen_pages txn.new.read txn.new.write (read_main (D.reads txn.new.disk.now)) txn.new.count txn.new.written txn.new.changed.held).page m
+        ≡ (if (m == n) && is_zeroed leaves.now.leaves n then replicate (usable txn.old.write.profile) 0
+        else (seen_pages txn.old.read txn.old.write (read_main (D.reads txn.old.disk.now)) txn.old.count txn.old.written txn.old.changed.held).page m)) }
+    ensures touched { OnOk result ((m : ℕ) → is_number txn.old.count m ≡ true → is_touched txn.new.written txn.new.changed.held m
+        ≡ (if m == n then true else is_touched txn.old.written txn.old.changed.held m)) }
+    ensures ready { OnOk result (IsReadyFor txn.new.recorded txn.new.writer) }
+    ensures under_way { OnOk result (IsTrue D.tells → IsUnderWay start txn.new.write txn.new.recorded txn.new.written txn.new.writer (D.reads txn.new.disk.now)
+        (D.images txn.new.disk.now) E.tells (E.drawn txn.new.entropy.now)) }
+    ensures refused { IfErr result (λ e. is_failure e ≡ false → IsReadyFor txn.new.recorded txn.new.writer × (IsTrue D.tells → ⊥)) }
+    ensures asked { IfErr result IsChangeRefusal }
+    ensures disk_fault { result ≡ Err PageError.DiskFault → Rose (D.faults txn.old.disk.now) (D.faults txn.new.disk.now) }
+    ensures entropy_fault { result ≡ Err PageError.EntropyFault → Rose (E.faults txn.old.entropy.now) (E.faults txn.new.entropy.now) }
+    ensures any_moment { IsTrue D.tells → LeavesOnly D.moment D.since txn.old.disk.now txn.new.disk.now (HoldsOld start.base) }
+    ensures fresh { IsTrue D.tells → LeavesOnly D.moment D.since txn.old.disk.now txn.new.disk.now (From SameFresh (D.images txn.old.disk.now)) }
+    ensures names { (txn.new.disk.ghost_name ≡ txn.old.disk.ghost_name) × (txn.new.entropy.ghost_name ≡ txn.old.entropy.ghost_name) }
+    ensures later { (D.faults txn.old.disk.now ≤ D.faults txn.new.disk.now) × (E.faults txn.old.entropy.now ≤ E.faults txn.new.entropy.now) }
+    ensures file { (txn.new.read ≡ txn.old.read) × (txn.new.write ≡ txn.old.write) × (txn.new.count ≡ txn.old.count) }
+{
+    match keep_next(txn, n) {
+        Ok(()) => {}
+        Err(error) => return Err(error),
+    }
+    reseal(txn, n, leaves)
+}
+
+// How many pages of this length are a segment of the journal.
+fn pages_ahead(page_size: u32) -> u32
+    requires range { (512 ≤ page_size) × (page_size ≤ 65536) }
+    ensures some { 1 ≤ result }
+    ensures bounded { result * page_size ≤ 16777216 }
+{
+    SEGMENT / page_size
+}
+
+// Keeps the old bytes of page n and of those that come next, where page n is the first of a segment: its pages wait for the journal together.
+fn keep_next<D: Disk, E: Entropy>(txn: &mut Txn<'_, D, E>, n: u32) -> Result<(), PageError>
+    ghost start: { Start }
+    requires number { (1 ≤ n) × (n ≤ txn.old.count) }
+    requires sizes { (txn.old.write.profile.page_size ≡ start.base.size) × (txn.old.count ≡ start.base.pages) }
+    requires ready { IsReadyFor txn.old.recorded txn.old.writer }
+    requires under_way { IsTrue D.tells → IsUnderWay start txn.old.write txn.old.recorded txn.old.written txn.old.writer (D.reads txn.old.disk.now)
+        (D.images txn.old.disk.now) E.tells (E.drawn txn.old.entropy.now) }
+    ensures seen { OnOk result (IsTrue D.tells → (m : ℕ)
+        → (seen_pages txn.new.read txn.new.write (read_main (D.reads txn.new.disk.now)) txn.new.count txn.new.written txn.new.changed.held).page m
+        ≡ (seen_pages txn.old.read txn.old.write (read_main (D.reads txn.old.disk.now)) txn.old.count txn.old.written txn.old.changed.held).page m) }
+    ensures kept { (txn.new.changed ≡ txn.old.changed) × (txn.new.written ≡ txn.old.written) }
+    ensures ready { OnOk result (IsReadyFor txn.new.recorded txn.new.writer) }
+    ensures under_way { OnOk result (IsTrue D.tells → IsUnderWay start txn.new.write txn.new.recorded txn.new.written txn.new.writer (D.reads txn.new.disk.now)
+        (D.images txn.new.disk.now) E.tells (E.drawn txn.new.entropy.now)) }
+    ensures fault { IfErr result (λ e. (e ≡ PageError.DiskFault) × Rose (D.faults txn.old.disk.now) (D.faults txn.new.disk.now)) }
+    ensures any_moment { IsTrue D.tells → LeavesOnly D.moment D.since txn.old.disk.now txn.new.disk.now (HoldsOld start.base) }
+    ensures fresh { IsTrue D.tells → LeavesOnly D.moment D.since txn.old.disk.now txn.new.disk.now (From SameFresh (D.images txn.old.disk.now)) }
+    ensures disk { txn.new.disk.ghost_name ≡ txn.old.disk.ghost_name }
+    ensures entropy { Untouched txn.old.entropy txn.new.entropy }
+    ensures later { D.faults txn.old.disk.now ≤ D.faults txn.new.disk.now }
+    ensures file { (txn.new.read ≡ txn.old.read) × (txn.new.write ≡ txn.old.write) × (txn.new.count ≡ txn.old.count) }
+{
+    let done = n - 1;
+    let ahead = pages_ahead(txn.page_size());
+    if done % ahead != 0 {
+        return Ok(());
+    }
+    let left = txn.pages() - done;
+    let count = if left < ahead { left } else { ahead };
+    match txn.keep_ahead(n, count) {
+        Ok(()) => Ok(()),
+        Err(_) => Err(PageError::DiskFault),
+    }
 }
 
 // Page n is written as it is, or as zeros where it is a leaf. With no bytes to write, a page is changed to what it is.
@@ -266,17 +354,17 @@ fn reseal<D: Disk, E: Entropy>(
     requires number { is_number txn.old.count n ≡ true }
     requires sizes { (txn.old.write.profile.page_size ≡ start.base.size) × (txn.old.count ≡ start.base.pages) }
     requires ready { IsReadyFor txn.old.recorded txn.old.writer }
-    requires under_way { IsTrue D.tells → IsUnderWay start txn.old.write txn.old.recorded txn.old.writer (D.reads txn.old.disk.now)
+    requires under_way { IsTrue D.tells → IsUnderWay start txn.old.write txn.old.recorded txn.old.written txn.old.writer (D.reads txn.old.disk.now)
         (D.images txn.old.disk.now) E.tells (E.drawn txn.old.entropy.now) }
     requires accepted { IsTrue D.tells → is_zeroed leaves.now.leaves n ≡ false → accepts txn.old.read n (page_stored txn.old.read start.base.start n) ≡ true }
     ensures seen { OnOk result (IsTrue D.tells → (m : ℕ)
-        → (seen_pages txn.new.read txn.new.write (read_main (D.reads txn.new.disk.now)) txn.new.count txn.new.recorded txn.new.changed.held).page m
+        → (seen_pages txn.new.read txn.new.write (read_main (D.reads txn.new.disk.now)) txn.new.count txn.new.written txn.new.changed.held).page m
         ≡ (if (m == n) && is_zeroed leaves.now.leaves n then replicate (usable txn.old.write.profile) 0
-        else (seen_pages txn.old.read txn.old.write (read_main (D.reads txn.old.disk.now)) txn.old.count txn.old.recorded txn.old.changed.held).page m)) }
-    ensures touched { OnOk result ((m : ℕ) → is_number txn.old.count m ≡ true → is_touched txn.new.recorded txn.new.changed.held m
-        ≡ (if m == n then true else is_touched txn.old.recorded txn.old.changed.held m)) }
+        else (seen_pages txn.old.read txn.old.write (read_main (D.reads txn.old.disk.now)) txn.old.count txn.old.written txn.old.changed.held).page m)) }
+    ensures touched { OnOk result ((m : ℕ) → is_number txn.old.count m ≡ true → is_touched txn.new.written txn.new.changed.held m
+        ≡ (if m == n then true else is_touched txn.old.written txn.old.changed.held m)) }
     ensures ready { OnOk result (IsReadyFor txn.new.recorded txn.new.writer) }
-    ensures under_way { OnOk result (IsTrue D.tells → IsUnderWay start txn.new.write txn.new.recorded txn.new.writer (D.reads txn.new.disk.now)
+    ensures under_way { OnOk result (IsTrue D.tells → IsUnderWay start txn.new.write txn.new.recorded txn.new.written txn.new.writer (D.reads txn.new.disk.now)
         (D.images txn.new.disk.now) E.tells (E.drawn txn.new.entropy.now)) }
     ensures refused { IfErr result (λ e. is_failure e ≡ false → IsReadyFor txn.new.recorded txn.new.writer × (IsTrue D.tells → ⊥)) }
     ensures asked { IfErr result IsChangeRefusal }

@@ -12,7 +12,7 @@ use Rattle.rollback_journal.specs.declared.recovery.Recovery.TheVariants.{Nothin
 use Rattle.rollback_journal.specs.declared.recovery.RecoverError.{RecoverError}
 use Rattle.rollback_journal.specs.declared.recovery.RecoverError.TheVariants.{JournalPageSize, SuperJournal, DiskFault, OutOfMemory}
 use Rattle.rollback_journal.specs.Laying.{laid}
-use Rattle.rollback_journal.specs.Recovery.{HasByte, IsDone, answer_of, answer_to, end_of}
+use Rattle.rollback_journal.specs.Recovery.{HasByte, IsDone, answer_of, answer_to, changes_nothing, end_of}
 use Rattle.rollback_journal.specs.Playing.{main_of, journal_of, IsTaken}
 use Rattle.rollback_journal.proofs.MainSteps.{some_contents, has_byte}
 use Rattle.rollback_journal.proofs.LaidBack.{there_contents}
@@ -119,6 +119,13 @@ done_is size old new image some journal hot there is main gone =
 pub has_not_none : (file : Option File) → HasByte (bytes_of file) → file ≢ None
 has_not_none None has = absurd has
 has_not_none (Some file) has = λ is. cc
+
+-- a journal that is taken is played: that changes something
+pub taken_changes : (size : ℕ) (files : Files) → IsTaken size files → IsTrue (changes_nothing (answer_to size files)) → ⊥
+taken_changes size files taken idle =
+    let played : changes_nothing (answer_to size files) ≡ false = ap (λ (r : Result Recovery RecoverError). changes_nothing r)
+    (answer_taken size files false taken.main (has_not_none files.journal taken.journal) taken.hot taken.page_size (sym taken.no_super)) in
+    cc
 
 -- the answer to a hot journal that is taken, by what was looked at
 pub hot_answer : (tells : Bool) (n size : ℕ) (old looked : Files) (result : Result Recovery RecoverError) → IsTrue tells → n ≡ size → looked ≡ old

@@ -50,8 +50,6 @@ mod put;
 mod recovery;
 mod segments;
 mod stage;
-#[cfg(test)]
-mod tests;
 mod writer;
 
 pub use recovery::{RecoverError, Recovery, recover};

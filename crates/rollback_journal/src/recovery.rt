@@ -216,6 +216,10 @@ pub fn recover<D: Disk>(
     ensures unchanged { IsTrue D.tells → IsTrue (changes_nothing result) → D.reads disk.new ≡ D.reads disk.old }
     ensures only_synced { IsTrue D.tells → IsTrue (changes_nothing result) →
         LeavesOnly D.moment D.since disk.old disk.new (D.images disk.old) }
+    // where nothing is to be done: nothing was written, whatever the answer
+    ensures idle_same { IsTrue D.tells → IsTrue (changes_nothing (answer_to page_size (D.reads disk.old))) → D.reads disk.new ≡ D.reads disk.old }
+    ensures idle { IsTrue D.tells → IsTrue (changes_nothing (answer_to page_size (D.reads disk.old))) →
+        LeavesOnly D.moment D.since disk.old disk.new (D.images disk.old) }
     // whatever the answer, at every moment from the start
     ensures any_moment { IsTrue D.tells →
         LeavesOnly D.moment D.since disk.old disk.new (From (Keeps page_size) (D.images disk.old)) }

@@ -10,8 +10,6 @@ ghost use Rattle.rollback_journal.specs.Writing.{Writing, IsSmall, at_first, wit
 
 mod gates;
 mod laying_back;
-#[cfg(test)]
-mod tests;
 
 use crate::put::put;
 use crate::stage::Stage;

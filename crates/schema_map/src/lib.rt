@@ -7,8 +7,6 @@
 mod counts;
 mod root;
 mod schema;
-#[cfg(test)]
-mod tests;
 mod tree;
 mod trees;
 mod unused;

@@ -5,8 +5,6 @@
 #![tactic(auto)]
 
 mod free_map;
-#[cfg(test)]
-mod tests;
 mod trunk;
 mod walk;
 

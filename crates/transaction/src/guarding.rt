@@ -1,4 +1,4 @@
-// The records of a batch of changed pages, behind an open gate before any of the pages is written.
+// The records of pages, behind an open gate before any of the pages is written: those of a batch, or of pages that are changed later.
 ghost use Rattle.std.specs.Prelude.{◌≡◌, ◌≢◌, ◌⊎◌, ◌↔◌, ◌+◌, ◌*◌, ◌<◌, ◌≤◌, [], ℕ, List, length, slice_index, IsTrue, OnOk, IsOk, None, Err};
 ghost use Rattle.edge_model.specs.Causes.{HasCause, Rose};
 ghost use Rattle.edge_model.specs.Files.{Files};
@@ -12,16 +12,16 @@ ghost use Rattle.transaction.specs.Journals.{AsLeft, records_in};
 ghost use Rattle.transaction.specs.Marks.{marked_count};
 ghost use Rattle.transaction.specs.Recorded.{AreRecorded};
 
-use crate::{Changes, PageMarks, RecordWriter, Stage, keep_marked, next, open, start};
+use crate::{PageMarks, PageNumbers, RecordWriter, Stage, keep_marked, next, open, start};
 use edge_model::{Disk, Failed};
 
-// Whether each of the changed pages is marked.
-fn are_marked<C: Changes>(recorded: &PageMarks, changes: &C) -> bool
-    requires { AreChanges (length recorded.now) (C.numbers changes.now) }
-    ensures { IsTrue result ↔ AreMarked (C.numbers changes.now) recorded.now }
+// Whether each of these pages is marked.
+fn are_marked<N: PageNumbers>(recorded: &PageMarks, pages: &N) -> bool
+    requires { AreChanges (length recorded.now) (N.numbers pages.now) }
+    ensures { IsTrue result ↔ AreMarked (N.numbers pages.now) recorded.now }
 {
-    for k in 0..changes.len() {
-        if !recorded.has(changes.number(k)) {
+    for k in 0..pages.len() {
+        if !recorded.has(pages.number(k)) {
             return false;
         }
     }
@@ -63,11 +63,11 @@ fn begin_segment<D: Disk, W: RecordWriter>(
 }
 
 // Puts the records of the pages that have none behind the closed gate, and marks them.
-fn keep_batch<D: Disk, W: RecordWriter, C: Changes>(
+fn keep_batch<D: Disk, W: RecordWriter, N: PageNumbers>(
     disk: &mut D,
     writer: &mut W,
     recorded: &mut PageMarks,
-    changes: &C,
+    pages: &N,
     buffer: &mut [u8],
 ) -> Result<(), Failed>
     ghost base: { Base }
@@ -75,7 +75,7 @@ fn keep_batch<D: Disk, W: RecordWriter, C: Changes>(
     requires small { W.is_small writer.old }
     requires sizes { (W.page_size writer.old ≡ base.size) × (W.initial writer.old ≡ base.pages) }
     requires marks { (length recorded.old ≡ base.pages) × (W.total writer.old ≡ marked_count recorded.old) }
-    requires changes { AreChanges base.pages (C.numbers changes.now) }
+    requires pages { AreChanges base.pages (N.numbers pages.now) }
     requires buffer { (length buffer.old ≡ base.size) × (base.size ≤ 65536) }
     requires recorded { IsTrue D.tells →
         AreRecorded recorded.old (records_in (W.safe writer.old) (W.waiting writer.old) (D.reads disk.old)) }
@@ -89,7 +89,7 @@ fn keep_batch<D: Disk, W: RecordWriter, C: Changes>(
         AsLeft (W.left writer.new) (W.beside writer.new) (D.reads disk.new) (D.images disk.new)) }
     ensures recorded { OnOk result (IsTrue D.tells →
         AreRecorded recorded.new (records_in (W.safe writer.new) (W.waiting writer.new) (D.reads disk.new))) }
-    ensures marks { OnOk result (HasMarked (C.numbers changes.now) (length (C.numbers changes.now)) recorded.old recorded.new) }
+    ensures marks { OnOk result (HasMarked (N.numbers pages.now) (length (N.numbers pages.now)) recorded.old recorded.new) }
     ensures total { OnOk result (W.total writer.new ≡ marked_count recorded.new) }
     ensures none { OnOk result (W.count writer.new ≡ 0 → recorded.new ≡ recorded.old) }
     ensures stage { OnOk result ((W.stage writer.new ≡ Stage.Filling) × W.is_small writer.new) }
@@ -100,8 +100,8 @@ fn keep_batch<D: Disk, W: RecordWriter, C: Changes>(
     ensures fresh { IsTrue D.tells → LeavesOnly D.moment D.since disk.old disk.new (From SameFresh (D.images disk.old)) }
     ensures cause { HasCause (D.faults disk.old) (D.faults disk.new) result }
 {
-    for k in 0..changes.len() {
-        let n = changes.number(k);
+    for k in 0..pages.len() {
+        let n = pages.number(k);
         if recorded.has(n) {
             continue;
         }
@@ -110,13 +110,13 @@ fn keep_batch<D: Disk, W: RecordWriter, C: Changes>(
     Ok(())
 }
 
-/// Puts the records of the changed pages that have none behind an open gate, in one segment of the journal, and marks these
-/// pages. Where each has its record, no call is made. The buffer has the length of a page.
-pub fn guard_batch<D: Disk, W: RecordWriter, C: Changes>(
+/// Puts the records of those of these pages that have none behind an open gate, in one segment of the journal, and marks these
+/// pages. None need be changed yet: a record holds what its page had at the start. Where each has its record, no call is made. The buffer has the length of a page.
+pub fn guard_batch<D: Disk, W: RecordWriter, N: PageNumbers>(
     disk: &mut D,
     writer: &mut W,
     recorded: &mut PageMarks,
-    changes: &C,
+    pages: &N,
     buffer: &mut [u8],
 ) -> Result<(), Failed>
     ghost base: { Base }
@@ -126,13 +126,13 @@ pub fn guard_batch<D: Disk, W: RecordWriter, C: Changes>(
         (W.is_small writer.old) }
     requires batches { IsTrue D.tells → HasBatches base recorded.old (W.safe writer.old) (W.waiting writer.old) (W.left writer.old)
         (W.beside writer.old) (D.reads disk.old) (D.images disk.old) }
-    requires changes { AreChanges base.pages (C.numbers changes.now) }
+    requires pages { AreChanges base.pages (N.numbers pages.now) }
     requires buffer { (length buffer.old ≡ base.size) × (base.size ≤ 65536) }
     ensures ready { OnOk result (IsReady recorded.new (W.is_new writer.new) (W.stage writer.new) (W.count writer.new) (W.total writer.new)
         (W.is_small writer.new)) }
     ensures batches { OnOk result (IsTrue D.tells → HasBatches base recorded.new (W.safe writer.new) (W.waiting writer.new) (W.left writer.new)
         (W.beside writer.new) (D.reads disk.new) (D.images disk.new)) }
-    ensures marks { OnOk result (HasMarked (C.numbers changes.now) (length (C.numbers changes.now)) recorded.old recorded.new) }
+    ensures marks { OnOk result (HasMarked (N.numbers pages.now) (length (N.numbers pages.now)) recorded.old recorded.new) }
     ensures sizes { (W.page_size writer.new ≡ base.size) × (W.initial writer.new ≡ base.pages) }
     ensures buffer { length buffer.new ≡ length buffer.old }
     ensures main { OnOk result (IsTrue D.tells → (D.reads disk.new).main ≡ (D.reads disk.old).main) }
@@ -140,11 +140,11 @@ pub fn guard_batch<D: Disk, W: RecordWriter, C: Changes>(
     ensures fresh { IsTrue D.tells → LeavesOnly D.moment D.since disk.old disk.new (From SameFresh (D.images disk.old)) }
     ensures cause { HasCause (D.faults disk.old) (D.faults disk.new) result }
 {
-    if are_marked(recorded, changes) {
+    if are_marked(recorded, pages) {
         return Ok(());
     }
     begin_segment(disk, writer, recorded)?;
-    keep_batch(disk, writer, recorded, changes, buffer)?;
+    keep_batch(disk, writer, recorded, pages, buffer)?;
     open(disk, writer)?;
     Ok(())
 }

@@ -10,6 +10,8 @@
 //! 1. The journal is made before anything else is written (`start: facts, none`).
 //! 2. Before a page is changed for the first time, the stored bytes that it had at the start stand in a record; no page has
 //!    two (`keep_old: fresh, one_more`).
+//!    A record may come long before that change, with those of other pages behind one gate, and a page with a record need never be
+//!    changed: laying it back writes what is there (`guard_ahead: batches, marks`).
 //! 3. A page of Main is written only where its record stands behind an open gate. Whatever becomes of that write, the facts
 //!    stand (`write_page: behind_gate, facts`).
 //! 4. Changed pages may be written before the commit, in batches under the same rule: the pages of a batch that have no record get
@@ -30,6 +32,7 @@
 //! each page is sealed with bytes of its own (`OwnDraws`).
 #![tactic(auto)]
 
+mod ahead;
 mod batches;
 mod changes;
 mod committing;
@@ -38,15 +41,14 @@ mod journal;
 mod marks;
 mod recording;
 mod steps;
-#[cfg(test)]
-mod tests;
 mod writer;
 
+pub use ahead::{PageRun, guard_ahead};
 pub use batches::{end_batches, undo_batches, write_batch};
-pub use changes::{Changes, DrawFailed};
+pub use changes::{Changes, DrawFailed, PageNumbers};
 pub use committing::CommitFault;
 pub use guarding::guard_batch;
-pub use marks::PageMarks;
+pub use marks::{PageMarks, mark_pages};
 pub use recording::keep_marked;
 pub use rollback_journal::Stage;
 pub use steps::{abandon, close, finish, keep_old, next, open, read_page, start, write_page};

@@ -1,7 +1,10 @@
 // Which pages of a database are marked, as those that were changed, or those that have a record.
 ghost use Rattle.std.specs.Prelude.{◌≡◌, ◌+◌, ◌-◌, ◌^◌, ◌<◌, ◌≤◌, Bool, List, false, length, replicate, IfOk, IsFalse};
+ghost use Rattle.transaction.specs.Batches.{HasMarked};
+ghost use Rattle.transaction.specs.Commit.{AreChanges};
 ghost use Rattle.transaction.specs.Marks.{is_marked, marked_count, with_mark};
 
+use crate::PageNumbers;
 use edge_model::OutOfMemory;
 use std::alloc::Global;
 use std::marker::Model;
@@ -58,5 +61,18 @@ impl PageMarks {
     {
         self.marks[n as usize - 1] = true;
         self.count += 1;
+    }
+}
+
+/// Marks those of these pages that are not marked.
+pub fn mark_pages<N: PageNumbers>(marks: &mut PageMarks, pages: &N)
+    requires { AreChanges (length marks.old) (N.numbers pages.now) }
+    ensures { HasMarked (N.numbers pages.now) (length (N.numbers pages.now)) marks.old marks.new }
+{
+    for k in 0..pages.len() {
+        let n = pages.number(k);
+        if !marks.has(n) {
+            marks.put(n);
+        }
     }
 }

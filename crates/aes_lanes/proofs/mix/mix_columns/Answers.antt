@@ -1,6 +1,7 @@
-use Rattle.std.proofs.Common.{ℕ, ap, ◌∙◌}
+use Rattle.std.proofs.Common.{ℕ, [], ◌∷◌, ap, ◌∙◌, arith}
 use Rattle.std.specs.Prelude.{bit_xor}
 use Rattle.aes_block.specs.Field.{gf_mul}
+use Rattle.aes_block.specs.Aes.{mix_columns}
 use Rattle.aes_lanes.specs.Planes.{byte_in}
 use Rattle.aes_lanes.proofs.RowFacts.{byte_in-lt}
 use Rattle.aes_lanes.proofs.MatrixFacts.{mix_row0, mix_row1, mix_row2, mix_row3}
@@ -29,3 +30,27 @@ returns-clause-bytes c k j hk hj = record {
       ∙ mix_row3 (byte_in c.args.s.r0 k j) (byte_in c.args.s.r1 k j) (byte_in c.args.s.r2 k j) (byte_in c.args.s.r3 k j) (byte_in-lt c.args.s.r0 k j)
       (byte_in-lt c.args.s.r1 k j) (byte_in-lt c.args.s.r2 k j) (byte_in-lt c.args.s.r3 k j);
 }
+
+pub returns-clause-blocks : goal.returns-clause-blocks
+unfolding mix_columns
+returns-clause-blocks c j hj =
+    let m0 = returns-clause-bytes c 0 j (omega arith) hj in
+    let m1 = returns-clause-bytes c 1 j (omega arith) hj in
+    let m2 = returns-clause-bytes c 2 j (omega arith) hj in
+    let m3 = returns-clause-bytes c 3 j (omega arith) hj in
+    λ i. m0.r0 i
+    ∷ m0.r1 i
+    ∷ m0.r2 i
+    ∷ m0.r3 i
+    ∷ m1.r0 i
+    ∷ m1.r1 i
+    ∷ m1.r2 i
+    ∷ m1.r3 i
+    ∷ m2.r0 i
+    ∷ m2.r1 i
+    ∷ m2.r2 i
+    ∷ m2.r3 i
+    ∷ m3.r0 i
+    ∷ m3.r1 i
+    ∷ m3.r2 i
+    ∷ m3.r3 i ∷ []

@@ -11,12 +11,23 @@ use Rattle.make_job.proofs.job.make.Goals as goal
 pub returns-in_err-made-clause-any_moment : goal.returns-in_err-made-clause-any_moment
 returns-in_err-made-clause-any_moment g c told =
     let d = g.D.Disk in
+    let n = g.E.Entropy in
     let met = g.met.D.Disk in
     let old = c.args.disk.now in
     let mid = c.look_for_files.new.disk in
+    let keys = c.new-codec.result in
+    let salt = c.in_ok-salt.salt in
+    let before = n.drawn c.args.entropy.now in
+    let after = n.drawn c.publish_rows.new.entropy in
     let first = read_leaves d.reads d.images d.moment d.since met.only_now met.counts_now old mid (c.look_for_files.ensures.read told) in
     either_then d.reads d.images d.moment d.since met.only_now met.counts_now old mid c.publish_rows.new.disk first _ _
-    (told_as c.args.profile c.args.secret.now c.in_ok-salt.salt (λ k file. IsMadeUnder k c.args.rows file) c.new-codec.result (search rules)) (c.publish_rows.ensures.any_moment told)
+    (λ file has. (
+      told_as c.args.profile c.args.secret.now salt (λ k l. IsMadeUnder k c.args.rows l) keys (search rules) file has.0,
+      λ tell. subst (λ (k : FileKeys). HasOwnDraws k file (drop (length before) after))
+          (keys_are c.args.profile c.args.secret.now salt file keys (search rules) has.0.salt)
+          (drawn_with keys file salt before (n.drawn c.draw_salt.new.entropy) after (search rules) (ap (λ (k : FileKeys). k.salt) c.new-codec.ensures) has.0.salt
+          (c.in_ok-salt.ensures.drawn tell) (c.publish_rows.ensures.grown tell) (has.1 tell)),
+    )) (c.publish_rows.ensures.any_moment told)
 
 pub returns-in_err-made-clause-only_old : goal.returns-in_err-made-clause-only_old
 returns-in_err-made-clause-only_old g c =
@@ -57,9 +68,20 @@ returns-clause-own_draws g c told tell =
 pub returns-clause-any_moment : goal.returns-clause-any_moment
 returns-clause-any_moment g c told =
     let d = g.D.Disk in
+    let n = g.E.Entropy in
     let met = g.met.D.Disk in
     let old = c.args.disk.now in
     let mid = c.look_for_files.new.disk in
+    let keys = c.new-codec.result in
+    let salt = c.in_ok-salt.salt in
+    let before = n.drawn c.args.entropy.now in
+    let after = n.drawn c.publish_rows.new.entropy in
     let first = read_leaves d.reads d.images d.moment d.since met.only_now met.counts_now old mid (c.look_for_files.ensures.read told) in
     either_then d.reads d.images d.moment d.since met.only_now met.counts_now old mid c.publish_rows.new.disk first _ _
-    (told_as c.args.profile c.args.secret.now c.in_ok-salt.salt (λ k file. IsMadeUnder k c.args.rows file) c.new-codec.result (search rules)) (c.publish_rows.ensures.any_moment told)
+    (λ file has. (
+      told_as c.args.profile c.args.secret.now salt (λ k l. IsMadeUnder k c.args.rows l) keys (search rules) file has.0,
+      λ tell. subst (λ (k : FileKeys). HasOwnDraws k file (drop (length before) after))
+          (keys_are c.args.profile c.args.secret.now salt file keys (search rules) has.0.salt)
+          (drawn_with keys file salt before (n.drawn c.draw_salt.new.entropy) after (search rules) (ap (λ (k : FileKeys). k.salt) c.new-codec.ensures) has.0.salt
+          (c.in_ok-salt.ensures.drawn tell) (c.publish_rows.ensures.grown tell) (has.1 tell)),
+    )) (c.publish_rows.ensures.any_moment told)

@@ -1,11 +1,11 @@
-use Rattle.std.proofs.Common.{◌≡◌, inl, inr, ◌∙◌, ℕ, List, length, drop, ap, subst, sym}
+use Rattle.std.proofs.Common.{◌≡◌, inl, inr, ◌∙◌, ℕ, IsTrue, List, length, drop, ap, subst, sym}
 use Rattle.disk_side.specs.OnlyFresh.{IsFreshSynced}
 use Rattle.disk_side.specs.Place.{LeavesOld}
 use Rattle.disk_side.specs.Published.{IsOldOrPublished, IsPublished}
 use Rattle.edge_model.specs.Files.{bytes_of, renamed}
 use Rattle.edge_model.specs.Images.{Each, LeavesOnly}
 use Rattle.fresh_file.specs.Draws.{HasOwnDraws}
-use Rattle.fresh_file.proofs.PlaceLaws.{main_is, may_take, takes_place}
+use Rattle.fresh_file.proofs.PlaceLaws.{drawn_beside, main_is, may_take, takes_place}
 use Rattle.migrate_job.specs.Migrated.{IsMigrated}
 use Rattle.migrate_job.proofs.BesideLaws.{left_beside}
 use Rattle.page_codec.specs.Page.{keys_of}
@@ -68,21 +68,37 @@ returns-in-Ok-publish-clause-own_draws g c told tell =
 pub returns-in-Ok-publish-clause-any_moment : goal.returns-in-Ok-publish-clause-any_moment
 returns-in-Ok-publish-clause-any_moment g c told =
     let d = g.D.Disk in
+    let n = g.E.Entropy in
     let p = c.args.pager in
+    let mid = c.write_new.new.pager.disk.now in
     let new = c.publish.new.disk in
+    let before = n.drawn p.entropy.now in
+    let pages = opened_pages p.codec (main_of (d.reads p.disk.now)) p.count in
+    let own : List ℕ → Type 0 = λ file. IsTrue n.tells → HasOwnDraws (keys_of c.args.profile c.args.secret.now file) file (drop (length before) (n.drawn c.into_parts-disk.result.1.now)) in
+    let written = drawn_beside d.reads d.images (IsMigrated c.args.profile c.args.secret.now p.header pages) own mid (c.in-Ok.ensures.written told)
+    (λ file is tell. subst (λ x. HasOwnDraws (keys_of c.args.profile c.args.secret.now file.bytes) file.bytes (drop (length before) (n.drawn x)))
+    (sym c.into_parts-disk.ensures.entropy.1) (c.in-Ok.ensures.own_draws told tell file.bytes (ap (λ (f : _). bytes_of f) is))) in
     inr (may_take d.reads d.images d.moment d.since g.met.D.Disk.only_now g.met.D.Disk.counts_now
-    (IsMigrated c.args.profile c.args.secret.now p.header (opened_pages p.codec (main_of (d.reads p.disk.now)) p.count)) p.disk.now c.write_new.new.pager.disk.now new
-    (c.in-Ok.ensures.written told) (left_beside d.reads d.images d.moment d.since told c.write_new.ensures.beside)
+    (λ file. IsMigrated c.args.profile c.args.secret.now p.header pages file × own file) p.disk.now mid new
+    written (left_beside d.reads d.images d.moment d.since told c.write_new.ensures.beside)
     (subst (λ x. LeavesOnly d.moment d.since x new (IsOldOrPublished (d.images x) (d.reads x).fresh)) c.into_parts-disk.ensures.disk.1 (c.publish.ensures.any_moment told)))
 
 pub returns-in-Err-publish-clause-any_moment : goal.returns-in-Err-publish-clause-any_moment
 returns-in-Err-publish-clause-any_moment g c told =
     let d = g.D.Disk in
+    let n = g.E.Entropy in
     let p = c.args.pager in
+    let mid = c.write_new.new.pager.disk.now in
     let new = c.publish.new.disk in
+    let before = n.drawn p.entropy.now in
+    let pages = opened_pages p.codec (main_of (d.reads p.disk.now)) p.count in
+    let own : List ℕ → Type 0 = λ file. IsTrue n.tells → HasOwnDraws (keys_of c.args.profile c.args.secret.now file) file (drop (length before) (n.drawn c.into_parts-disk.result.1.now)) in
+    let written = drawn_beside d.reads d.images (IsMigrated c.args.profile c.args.secret.now p.header pages) own mid (c.in-Ok.ensures.written told)
+    (λ file is tell. subst (λ x. HasOwnDraws (keys_of c.args.profile c.args.secret.now file.bytes) file.bytes (drop (length before) (n.drawn x)))
+    (sym c.into_parts-disk.ensures.entropy.1) (c.in-Ok.ensures.own_draws told tell file.bytes (ap (λ (f : _). bytes_of f) is))) in
     inr (may_take d.reads d.images d.moment d.since g.met.D.Disk.only_now g.met.D.Disk.counts_now
-    (IsMigrated c.args.profile c.args.secret.now p.header (opened_pages p.codec (main_of (d.reads p.disk.now)) p.count)) p.disk.now c.write_new.new.pager.disk.now new
-    (c.in-Ok.ensures.written told) (left_beside d.reads d.images d.moment d.since told c.write_new.ensures.beside)
+    (λ file. IsMigrated c.args.profile c.args.secret.now p.header pages file × own file) p.disk.now mid new
+    written (left_beside d.reads d.images d.moment d.since told c.write_new.ensures.beside)
     (subst (λ x. LeavesOnly d.moment d.since x new (IsOldOrPublished (d.images x) (d.reads x).fresh)) c.into_parts-disk.ensures.disk.1 (c.publish.ensures.any_moment told)))
 
 pub returns-in-Err-clause-any_moment : goal.returns-in-Err-clause-any_moment

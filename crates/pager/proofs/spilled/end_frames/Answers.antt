@@ -27,7 +27,7 @@ end_batches-requires g c κs within =
       (
         search rules,
         (
-          search rules,
+          search rules depth 8 fits 4000,
           (
             r.1.0,
             (
@@ -61,7 +61,7 @@ returns-clause-changed g c told read layout =
     ap (λ (k : ℕ). k * c.profile.result.now.reserve) c.len.ensures.value ∙ ap (λ (p : Profile). length changed.numbers * p.reserve) c.profile.ensures.value in
     let drawn : IsDrawn g.E.Entropy.tells (g.E.Entropy.drawn c.args.entropy.now) (g.E.Entropy.drawn c.draw_for.new.entropy) (length changed.numbers * codec.profile.reserve) (take (c.len.result * c.profile.result.now.reserve) c.draw_for.new.draws) =
     subst (λ (k : ℕ). IsDrawn g.E.Entropy.tells (g.E.Entropy.drawn c.args.entropy.now) (g.E.Entropy.drawn c.draw_for.new.entropy) k (take (c.len.result * c.profile.result.now.reserve) c.draw_for.new.draws)) many c.in-Ok.ensures.drawn in
-    pages_ended g.start read codec c.args.recorded.now changed (take (c.len.result * c.profile.result.now.reserve) c.draw_for.new.draws) (main_of (g.D.Disk.reads c.args.disk.now)) (main_of (g.D.Disk.reads c.end_batches.new.disk))
+    pages_ended g.start read codec c.args.written.now changed (take (c.len.result * c.profile.result.now.reserve) c.draw_for.new.draws) (main_of (g.D.Disk.reads c.args.disk.now)) (main_of (g.D.Disk.reads c.end_batches.new.disk))
     layout r.0.0 c.len.ensures.listing (are_changes changed g.start.base.pages c.len.ensures.listing r.0.1 r.1.1.1.1.0.pages) (c.in_ok-end_batches.ensures.changed told)
     g.E.Entropy.tells (g.E.Entropy.drawn c.args.entropy.now) (g.E.Entropy.drawn c.draw_for.new.entropy) drawn way.pages
 
@@ -77,7 +77,7 @@ returns-in_err-end_batches-clause-any_moment g c told read layout =
     subst (λ (k : ℕ). IsDrawn g.E.Entropy.tells (g.E.Entropy.drawn c.args.entropy.now) (g.E.Entropy.drawn c.draw_for.new.entropy) k (take (c.len.result * c.profile.result.now.reserve) c.draw_for.new.draws)) many c.in-Ok.ensures.drawn in
     ⊎_elim (λ old. inl old) (λ new. inr (
       new.0,
-      pages_ended g.start read codec c.args.recorded.now changed (take (c.len.result * c.profile.result.now.reserve) c.draw_for.new.draws) (main_of (g.D.Disk.reads c.args.disk.now)) new.0
+      pages_ended g.start read codec c.args.written.now changed (take (c.len.result * c.profile.result.now.reserve) c.draw_for.new.draws) (main_of (g.D.Disk.reads c.args.disk.now)) new.0
           layout r.0.0 c.len.ensures.listing (are_changes changed g.start.base.pages c.len.ensures.listing r.0.1 r.1.1.1.1.0.pages) new.1
           g.E.Entropy.tells (g.E.Entropy.drawn c.args.entropy.now) (g.E.Entropy.drawn c.draw_for.new.entropy) drawn way.pages,
       new.2,
@@ -95,7 +95,7 @@ returns-clause-any_moment g c told read layout =
     subst (λ (k : ℕ). IsDrawn g.E.Entropy.tells (g.E.Entropy.drawn c.args.entropy.now) (g.E.Entropy.drawn c.draw_for.new.entropy) k (take (c.len.result * c.profile.result.now.reserve) c.draw_for.new.draws)) many c.in-Ok.ensures.drawn in
     ⊎_elim (λ old. inl old) (λ new. inr (
       new.0,
-      pages_ended g.start read codec c.args.recorded.now changed (take (c.len.result * c.profile.result.now.reserve) c.draw_for.new.draws) (main_of (g.D.Disk.reads c.args.disk.now)) new.0
+      pages_ended g.start read codec c.args.written.now changed (take (c.len.result * c.profile.result.now.reserve) c.draw_for.new.draws) (main_of (g.D.Disk.reads c.args.disk.now)) new.0
           layout r.0.0 c.len.ensures.listing (are_changes changed g.start.base.pages c.len.ensures.listing r.0.1 r.1.1.1.1.0.pages) new.1
           g.E.Entropy.tells (g.E.Entropy.drawn c.args.entropy.now) (g.E.Entropy.drawn c.draw_for.new.entropy) drawn way.pages,
       new.2,

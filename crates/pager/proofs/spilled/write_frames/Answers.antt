@@ -1,7 +1,8 @@
-use Rattle.std.proofs.Common.{◌≡◌, ◌∙◌, ◌*◌, ℕ, length, take, refl, ap, subst, arith, rules}
+use Rattle.std.proofs.Common.{◌≡◌, ◌∙◌, ◌*◌, ℕ, List, length, take, refl, ap, subst, arith, rules}
 use Rattle.cipher_profile.specs.declared.profile.Profile.{Profile}
 use Rattle.edge_model.specs.Moments.{started}
 use Rattle.rollback_journal.specs.Playing.{main_of}
+use Rattle.transaction.specs.Batches.{HasMarked}
 use Rattle.transaction.specs.Database.{HoldsOld}
 use Rattle.transaction.proofs.Batched.{batches_hold_old}
 use Rattle.pager.specs.Changed.{IsDrawn}
@@ -9,10 +10,10 @@ use Rattle.pager.proofs.EndingLemmas.{are_changes, listed_small}
 use Rattle.pager.proofs.UnderWayLemmas.{pages_after}
 use Rattle.pager.proofs.spilled.write_frames.Goals as goal
 
--- the conditions, by their places: sizes, journal, some, plain, room, ready, under_way
+-- the conditions, by their places: sizes, journal, some, marks, plain, room, ready, under_way
 pub returns-in-Err-clause-any_moment : goal.returns-in-Err-clause-any_moment
 returns-in-Err-clause-any_moment g c told =
-    started g.met.D.Disk.only_now c.args.disk.now (HoldsOld g.start.base) (λ d here. batches_hold_old g.start.base _ _ _ _ _ _ _ (c.requires.1.1.1.1.1.1.1.1 told).batches d here)
+    started g.met.D.Disk.only_now c.args.disk.now (HoldsOld g.start.base) (λ d here. batches_hold_old g.start.base _ _ _ _ _ _ _ (c.requires.1.1.1.1.1.1.1.1.1 told).batches d here)
 
 pub write_batch-requires : goal.write_batch-requires
 write_batch-requires g c κs within =
@@ -23,15 +24,15 @@ write_batch-requires g c κs within =
       (
         search rules,
         (
-          search rules,
+          search rules depth 8 fits 4000,
           (
             r.1.0,
             (
-              r.1.1.1.1.1.0.0 ∙ r.1.0.1,
+              r.1.1.1.1.1.1.0.0 ∙ r.1.0.1,
               (
-                r.1.1.1.1.1.0.1,
+                r.1.1.1.1.1.1.0.1,
                 (
-                  λ told. (r.1.1.1.1.1.1 told).batches,
+                  λ told. (r.1.1.1.1.1.1.1 told).batches,
                   (
                     are_changes c.args.changed.now g.start.base.pages c.len.ensures.listing r.0.1 r.1.1.0,
                     (r.0.2, omega (arith, small, size, r.0.0), r.0.0),
@@ -47,7 +48,7 @@ write_batch-requires g c κs within =
 pub returns-clause-under_way : goal.returns-clause-under_way
 returns-clause-under_way g c told =
     let r = c.requires.1.1 in
-    let way = r.1.1.1.1.1.1 told in
+    let way = r.1.1.1.1.1.1.1 told in
     let ok = c.in_ok-write_batch.ensures in
     let codec = c.args.codec.now in
     let changed = c.args.changed.now in
@@ -55,10 +56,11 @@ returns-clause-under_way g c told =
     ap (λ (k : ℕ). k * c.profile.result.now.reserve) c.len.ensures.value ∙ ap (λ (p : Profile). length changed.numbers * p.reserve) c.profile.ensures.value in
     let drawn : IsDrawn g.E.Entropy.tells (g.E.Entropy.drawn c.args.entropy.now) (g.E.Entropy.drawn c.draw_for.new.entropy) (length changed.numbers * codec.profile.reserve) (take (c.len.result * c.profile.result.now.reserve) c.draw_for.new.draws) =
     subst (λ (k : ℕ). IsDrawn g.E.Entropy.tells (g.E.Entropy.drawn c.args.entropy.now) (g.E.Entropy.drawn c.draw_for.new.entropy) k (take (c.len.result * c.profile.result.now.reserve) c.draw_for.new.draws)) many c.in-Ok.ensures.drawn in
+    let marked = subst (λ (ns : List ℕ). HasMarked ns (length ns) c.args.written.now c.mark_pages.new.marks) c.write_batch.ensures.numbers c.mark_pages.ensures in
     record {
       batches = ok.batches told;
-      pages = pages_after g.start codec codec c.args.recorded.now changed (take (c.len.result * c.profile.result.now.reserve) c.draw_for.new.draws) (main_of (g.D.Disk.reads c.args.disk.now)) (main_of (g.D.Disk.reads c.write_batch.new.disk))
-          refl r.0.0 c.len.ensures.listing (are_changes changed g.start.base.pages c.len.ensures.listing r.0.1 r.1.1.0) (ok.written told) c.write_batch.new.recorded ok.marks
+      pages = pages_after g.start codec codec c.args.written.now changed (take (c.len.result * c.profile.result.now.reserve) c.draw_for.new.draws) (main_of (g.D.Disk.reads c.args.disk.now)) (main_of (g.D.Disk.reads c.write_batch.new.disk))
+          refl r.0.0 c.len.ensures.listing (are_changes changed g.start.base.pages c.len.ensures.listing r.0.1 r.1.1.0) (ok.written told) c.mark_pages.new.marks marked
           g.E.Entropy.tells (g.E.Entropy.drawn c.args.entropy.now) (g.E.Entropy.drawn c.draw_for.new.entropy) drawn way.pages;
     }
 

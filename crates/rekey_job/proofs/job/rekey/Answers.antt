@@ -1,4 +1,4 @@
-use Rattle.std.proofs.Common.{◌≡◌, inl, ◌≤◌, ℕ, true, false, length, drop, Err, refl, sym, ap, subst, ◌∙◌, rules}
+use Rattle.std.proofs.Common.{◌≡◌, inl, ◌≤◌, ℕ, true, false, IsTrue, length, drop, Err, refl, sym, ap, subst, ◌∙◌, rules}
 use Rattle.edge_model.specs.Causes.{Rose}
 use Rattle.edge_model.specs.Images.{Each, From, LeavesOnly}
 use Rattle.edge_model.specs.Moments.{and_then, then_from, weaker}
@@ -59,10 +59,15 @@ returns-in-Ok-clause-any_moment g c told =
     let file = c.check_pages.ensures.file in
     let read = c.check_pages.ensures.disk.only_read told in
     let base = base_of p.codec (main_of (d.reads p.disk.now)) p.count in
-    then_changed d.moment d.since base (IsRekeyed p.codec c.args.write p.count (main_of (d.reads p.disk.now))) p.disk.now q.disk.now end
+    let after = g.E.Entropy.drawn c.rekey_clean.result.1.now in
+    let drawn = drop (length (g.E.Entropy.drawn p.entropy.now)) after in
+    let clean = subst (λ (e : _). LeavesChanged d.moment d.since (base_of q.codec (main_of (d.reads q.disk.now)) q.count)
+    (λ main. IsRekeyed q.codec c.args.write q.count (main_of (d.reads q.disk.now)) main × (IsTrue g.E.Entropy.tells → FileDraws c.args.write main (is_number q.count) 0 (drop (length (g.E.Entropy.drawn e)) after))) q.disk.now end)
+    c.check_pages.ensures.entropy.value (c.rekey_clean.ensures.any_moment told) in
+    then_changed d.moment d.since base (λ main. IsRekeyed p.codec c.args.write p.count (main_of (d.reads p.disk.now)) main × (IsTrue g.E.Entropy.tells → FileDraws c.args.write main (is_number p.count) 0 drawn)) p.disk.now q.disk.now end
     (while_read d.reads d.images d.moment d.since g.met.D.Disk.counts_now g.met.D.Disk.only_now (HoldsOld base) p.disk.now q.disk.now (c.requires.begun told).holds read)
-    (by_names (λ k f n. LeavesChanged d.moment d.since (base_of k f n) (IsRekeyed k c.args.write n f) q.disk.now end)
-    p.codec q.codec (d.reads p.disk.now) (d.reads q.disk.now) p.count q.count file.0 read.stays file.1 (c.rekey_clean.ensures.any_moment told))
+    (by_names (λ k f n. LeavesChanged d.moment d.since (base_of k f n) (λ main. IsRekeyed k c.args.write n f main × (IsTrue g.E.Entropy.tells → FileDraws c.args.write main (is_number n) 0 drawn)) q.disk.now end)
+    p.codec q.codec (d.reads p.disk.now) (d.reads q.disk.now) p.count q.count file.0 read.stays file.1 clean)
 
 pub returns-in-Ok-clause-one_new : goal.returns-in-Ok-clause-one_new
 returns-in-Ok-clause-one_new g c =

@@ -20,7 +20,7 @@ loop-done-init g c =
     let t = c.args.txn.now in
     record {
       seen = λ told n num. none_seen n (is_zeroed c.args.leaves.now.leaves n) (replicate (usable t.write.profile) 0)
-          ((seen_pages t.read t.write (main_of (g.D.Disk.reads t.disk.now)) t.count t.recorded t.changed.held).page n) (number_in t.count n num).0;
+          ((seen_pages t.read t.write (main_of (g.D.Disk.reads t.disk.now)) t.count t.written t.changed.held).page n) (number_in t.count n num).0;
       touched = λ n one le. absurd (omega (arith, one, le));
       ready = c.requires.1.1.1.0;
       under_way = c.requires.1.1.1.1.0;
@@ -40,20 +40,20 @@ loop-done-preserved g c =
     let ok = c.in-Ok.ensures in
     record {
       seen = λ told n num. more_seen n done (is_zeroed c.args.leaves.now.leaves) (replicate (usable t.write.profile) 0)
-          ((seen_pages t.read t.write (main_of (g.D.Disk.reads t.disk.now)) t.count t.recorded t.changed.held).page n)
-          ((seen_pages m.read m.write (main_of (g.D.Disk.reads m.disk.now)) m.count m.recorded m.changed.held).page n) _
+          ((seen_pages t.read t.write (main_of (g.D.Disk.reads t.disk.now)) t.count t.written t.changed.held).page n)
+          ((seen_pages m.read m.write (main_of (g.D.Disk.reads m.disk.now)) m.count m.written m.changed.held).page n) _
           (inv.seen told n num)
           (ok.seen told n
           ∙ ap (λ (k : FileKeys). if (n == done + 1) && is_zeroed c.args.leaves.now.leaves (done + 1) then replicate (usable k.profile) 0
-          else (seen_pages m.read m.write (main_of (g.D.Disk.reads m.disk.now)) m.count m.recorded m.changed.held).page n) inv.file.1);
-      touched = more_touched m.count done m.recorded c.reseal.new.txn.recorded m.changed.held c.reseal.new.txn.changed.held (omega (arith, inv.file.2)) inv.touched ok.touched;
+          else (seen_pages m.read m.write (main_of (g.D.Disk.reads m.disk.now)) m.count m.written m.changed.held).page n) inv.file.1);
+      touched = more_touched m.count done m.written c.reseal_next.new.txn.written m.changed.held c.reseal_next.new.txn.changed.held (omega (arith, inv.file.2)) inv.touched ok.touched;
       ready = ok.ready;
       under_way = ok.under_way;
-      any_moment = λ told. and_then (inv.any_moment told) (c.reseal.ensures.any_moment told);
-      fresh = λ told. then_from g.met.D.Disk.counts_now (λ a b d ab bd. bd ∙ ab) (inv.fresh told) (c.reseal.ensures.fresh told);
-      names = (c.reseal.ensures.names.0 ∙ inv.names.0, c.reseal.ensures.names.1 ∙ inv.names.1);
-      later = (omega (arith, inv.later.0, c.reseal.ensures.later.0), omega (arith, inv.later.1, c.reseal.ensures.later.1));
-      file = (c.reseal.ensures.file.0 ∙ inv.file.0, c.reseal.ensures.file.1 ∙ inv.file.1, c.reseal.ensures.file.2 ∙ inv.file.2);
+      any_moment = λ told. and_then (inv.any_moment told) (c.reseal_next.ensures.any_moment told);
+      fresh = λ told. then_from g.met.D.Disk.counts_now (λ a b d ab bd. bd ∙ ab) (inv.fresh told) (c.reseal_next.ensures.fresh told);
+      names = (c.reseal_next.ensures.names.0 ∙ inv.names.0, c.reseal_next.ensures.names.1 ∙ inv.names.1);
+      later = (omega (arith, inv.later.0, c.reseal_next.ensures.later.0), omega (arith, inv.later.1, c.reseal_next.ensures.later.1));
+      file = (c.reseal_next.ensures.file.0 ∙ inv.file.0, c.reseal_next.ensures.file.1 ∙ inv.file.1, c.reseal_next.ensures.file.2 ∙ inv.file.2);
     }
 
 pub returns-in-Err-clause-disk_fault : goal.returns-in-Err-clause-disk_fault
@@ -63,10 +63,10 @@ pub returns-in-Err-clause-entropy_fault : goal.returns-in-Err-clause-entropy_fau
 returns-in-Err-clause-entropy_fault g c is = omega (arith, c.in-Err.ensures.entropy_fault is, c.loop-done.invariant.later.1)
 
 pub returns-in-Err-clause-any_moment : goal.returns-in-Err-clause-any_moment
-returns-in-Err-clause-any_moment g c told = and_then (c.loop-done.invariant.any_moment told) (c.reseal.ensures.any_moment told)
+returns-in-Err-clause-any_moment g c told = and_then (c.loop-done.invariant.any_moment told) (c.reseal_next.ensures.any_moment told)
 
 pub returns-in-Err-clause-fresh : goal.returns-in-Err-clause-fresh
-returns-in-Err-clause-fresh g c told = then_from g.met.D.Disk.counts_now (λ a b d ab bd. bd ∙ ab) (c.loop-done.invariant.fresh told) (c.reseal.ensures.fresh told)
+returns-in-Err-clause-fresh g c told = then_from g.met.D.Disk.counts_now (λ a b d ab bd. bd ∙ ab) (c.loop-done.invariant.fresh told) (c.reseal_next.ensures.fresh told)
 
 pub returns-clause-seen : goal.returns-clause-seen
 returns-clause-seen g c told n num =
@@ -74,15 +74,15 @@ returns-clause-seen g c told n num =
     let within = number_in t.count n num in
     c.loop-done.invariant.seen told n num
     ∙ all_seen n c.loop-done.done (is_zeroed c.args.leaves.now.leaves n) (replicate (usable t.write.profile) 0)
-    ((seen_pages t.read t.write (main_of (g.D.Disk.reads t.disk.now)) t.count t.recorded t.changed.held).page n) (omega (arith, within.1))
+    ((seen_pages t.read t.write (main_of (g.D.Disk.reads t.disk.now)) t.count t.written t.changed.held).page n) (omega (arith, within.1))
 
 pub returns-clause-touched : goal.returns-clause-touched
 returns-clause-touched g c n num =
     let within = number_in c.args.txn.now.count n num in
     c.loop-done.invariant.touched n within.0 (omega (arith, within.1))
 
-pub reseal-requires : goal.reseal-requires
-reseal-requires g c κs within =
+pub reseal_next-requires : goal.reseal_next-requires
+reseal_next-requires g c κs within =
     let m = c.loop-done.txn in
     let done = c.loop-done.done in
     let inv = c.loop-done.invariant in
@@ -118,15 +118,15 @@ pub returns-in-Err-clause-asked : goal.returns-in-Err-clause-asked
 returns-in-Err-clause-asked g c = c.in-Err.ensures.asked
 
 pub returns-in-Err-clause-names : goal.returns-in-Err-clause-names
-returns-in-Err-clause-names g c = (c.reseal.ensures.names.0 ∙ c.loop-done.invariant.names.0, c.reseal.ensures.names.1 ∙ c.loop-done.invariant.names.1)
+returns-in-Err-clause-names g c = (c.reseal_next.ensures.names.0 ∙ c.loop-done.invariant.names.0, c.reseal_next.ensures.names.1 ∙ c.loop-done.invariant.names.1)
 
 pub returns-in-Err-clause-later : goal.returns-in-Err-clause-later
-returns-in-Err-clause-later g c = (omega (arith, c.loop-done.invariant.later.0, c.reseal.ensures.later.0), omega (arith, c.loop-done.invariant.later.1, c.reseal.ensures.later.1))
+returns-in-Err-clause-later g c = (omega (arith, c.loop-done.invariant.later.0, c.reseal_next.ensures.later.0), omega (arith, c.loop-done.invariant.later.1, c.reseal_next.ensures.later.1))
 
 pub returns-in-Err-clause-file : goal.returns-in-Err-clause-file
 returns-in-Err-clause-file g c =
     let inv = c.loop-done.invariant in
-    (c.reseal.ensures.file.0 ∙ inv.file.0, c.reseal.ensures.file.1 ∙ inv.file.1, c.reseal.ensures.file.2 ∙ inv.file.2)
+    (c.reseal_next.ensures.file.0 ∙ inv.file.0, c.reseal_next.ensures.file.1 ∙ inv.file.1, c.reseal_next.ensures.file.2 ∙ inv.file.2)
 
 pub returns-clause-ready : goal.returns-clause-ready
 returns-clause-ready g c = c.loop-done.invariant.ready

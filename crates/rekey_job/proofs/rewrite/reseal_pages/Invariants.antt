@@ -10,19 +10,19 @@ use Rattle.transaction.specs.Facts.{SameFresh}
 use Rattle.rekey_job.specs.Rewritten.{is_zeroed}
 use Rattle.rekey_job.proofs.rewrite.reseal_pages.Given as goal
 
-abbrev pub ghost-reseal : goal.ghost-reseal
-ghost-reseal g a = g.start
+abbrev pub ghost-reseal_next : goal.ghost-reseal_next
+ghost-reseal_next g a = g.start
 
 -- The pages so far are written, the leaves among them as zeros.
 abbrev pub invariant-loop-done : goal.invariant-loop-done
 invariant-loop-done g l = record {
   seen : IsTrue g.D.Disk.tells → (n : ℕ) → is_number l.initial.txn.count n ≡ true
-      → (seen_pages l.txn.read l.txn.write (main_of (g.D.Disk.reads l.txn.disk.now)) l.txn.count l.txn.recorded l.txn.changed.held).page n
+      → (seen_pages l.txn.read l.txn.write (main_of (g.D.Disk.reads l.txn.disk.now)) l.txn.count l.txn.written l.txn.changed.held).page n
       ≡ (if nat_le n l.done && is_zeroed l.leaves.leaves n then replicate (usable l.initial.txn.write.profile) 0
-      else (seen_pages l.initial.txn.read l.initial.txn.write (main_of (g.D.Disk.reads l.initial.txn.disk.now)) l.initial.txn.count l.initial.txn.recorded l.initial.txn.changed.held).page n);
-  touched : (n : ℕ) → 1 ≤ n → n ≤ l.done → is_touched l.txn.recorded l.txn.changed.held n ≡ true;
+      else (seen_pages l.initial.txn.read l.initial.txn.write (main_of (g.D.Disk.reads l.initial.txn.disk.now)) l.initial.txn.count l.initial.txn.written l.initial.txn.changed.held).page n);
+  touched : (n : ℕ) → 1 ≤ n → n ≤ l.done → is_touched l.txn.written l.txn.changed.held n ≡ true;
   ready : IsReadyFor l.txn.recorded l.txn.writer;
-  under_way : IsTrue g.D.Disk.tells → IsUnderWay g.start l.txn.write l.txn.recorded l.txn.writer (g.D.Disk.reads l.txn.disk.now)
+  under_way : IsTrue g.D.Disk.tells → IsUnderWay g.start l.txn.write l.txn.recorded l.txn.written l.txn.writer (g.D.Disk.reads l.txn.disk.now)
       (g.D.Disk.images l.txn.disk.now) g.E.Entropy.tells (g.E.Entropy.drawn l.txn.entropy.now);
   any_moment : IsTrue g.D.Disk.tells → LeavesOnly g.D.Disk.moment g.D.Disk.since l.initial.txn.disk.now l.txn.disk.now (HoldsOld g.start.base);
   fresh : IsTrue g.D.Disk.tells → LeavesOnly g.D.Disk.moment g.D.Disk.since l.initial.txn.disk.now l.txn.disk.now (From SameFresh (g.D.Disk.images l.initial.txn.disk.now));

@@ -22,11 +22,11 @@ returns-in-Ok-clause-changed g c =
     let t = c.args.txn in
     let m = c.reseal_pages.new.txn in
     let ok = c.in-Ok.ensures in
-    let new = rewritten c.args.leaves.now.leaves (usable t.write.profile) (seen_pages t.read t.write (main_of (g.D.Disk.reads t.disk.now)) t.count t.recorded t.changed.held) in
+    let new = rewritten c.args.leaves.now.leaves (usable t.write.profile) (seen_pages t.read t.write (main_of (g.D.Disk.reads t.disk.now)) t.count t.written t.changed.held) in
     let main = main_of (g.D.Disk.reads c.finish.result.0.now) in
     let drawn = g.E.Entropy.drawn c.finish.result.1.now in
     on_ok_weaker c.finish.result.2 (λ has told. subst (λ (k : FileKeys). HasNewPages g.start k (λ n. true) new g.E.Entropy.tells drawn main) ok.file.1
-    (all_new g.start m.write (is_touched m.recorded m.changed.held) (seen_pages m.read m.write (main_of (g.D.Disk.reads m.disk.now)) m.count m.recorded m.changed.held).page new g.E.Entropy.tells drawn main
+    (all_new g.start m.write (is_touched m.written m.changed.held) (seen_pages m.read m.write (main_of (g.D.Disk.reads m.disk.now)) m.count m.written m.changed.held).page new g.E.Entropy.tells drawn main
     (λ n num. ok.touched n (subst (λ (p : ℕ). is_number p n ≡ true) (sym c.requires.1.1.0.1) num))
     (λ n num. ok.seen told n (subst (λ (p : ℕ). is_number p n ≡ true) (sym c.requires.1.1.0.1) num))
     (has told))) c.finish.ensures.changed
@@ -36,11 +36,11 @@ returns-in-Ok-clause-any_moment g c = λ told.
     let t = c.args.txn in
     let m = c.reseal_pages.new.txn in
     let ok = c.in-Ok.ensures in
-    let new = rewritten c.args.leaves.now.leaves (usable t.write.profile) (seen_pages t.read t.write (main_of (g.D.Disk.reads t.disk.now)) t.count t.recorded t.changed.held) in
+    let new = rewritten c.args.leaves.now.leaves (usable t.write.profile) (seen_pages t.read t.write (main_of (g.D.Disk.reads t.disk.now)) t.count t.written t.changed.held) in
     let drawn = g.E.Entropy.drawn c.finish.result.1.now in
     old_then (c.reseal_pages.ensures.any_moment told)
     (changed_weaker (λ main has. subst (λ (k : FileKeys). HasNewPages g.start k (λ n. true) new g.E.Entropy.tells drawn main) ok.file.1
-    (all_new g.start m.write (is_touched m.recorded m.changed.held) (seen_pages m.read m.write (main_of (g.D.Disk.reads m.disk.now)) m.count m.recorded m.changed.held).page new g.E.Entropy.tells drawn main
+    (all_new g.start m.write (is_touched m.written m.changed.held) (seen_pages m.read m.write (main_of (g.D.Disk.reads m.disk.now)) m.count m.written m.changed.held).page new g.E.Entropy.tells drawn main
     (λ n num. ok.touched n (subst (λ (p : ℕ). is_number p n ≡ true) (sym c.requires.1.1.0.1) num))
     (λ n num. ok.seen told n (subst (λ (p : ℕ). is_number p n ≡ true) (sym c.requires.1.1.0.1) num))
     has)) (c.finish.ensures.any_moment told))

@@ -31,7 +31,7 @@ rewrite-requires g c κs within =
             (
               e.ready,
               (
-                λ told. subst (λ (k : FileKeys). IsUnderWay g.start k t.recorded t.writer (d.reads t.disk.now) (d.images t.disk.now) g.E.Entropy.tells (g.E.Entropy.drawn t.entropy.now)) (sym e.file.1) (e.under_way told),
+                λ told. subst (λ (k : FileKeys). IsUnderWay g.start k t.recorded t.written t.writer (d.reads t.disk.now) (d.images t.disk.now) g.E.Entropy.tells (g.E.Entropy.drawn t.entropy.now)) (sym e.file.1) (e.under_way told),
                 λ told n num unzeroed. subst (λ (k : FileKeys). accepts k n (page_stored k g.start.base.start n) ≡ true) (sym e.file.0)
                     (subst (λ (l : List ℕ). accepts p.codec n (page_stored p.codec l n) ≡ true) (sym (r.1.1.1.1.1.0 told))
                     (all_accepted p.codec (main_of (d.reads p.disk.now)) p.count c.args.leaves.now.leaves (r.1.1.1.1.1.1.0 told) (r.1.1.1.1.1.1.1 told) n
@@ -51,7 +51,7 @@ returns-in-Ok-clause-changed g c =
     let e = c.in-Ok.ensures in
     let r = c.requires.1.1 in
     on_ok_weaker c.rewrite.result.2 (λ has told. from_begun g.start p.codec c.args.write (d.reads p.disk.now) p.count t.read t.write (d.reads t.disk.now) t.count
-    t.recorded c.args.leaves.now.leaves t.changed.held g.E.Entropy.tells (g.E.Entropy.drawn c.rewrite.result.1.now) (read_main (d.reads c.rewrite.result.0.now))
+    t.written c.args.leaves.now.leaves t.changed.held g.E.Entropy.tells (g.E.Entropy.drawn c.rewrite.result.1.now) (read_main (d.reads c.rewrite.result.0.now))
     r.0 r.1.0.1 (r.1.1.1.1.1.1.0 told) (r.1.1.1.1.1.1.1 told) e.file.0 e.file.1 (ap (λ (x : _). d.reads x) e.disk.1) e.file.2 e.unchanged.0 e.untouched (has told)) c.rewrite.ensures.changed
 
 pub returns-in-Ok-clause-any_moment : goal.returns-in-Ok-clause-any_moment
@@ -62,7 +62,7 @@ returns-in-Ok-clause-any_moment g c = λ told.
     let e = c.in-Ok.ensures in
     let r = c.requires.1.1 in
     changed_weaker (λ main has. from_begun g.start p.codec c.args.write (d.reads p.disk.now) p.count t.read t.write (d.reads t.disk.now) t.count
-    t.recorded c.args.leaves.now.leaves t.changed.held g.E.Entropy.tells (g.E.Entropy.drawn c.rewrite.result.1.now) main
+    t.written c.args.leaves.now.leaves t.changed.held g.E.Entropy.tells (g.E.Entropy.drawn c.rewrite.result.1.now) main
     r.0 r.1.0.1 (r.1.1.1.1.1.1.0 told) (r.1.1.1.1.1.1.1 told) e.file.0 e.file.1 (ap (λ (x : _). d.reads x) e.disk.1) e.file.2 e.unchanged.0 e.untouched has)
     (rw (sym e.disk.1) (c.rewrite.ensures.any_moment told))
 

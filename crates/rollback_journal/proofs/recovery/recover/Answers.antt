@@ -8,7 +8,7 @@ use Rattle.rollback_journal.specs.Recovery.{Keeps}
 use Rattle.rollback_journal.specs.Closing.{IsFound, IsRefusable}
 use Rattle.rollback_journal.proofs.Kept.{keeps_joins, keeps_only}
 use Rattle.rollback_journal.proofs.ReadSteps.{only_read}
-use Rattle.rollback_journal.proofs.Looks.{done_same, hot_answer, on_ok, reads_on}
+use Rattle.rollback_journal.proofs.Looks.{done_same, hot_answer, on_ok, reads_on, taken_changes}
 use Rattle.rollback_journal.proofs.recovery.recover.Goals as goal
 
 pub returns-in-Refused-clause-any_moment : goal.returns-in-Refused-clause-any_moment
@@ -47,3 +47,17 @@ returns-in-Hot-clause-any_moment g c told =
 pub returns-in-Hot-clause-holds : goal.returns-in-Hot-clause-holds
 returns-in-Hot-clause-holds g c told set held =
     weaker (λ f from. keeps_only c.args.page_size set from.0 f from.2 (held from.0 from.1)) (returns-in-Hot-clause-any_moment g c told)
+
+pub returns-in-Hot-clause-idle_same : goal.returns-in-Hot-clause-idle_same
+returns-in-Hot-clause-idle_same g c told idle =
+    let now = g.D.Disk.reads c.args.disk.now in
+    let found : IsFound c.args.page_size now (Hot c.in-Hot.reading) = subst (λ (x : Files). IsFound c.args.page_size x (Hot c.in-Hot.reading)) (c.barrier.ensures.same told)
+    (subst (λ (f : Found). IsFound c.args.page_size (g.D.Disk.reads c.barrier.new.disk) f) c.in-Hot.is (c.in_ok-look.ensures.found told)) in
+    absurd (taken_changes c.args.page_size now found.0 idle)
+
+pub returns-in-Hot-clause-idle : goal.returns-in-Hot-clause-idle
+returns-in-Hot-clause-idle g c told idle =
+    let now = g.D.Disk.reads c.args.disk.now in
+    let found : IsFound c.args.page_size now (Hot c.in-Hot.reading) = subst (λ (x : Files). IsFound c.args.page_size x (Hot c.in-Hot.reading)) (c.barrier.ensures.same told)
+    (subst (λ (f : Found). IsFound c.args.page_size (g.D.Disk.reads c.barrier.new.disk) f) c.in-Hot.is (c.in_ok-look.ensures.found told)) in
+    absurd (taken_changes c.args.page_size now found.0 idle)

@@ -25,7 +25,7 @@ loop-k-init g c =
       facts = r.1.1.1.1.1.0;
       left = r.1.1.1.1.1.1;
       journal = λ told. refl;
-      written = λ told. written_none g.base (g.C.Changes.numbers c.args.changes.now) (g.C.Changes.seals c.args.changes.now) (main_of (g.D.Disk.reads c.args.disk.now));
+      written = λ told. written_none g.base (g.C.PageNumbers.numbers c.args.changes.now) (g.C.Changes.seals c.args.changes.now) (main_of (g.D.Disk.reads c.args.disk.now));
       any_moment = λ told. started g.met.D.Disk.only_now c.args.disk.now (HoldsOld g.base) (λ d here. facts_hold_old g.base _ _ _ _ (r.1.1.1.1.1.0 told) d here);
       fresh = λ told. started_from g.met.D.Disk.only_now c.args.disk.now SameFresh (λ d. refl);
     }
@@ -35,8 +35,8 @@ put_page-requires g c κs lives =
     let r = c.requires.1.1.1 in
     let inv = c.loop-k.invariant in
     let k = c.loop-k.k in
-    let first = g.C.Changes.numbers c.args.changes.now in
-    let numbers = g.C.Changes.numbers c.loop-k.changes in
+    let first = g.C.PageNumbers.numbers c.args.changes.now in
+    let numbers = g.C.PageNumbers.numbers c.loop-k.changes in
     let same : numbers ≡ first = inv.numbers in
     let lt : k < length first = omega (arith, c.loop-k-test.true, c.len-k-end.ensures) in (
       lives.0,
@@ -77,7 +77,7 @@ loop-k-preserved g c =
     let inv = c.loop-k.invariant in
     let e = c.put_page.ensures in
     let k = c.loop-k.k in
-    let first = g.C.Changes.numbers c.args.changes.now in
+    let first = g.C.PageNumbers.numbers c.args.changes.now in
     let seals = g.C.Changes.seals c.args.changes.now in
     let before = main_of (g.D.Disk.reads c.args.disk.now) in
     let mid = g.D.Disk.reads c.loop-k.disk in
@@ -95,10 +95,10 @@ loop-k-preserved g c =
       written = λ told.
           let put = c.in_ok-put_page.ensures.written told in
           let long : g.base.pages * g.base.size ≤ length (main_of mid) = ((inv.facts told).guarded mid (g.met.D.Disk.reads_now c.loop-k.disk)).pages.long in
-          let next = written_next g.base (g.C.Changes.numbers c.loop-k.changes) (g.C.Changes.seals c.loop-k.changes) k before put.0 (main_of mid) _
+          let next = written_next g.base (g.C.PageNumbers.numbers c.loop-k.changes) (g.C.Changes.seals c.loop-k.changes) k before put.0 (main_of mid) _
           (subst (AreChanges g.base.pages) (sym inv.numbers) r.1.1.0) (subst (λ (l : List ℕ). k < length l) (sym inv.numbers) lt) put.2 long put.1 put.3
-          (changed_moved (record g.base { start = before }) first (g.C.Changes.numbers c.loop-k.changes) seals (g.C.Changes.seals c.loop-k.changes) k (main_of mid) inv.numbers (λ j stored. (inv.seals j stored).1) (inv.written told)) in
-          changed_moved (record g.base { start = before }) (g.C.Changes.numbers c.loop-k.changes) first (g.C.Changes.seals c.loop-k.changes) seals (k + 1) _ (sym inv.numbers) (λ j stored. (inv.seals j stored).0) next;
+          (changed_moved (record g.base { start = before }) first (g.C.PageNumbers.numbers c.loop-k.changes) seals (g.C.Changes.seals c.loop-k.changes) k (main_of mid) inv.numbers (λ j stored. (inv.seals j stored).1) (inv.written told)) in
+          changed_moved (record g.base { start = before }) (g.C.PageNumbers.numbers c.loop-k.changes) first (g.C.Changes.seals c.loop-k.changes) seals (k + 1) _ (sym inv.numbers) (λ j stored. (inv.seals j stored).0) next;
       any_moment = λ told. and_then (inv.any_moment told) (e.any_moment told);
       fresh = λ told. then_from g.met.D.Disk.counts_now (λ a b d ab bd. bd ∙ ab) (inv.fresh told) (e.fresh told);
     }

@@ -14,7 +14,7 @@ ghost-put_page g a = g.base
 abbrev pub invariant-loop-k : goal.invariant-loop-k
 invariant-loop-k g l = record {
   buffer : length l.buffer ≡ length l.fn.buffer;
-  numbers : g.C.Changes.numbers l.changes ≡ g.C.Changes.numbers l.fn.changes;
+  numbers : g.C.PageNumbers.numbers l.changes ≡ g.C.PageNumbers.numbers l.fn.changes;
   seals : SameSeals (g.C.Changes.seals l.fn.changes) (g.C.Changes.seals l.changes);
   size : g.C.Changes.size l.changes ≡ g.C.Changes.size l.fn.changes;
   disk_later : g.D.Disk.faults l.fn.disk ≤ g.D.Disk.faults l.disk;
@@ -22,7 +22,7 @@ invariant-loop-k g l = record {
   facts : IsTrue g.D.Disk.tells → HasFacts g.base (g.W.RecordWriter.safe l.writer) (g.W.RecordWriter.waiting l.writer) (g.D.Disk.reads l.disk) (g.D.Disk.images l.disk);
   left : IsTrue g.D.Disk.tells → AsLeft (g.W.RecordWriter.left l.writer) (g.W.RecordWriter.beside l.writer) (g.D.Disk.reads l.disk) (g.D.Disk.images l.disk);
   journal : IsTrue g.D.Disk.tells → (g.D.Disk.reads l.disk).journal ≡ (g.D.Disk.reads l.fn.disk).journal;
-  written : IsTrue g.D.Disk.tells → IsWritten g.base (main_of (g.D.Disk.reads l.fn.disk)) (g.C.Changes.numbers l.fn.changes) (g.C.Changes.seals l.fn.changes) l.k (main_of (g.D.Disk.reads l.disk));
+  written : IsTrue g.D.Disk.tells → IsWritten g.base (main_of (g.D.Disk.reads l.fn.disk)) (g.C.PageNumbers.numbers l.fn.changes) (g.C.Changes.seals l.fn.changes) l.k (main_of (g.D.Disk.reads l.disk));
   any_moment : IsTrue g.D.Disk.tells → LeavesOnly g.D.Disk.moment g.D.Disk.since l.fn.disk l.disk (HoldsOld g.base);
   fresh : IsTrue g.D.Disk.tells → LeavesOnly g.D.Disk.moment g.D.Disk.since l.fn.disk l.disk (From SameFresh (g.D.Disk.images l.fn.disk));
 }

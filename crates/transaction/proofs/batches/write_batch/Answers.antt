@@ -17,7 +17,7 @@ returns-then-len-eq0-clause-any_moment g c told =
 pub put_batch-requires : goal.put_batch-requires
 put_batch-requires g c κs lives =
     let r = c.requires.1.1.1 in
-    let numbers = g.C.Changes.numbers c.args.changes.now in
+    let numbers = g.C.PageNumbers.numbers c.args.changes.now in
     let changes : AreChanges (length c.args.recorded.now) numbers = subst (λ (p : ℕ). AreChanges p numbers) (sym r.1.0) r.1.1.1.1.0 in
     let ok = c.in-Ok.ensures in
     let length_is : c.len.result ≡ length numbers = c.len.ensures in
@@ -60,7 +60,7 @@ returns-in_err-put_batch-clause-fresh g c told = then_from g.met.D.Disk.counts_n
 pub returns-clause-batches : goal.returns-clause-batches
 returns-clause-batches g c told =
     let r = c.requires.1.1.1 in
-    let numbers = g.C.Changes.numbers c.args.changes.now in
+    let numbers = g.C.PageNumbers.numbers c.args.changes.now in
     let changes : AreChanges (length c.args.recorded.now) numbers = subst (λ (p : ℕ). AreChanges p numbers) (sym r.1.0) r.1.1.1.1.0 in
     let ok = c.in-Ok.ensures in
     let length_is : c.len.result ≡ length numbers = c.len.ensures in

@@ -4,4 +4,4 @@ use Rattle.transaction.specs.Marks.{is_marked}
 use Rattle.transaction.proofs.guarding.are_marked.Given as goal
 
 abbrev pub invariant-loop-k : goal.invariant-loop-k
-invariant-loop-k g l = (j : ℕ) → j < l.k → is_marked (slice_index (g.C.Changes.numbers l.changes) j) l.recorded ≡ true
+invariant-loop-k g l = (j : ℕ) → j < l.k → is_marked (slice_index (g.N.PageNumbers.numbers l.pages) j) l.recorded ≡ true

@@ -28,7 +28,7 @@ returns-in_err-open-clause-fresh g c told =
 pub returns-clause-ready : goal.returns-clause-ready
 returns-clause-ready g c =
     let r = c.requires.1.1.1 in
-    let numbers = g.C.Changes.numbers c.args.changes.now in
+    let numbers = g.N.PageNumbers.numbers c.args.pages.now in
     let changes : AreChanges (length c.args.recorded.now) numbers = subst (λ (p : ℕ). AreChanges p numbers) (sym r.1.0) r.1.1.1.1.0 in
     let not_all = not_marked {A = AreMarked numbers c.args.recorded.now} c.are_marked.result c.are_marked.ensures.1 c.if-are_marked.false in
     let kept = c.in_ok-keep_batch.ensures in
@@ -43,7 +43,7 @@ returns-clause-ready g c =
 pub returns-clause-batches : goal.returns-clause-batches
 returns-clause-batches g c told =
     let r = c.requires.1.1.1 in
-    let numbers = g.C.Changes.numbers c.args.changes.now in
+    let numbers = g.N.PageNumbers.numbers c.args.pages.now in
     let changes : AreChanges (length c.args.recorded.now) numbers = subst (λ (p : ℕ). AreChanges p numbers) (sym r.1.0) r.1.1.1.1.0 in
     let not_all = not_marked {A = AreMarked numbers c.args.recorded.now} c.are_marked.result c.are_marked.ensures.1 c.if-are_marked.false in
     let kept = c.in_ok-keep_batch.ensures in

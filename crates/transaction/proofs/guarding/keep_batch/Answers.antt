@@ -21,7 +21,7 @@ loop-k-init g c =
       initial = r.1.1.0.1;
       buffer = refl;
       faults = omega arith;
-      marks = marked_none (g.C.Changes.numbers c.args.changes.now) c.args.recorded.now;
+      marks = marked_none (g.N.PageNumbers.numbers c.args.pages.now) c.args.recorded.now;
       recorded = b.0;
       facts = b.1.0;
       left = b.1.1;
@@ -36,11 +36,11 @@ returns-in_err-keep_marked-clause-fresh g c told = then_from g.met.D.Disk.counts
 pub loop-k-preserved : goal.loop-k-preserved
 loop-k-preserved g c =
     let r = c.requires.1.1.1 in
-    let changes : AreChanges g.base.pages (g.C.Changes.numbers c.args.changes.now) = r.1.1.1.1.0 in
+    let changes : AreChanges g.base.pages (g.N.PageNumbers.numbers c.args.pages.now) = r.1.1.1.1.0 in
     let inv = c.loop-k.invariant in
     let e = c.keep_marked.ensures in
     let ok = c.in_ok-keep_marked.ensures in
-    let numbers = g.C.Changes.numbers c.args.changes.now in
+    let numbers = g.N.PageNumbers.numbers c.args.pages.now in
     let lt : c.loop-k.k < length numbers = omega (arith, c.loop-k-test.true, c.len-k-end.ensures) in
     let all : g.base.pages ≡ length c.loop-k.recorded = sym (inv.marks.as_many ∙ r.1.1.1.0.0) in
     record {

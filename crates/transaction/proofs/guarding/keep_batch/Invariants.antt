@@ -22,7 +22,7 @@ invariant-loop-k g l = record {
   initial : g.W.RecordWriter.initial l.writer ≡ g.base.pages;
   buffer : length l.buffer ≡ length l.fn.buffer;
   faults : g.D.Disk.faults l.fn.disk ≤ g.D.Disk.faults l.disk;
-  marks : HasMarked (g.C.Changes.numbers l.changes) l.k l.fn.recorded l.recorded;
+  marks : HasMarked (g.N.PageNumbers.numbers l.pages) l.k l.fn.recorded l.recorded;
   recorded : IsTrue g.D.Disk.tells → AreRecorded l.recorded (records_in (g.W.RecordWriter.safe l.writer) (g.W.RecordWriter.waiting l.writer) (g.D.Disk.reads l.disk));
   facts : IsTrue g.D.Disk.tells → HasFacts g.base (g.W.RecordWriter.safe l.writer) (g.W.RecordWriter.waiting l.writer) (g.D.Disk.reads l.disk) (g.D.Disk.images l.disk);
   left : IsTrue g.D.Disk.tells → AsLeft (g.W.RecordWriter.left l.writer) (g.W.RecordWriter.beside l.writer) (g.D.Disk.reads l.disk) (g.D.Disk.images l.disk);

@@ -14,8 +14,8 @@ use Rattle.pager.proofs.pager.Pager.begin.Goals.{then-self-frames, else-self-fra
 use Rattle.pager.proofs.pager.Pager.begin.Goals as goal
 
 -- the conditions, by their places: frames, sizes, drawn, begun
-pub new-requires-3 : goal.new-requires-3
-new-requires-3 g c =
+pub new-requires-4 : goal.new-requires-4
+new-requires-4 g c =
     let p = c.profile.result.now in
     let some : 0 < c.args.self.codec.profile.page_size = omega (arith, c.args.self.lendable.least) in
     (listed_large p c.profile.ensures.listed, listed_small p c.profile.ensures.listed, count_small c.args.self.count c.args.self.codec.profile.page_size some c.args.self.largest)
@@ -34,6 +34,17 @@ invariant_of-result-clause-fits g c =
       ap (λ (v : Changed). v.usable) c.in-Ok.ensures ∙ c.usable.ensures.value ∙ ap (λ (p : Profile). usable p) c.profile.ensures.value,
       ap (λ (v : Changed). v.pages) c.in-Ok.ensures,
       subst (λ (k : ℕ). 1 ≤ k) (sym (ap (λ (v : Changed). v.frames) c.in-Ok.ensures)) frames,
+    )
+
+pub invariant_of-result-clause-few : goal.invariant_of-result-clause-few
+invariant_of-result-clause-few g c =
+    let frames : c.if-self-frames.frames ≤ 64 = elim c.if-self-frames.branch [
+      | then-self-frames w ↦ omega (arith, w.frames-is, w.if-self-frames.true, c.requires.1.1.0.1)
+      | else-self-frames w ↦ omega (arith, w.frames-is, c.requires.1.1.0.1)
+    ] in
+    let none : length c.in-Ok.changed.numbers ≡ 0 = ap (λ (v : Changed). length v.numbers) c.in-Ok.ensures in (
+      omega (arith, none),
+      subst (λ (k : ℕ). k ≤ 64) (sym (ap (λ (v : Changed). v.frames) c.in-Ok.ensures)) frames,
     )
 
 pub invariant_of-result-clause-room : goal.invariant_of-result-clause-room
@@ -55,7 +66,7 @@ invariant_of-result-clause-long g c =
 pub returns-clause-ready : goal.returns-clause-ready
 returns-clause-ready g c =
     let recorded = c.in-Ok-new.ensures in
-    let writer = c.in-Ok-new-2.ensures in
+    let writer = c.in-Ok-new-3.ensures in
     let none : marked_count c.in-Ok-new.recorded ≡ 0 = ap marked_count recorded ∙ count_none c.args.self.count in (
       ap length recorded ∙ length-replicate c.args.self.count false ∙ sym (ap (λ (w : Writing). w.initial) writer),
       ready_first c.in-Ok-new.recorded _ _ _ _ _ none (writer ∙ sym (ap (λ (w : Writing). at_first w.page_size w.initial) writer)),
@@ -68,8 +79,19 @@ returns-clause-under_way g c told =
     let yes : same_layout self.codec c.args.write ≡ true = search (rules, c.is_same_layout.ensures, c.if-not-is_same_layout.false) in
     let layout = layout_same self.codec c.args.write yes in
     let marks = c.in-Ok-new.ensures ∙ ap (λ (n : ℕ). replicate n false) r.1.0.1 in
-    subst (λ (ms : List Bool). IsUnderWay g.start c.args.write ms c.in-Ok-new-2.writer (g.D.Disk.reads self.disk.now) (g.D.Disk.images self.disk.now) g.E.Entropy.tells (g.E.Entropy.drawn self.entropy.now)) (sym marks)
-    (under_way_first g.start c.args.write c.in-Ok-new-2.writer (g.D.Disk.reads self.disk.now) (g.D.Disk.images self.disk.now) g.E.Entropy.tells (g.E.Entropy.drawn self.entropy.now) (layout.0 ∙ r.1.0.0) r.1.1.0 (g.met.D.Disk.reads_now self.disk.now) (r.1.1.1 told))
+    let written = c.in-Ok-new-2.ensures ∙ ap (λ (n : ℕ). replicate n false) r.1.0.1 in
+    subst (λ (ws : List Bool). IsUnderWay g.start c.args.write c.in-Ok-new.recorded ws c.in-Ok-new-3.writer (g.D.Disk.reads self.disk.now) (g.D.Disk.images self.disk.now) g.E.Entropy.tells (g.E.Entropy.drawn self.entropy.now)) (sym written)
+    (subst (λ (ms : List Bool). IsUnderWay g.start c.args.write ms (replicate g.start.base.pages false) c.in-Ok-new-3.writer (g.D.Disk.reads self.disk.now) (g.D.Disk.images self.disk.now) g.E.Entropy.tells (g.E.Entropy.drawn self.entropy.now)) (sym marks)
+    (under_way_first g.start c.args.write c.in-Ok-new-3.writer (g.D.Disk.reads self.disk.now) (g.D.Disk.images self.disk.now) g.E.Entropy.tells (g.E.Entropy.drawn self.entropy.now) (layout.0 ∙ r.1.0.0) r.1.1.0 (g.met.D.Disk.reads_now self.disk.now) (r.1.1.1 told)))
 
 pub returns-clause-untouched : goal.returns-clause-untouched
-returns-clause-untouched g c n = none_touched c.args.self.count n c.in-Ok-new.recorded c.in-Ok.changed.held c.in-Ok-new.ensures (ap (λ (v : Changed). v.held) c.in-Ok.ensures)
+returns-clause-untouched g c n = none_touched c.args.self.count n c.in-Ok-new-2.written c.in-Ok.changed.held c.in-Ok-new-2.ensures (ap (λ (v : Changed). v.held) c.in-Ok.ensures)
+
+pub invariant_of-result-clause-marks : goal.invariant_of-result-clause-marks
+invariant_of-result-clause-marks g c = ap length c.in-Ok-new-2.ensures ∙ length-replicate c.args.self.count false
+
+pub returns-clause-room : goal.returns-clause-room
+returns-clause-room g c = elim c.if-self-frames.branch [
+  | then-self-frames w ↦ omega (arith, w.frames-is, w.if-self-frames.true, ap (λ (v : Changed). v.frames) c.in-Ok.ensures)
+  | else-self-frames w ↦ omega (arith, w.frames-is, ap (λ (v : Changed). v.frames) c.in-Ok.ensures)
+]

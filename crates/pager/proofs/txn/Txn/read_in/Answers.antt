@@ -28,7 +28,7 @@ returns-then-has-clause-under_way g c told =
     let r = c.requires.1.1 in
     let s = c.args.self.now in
     let only = c.read_plain.ensures.only_read told in
-    under_way_read g.start s.write s.recorded s.writer (g.D.Disk.reads s.disk.now) (g.D.Disk.reads c.read_plain.new.disk) (g.D.Disk.images s.disk.now) (g.D.Disk.images c.read_plain.new.disk) g.E.Entropy.tells (g.E.Entropy.drawn s.entropy.now)
+    under_way_read g.start s.write s.recorded s.written s.writer (g.D.Disk.reads s.disk.now) (g.D.Disk.reads c.read_plain.new.disk) (g.D.Disk.images s.disk.now) (g.D.Disk.images c.read_plain.new.disk) g.E.Entropy.tells (g.E.Entropy.drawn s.entropy.now)
     only.stays only.same_images.no_more (r.1.1.1.1 told)
 
 pub returns-clause-under_way : goal.returns-clause-under_way
@@ -36,7 +36,7 @@ returns-clause-under_way g c told =
     let r = c.requires.1.1 in
     let s = c.args.self.now in
     let only = c.read_plain-2.ensures.only_read told in
-    under_way_read g.start s.write s.recorded s.writer (g.D.Disk.reads s.disk.now) (g.D.Disk.reads c.read_plain-2.new.disk) (g.D.Disk.images s.disk.now) (g.D.Disk.images c.read_plain-2.new.disk) g.E.Entropy.tells (g.E.Entropy.drawn s.entropy.now)
+    under_way_read g.start s.write s.recorded s.written s.writer (g.D.Disk.reads s.disk.now) (g.D.Disk.reads c.read_plain-2.new.disk) (g.D.Disk.images s.disk.now) (g.D.Disk.images c.read_plain-2.new.disk) g.E.Entropy.tells (g.E.Entropy.drawn s.entropy.now)
     only.stays only.same_images.no_more (r.1.1.1.1 told)
 
 pub returns-then-has-clause-told : goal.returns-then-has-clause-told
@@ -50,4 +50,4 @@ returns-then-has-clause-told g c =
     laid_whole s.plain.len c.read_plain.new.plain s.plain.items long
     ∙ has told
     ∙ ap (λ (l : List ℕ). opened s.write n (page_stored s.write l n)) (same_main now)
-    ∙ seen_free s.read s.write (main_of now) s.count n s.recorded s.changed.held true (number_is s.count n r.0.0 r.0.1) r.1.0 (sym c.has.ensures.answer ∙ c.if-has.true))
+    ∙ seen_free s.read s.write (main_of now) s.count n s.written s.changed.held true (number_is s.count n r.0.0 r.0.1) r.1.0 (sym c.has.ensures.answer ∙ c.if-has.true))

@@ -54,18 +54,18 @@ returns-clause-seen g c told m =
     let mid = c.make_room.new.self in
     let n = c.args.n in
     let page = c.in_ok-make_room.ensures.plain ∙ c.in_ok-read_in.ensures.told told in
-    let bytes = c.place.ensures.bytes (λ is. ap (λ (l : List ℕ). take 16 l) page ∙ seen_begins s.read s.write _ s.count n s.recorded s.changed.held is (number_is s.count n r.0.0 r.0.1) r.1.0) in
+    let bytes = c.place.ensures.bytes (λ is. ap (λ (l : List ℕ). take 16 l) page ∙ seen_begins s.read s.write _ s.count n s.written s.changed.held is (number_is s.count n r.0.0 r.0.1) r.1.0) in
     let p = c.place.new.self in
     let file : main_of (g.D.Disk.reads p.disk.now) ≡ main_of (g.D.Disk.reads mid.disk.now) = ap (λ (d : g.row.D.Denot). main_of (g.D.Disk.reads d)) c.place.ensures.disk.value in
-    seen_put p.read p.write (main_of (g.D.Disk.reads p.disk.now)) p.count p.recorded mid.changed.held p.changed.held n mid.plain.items bytes m
+    seen_put p.read p.write (main_of (g.D.Disk.reads p.disk.now)) p.count p.written mid.changed.held p.changed.held n mid.plain.items bytes m
     ∙ put_same m n mid.plain.items _ _ _ page
-    (seen_as mid.read p.read mid.write p.write (main_of (g.D.Disk.reads mid.disk.now)) (main_of (g.D.Disk.reads p.disk.now)) mid.count p.count mid.recorded p.recorded mid.changed.held m
-    c.place.ensures.file.0 c.place.ensures.file.1 file c.place.ensures.file.2 c.place.ensures.kept.0
+    (seen_as mid.read p.read mid.write p.write (main_of (g.D.Disk.reads mid.disk.now)) (main_of (g.D.Disk.reads p.disk.now)) mid.count p.count mid.written p.written mid.changed.held m
+    c.place.ensures.file.0 c.place.ensures.file.1 file c.place.ensures.file.2 c.place.ensures.kept.3
     ∙ c.in_ok-make_room.ensures.seen told m
-    ∙ seen_as s.read q.read s.write q.write (main_of (g.D.Disk.reads s.disk.now)) (main_of (g.D.Disk.reads q.disk.now)) s.count q.count s.recorded q.recorded q.changed.held m
-    c.read_in.ensures.file.0 c.read_in.ensures.file.1 (ap (λ (f : Files). main_of f) (c.read_in.ensures.disk.only_read told).stays) c.read_in.ensures.file.2 c.read_in.ensures.kept.1
-    ∙ ap (λ (v : Changed). (seen_pages s.read s.write (main_of (g.D.Disk.reads s.disk.now)) s.count s.recorded v.held).page m) c.read_in.ensures.kept.0)
-    ∙ same_at (λ (k : ℕ). (seen_pages s.read s.write (main_of (g.D.Disk.reads s.disk.now)) s.count s.recorded s.changed.held).page k) m n
+    ∙ seen_as s.read q.read s.write q.write (main_of (g.D.Disk.reads s.disk.now)) (main_of (g.D.Disk.reads q.disk.now)) s.count q.count s.written q.written q.changed.held m
+    c.read_in.ensures.file.0 c.read_in.ensures.file.1 (ap (λ (f : Files). main_of f) (c.read_in.ensures.disk.only_read told).stays) c.read_in.ensures.file.2 c.read_in.ensures.kept.3
+    ∙ ap (λ (v : Changed). (seen_pages s.read s.write (main_of (g.D.Disk.reads s.disk.now)) s.count s.written v.held).page m) c.read_in.ensures.kept.0)
+    ∙ same_at (λ (k : ℕ). (seen_pages s.read s.write (main_of (g.D.Disk.reads s.disk.now)) s.count s.written s.changed.held).page k) m n
 
 pub returns-clause-touched : goal.returns-clause-touched
 returns-clause-touched g c m num =
@@ -73,11 +73,11 @@ returns-clause-touched g c m num =
     let q = c.read_in.new.self in
     let mid = c.make_room.new.self in
     let p = c.place.new.self in
-    let was : is_touched q.recorded q.changed.held m ≡ is_touched s.recorded s.changed.held m =
-    ap (λ (ms : List Bool). is_touched ms q.changed.held m) c.read_in.ensures.kept.1 ∙ ap (λ (v : Changed). is_touched s.recorded v.held m) c.read_in.ensures.kept.0 in
+    let was : is_touched q.written q.changed.held m ≡ is_touched s.written s.changed.held m =
+    ap (λ (ms : List Bool). is_touched ms q.changed.held m) c.read_in.ensures.kept.3 ∙ ap (λ (v : Changed). is_touched s.written v.held m) c.read_in.ensures.kept.0 in
     let made = c.in_ok-make_room.ensures.touched m (subst (λ (k : ℕ). is_number k m ≡ true) (sym c.read_in.ensures.file.2) num) in
-    ap (λ (ms : List Bool). is_touched ms p.changed.held m) c.place.ensures.kept.0
-    ∙ touched_put mid.recorded mid.changed.held p.changed.held c.args.n c.place.ensures.listed m
+    ap (λ (ms : List Bool). is_touched ms p.changed.held m) c.place.ensures.kept.3
+    ∙ touched_put mid.written mid.changed.held p.changed.held c.args.n c.place.ensures.listed m
     ∙ ap (λ (b : Bool). if m == c.args.n then true else b) (made ∙ was)
 
 pub returns-in_err-make_room-clause-unwritten : goal.returns-in_err-make_room-clause-unwritten
@@ -88,6 +88,7 @@ returns-in_err-make_room-clause-unwritten g c room =
       made.1 ∙ c.read_in.ensures.kept.2,
       disk_then_read c.read_in.ensures.disk (untouched_read made.2),
       then_untouched c.read_in.ensures.entropy made.3,
+      made.4 ∙ c.read_in.ensures.kept.3,
     )
 
 pub returns-clause-unwritten : goal.returns-clause-unwritten
@@ -98,4 +99,5 @@ returns-clause-unwritten g c room =
       c.place.ensures.kept.1 ∙ made.1 ∙ c.read_in.ensures.kept.2,
       disk_then_read c.read_in.ensures.disk (untouched_read (then_untouched made.2 c.place.ensures.disk)),
       then_untouched c.read_in.ensures.entropy (then_untouched made.3 c.place.ensures.entropy),
+      c.place.ensures.kept.3 ∙ made.4 ∙ c.read_in.ensures.kept.3,
     )

@@ -1,0 +1,123 @@
+use Rattle.std.proofs.Common.{ℕ, ◌<◌, [], ◌∷◌, arith}
+use Rattle.aes_lanes.proofs.LaneFacts.{shown, shows_ones, shows_xor}
+use Rattle.aes_lanes.specs.Gates.{output_sums_of}
+use Rattle.aes_lanes.proofs.sbox.output_sums.Goals as goal
+
+pub returns-clause-lanes : goal.returns-clause-lanes
+returns-clause-lanes c =
+    let k : ℕ = 0 in
+    let j : ℕ = 0 in
+    let hk : k < 4 = omega arith in
+    let hj : j < 64 = omega arith in
+    let ones = shows_ones k j hk hj in
+    let z0 = shown k j c.args.v.z0 c.requires.z0 in
+    let z1 = shown k j c.args.v.z1 c.requires.z1 in
+    let z2 = shown k j c.args.v.z2 c.requires.z2 in
+    let z3 = shown k j c.args.v.z3 c.requires.z3 in
+    let z4 = shown k j c.args.v.z4 c.requires.z4 in
+    let z5 = shown k j c.args.v.z5 c.requires.z5 in
+    let z6 = shown k j c.args.v.z6 c.requires.z6 in
+    let z7 = shown k j c.args.v.z7 c.requires.z7 in
+    let z8 = shown k j c.args.v.z8 c.requires.z8 in
+    let z9 = shown k j c.args.v.z9 c.requires.z9 in
+    let z10 = shown k j c.args.v.z10 c.requires.z10 in
+    let z11 = shown k j c.args.v.z11 c.requires.z11 in
+    let z12 = shown k j c.args.v.z12 c.requires.z12 in
+    let z13 = shown k j c.args.v.z13 c.requires.z13 in
+    let z14 = shown k j c.args.v.z14 c.requires.z14 in
+    let z15 = shown k j c.args.v.z15 c.requires.z15 in
+    let z16 = shown k j c.args.v.z16 c.requires.z16 in
+    let z17 = shown k j c.args.v.z17 c.requires.z17 in
+    let g0 = shows_xor k j _ _ _ _ z15 z16 in
+    let g1 = shows_xor k j _ _ _ _ z10 z11 in
+    let g2 = shows_xor k j _ _ _ _ z5 z13 in
+    let g3 = shows_xor k j _ _ _ _ z9 z10 in
+    let g4 = shows_xor k j _ _ _ _ z2 z12 in
+    let g5 = shows_xor k j _ _ _ _ z2 z5 in
+    let g6 = shows_xor k j _ _ _ _ z7 z8 in
+    let g7 = shows_xor k j _ _ _ _ z0 z3 in
+    let g8 = shows_xor k j _ _ _ _ z6 z7 in
+    let g9 = shows_xor k j _ _ _ _ z16 z17 in
+    let g10 = shows_xor k j _ _ _ _ z12 g2 in
+    let g11 = shows_xor k j _ _ _ _ g4 g7 in
+    let g12 = shows_xor k j _ _ _ _ z4 g0 in
+    let g13 = shows_xor k j _ _ _ _ z3 g8 in
+    let g14 = shows_xor k j _ _ _ _ g0 g11 in
+    let g15 = shows_xor k j _ _ _ _ z14 g11 in
+    let g16 = shows_xor k j _ _ _ _ g6 g12 in
+    let g17 = shows_xor k j _ _ _ _ g3 g12 in
+    let g18 = shows_xor k j _ _ _ _ z4 g13 in
+    let g19 = shows_xor k j _ _ _ _ g15 g16 in
+    let g20 = shows_xor k j _ _ _ _ z1 g17 in
+    let n7 = shows_xor k j _ _ _ _ g13 g17 in
+    let n1 = shows_xor k j _ _ _ _ g10 g16 in
+    let n0 = shows_xor k j _ _ _ _ g2 g14 in
+    let g21 = shows_xor k j _ _ _ _ g18 g19 in
+    let n4 = shows_xor k j _ _ _ _ g7 g20 in
+    let n3 = shows_xor k j _ _ _ _ g5 g20 in
+    let n2 = shows_xor k j _ _ _ _ g1 g19 in
+    let n6 = shows_xor k j _ _ _ _ g18 n4 in
+    let n5 = shows_xor k j _ _ _ _ g9 g21 in
+    let r0 = shows_xor k j _ _ _ _ n0 ones in
+    let r1 = shows_xor k j _ _ _ _ n1 ones in
+    let r5 = shows_xor k j _ _ _ _ n5 ones in
+    let r6 = shows_xor k j _ _ _ _ n6 ones in
+    record { l0 = r0.lanes; l1 = r1.lanes; l2 = n2.lanes; l3 = n3.lanes; l4 = n4.lanes; l5 = r5.lanes; l6 = r6.lanes; l7 = n7.lanes }
+
+pub returns-clause-bits : goal.returns-clause-bits
+unfolding output_sums_of
+returns-clause-bits c k j hk hj =
+    let ones = shows_ones k j hk hj in
+    let z0 = shown k j c.args.v.z0 c.requires.z0 in
+    let z1 = shown k j c.args.v.z1 c.requires.z1 in
+    let z2 = shown k j c.args.v.z2 c.requires.z2 in
+    let z3 = shown k j c.args.v.z3 c.requires.z3 in
+    let z4 = shown k j c.args.v.z4 c.requires.z4 in
+    let z5 = shown k j c.args.v.z5 c.requires.z5 in
+    let z6 = shown k j c.args.v.z6 c.requires.z6 in
+    let z7 = shown k j c.args.v.z7 c.requires.z7 in
+    let z8 = shown k j c.args.v.z8 c.requires.z8 in
+    let z9 = shown k j c.args.v.z9 c.requires.z9 in
+    let z10 = shown k j c.args.v.z10 c.requires.z10 in
+    let z11 = shown k j c.args.v.z11 c.requires.z11 in
+    let z12 = shown k j c.args.v.z12 c.requires.z12 in
+    let z13 = shown k j c.args.v.z13 c.requires.z13 in
+    let z14 = shown k j c.args.v.z14 c.requires.z14 in
+    let z15 = shown k j c.args.v.z15 c.requires.z15 in
+    let z16 = shown k j c.args.v.z16 c.requires.z16 in
+    let z17 = shown k j c.args.v.z17 c.requires.z17 in
+    let g0 = shows_xor k j _ _ _ _ z15 z16 in
+    let g1 = shows_xor k j _ _ _ _ z10 z11 in
+    let g2 = shows_xor k j _ _ _ _ z5 z13 in
+    let g3 = shows_xor k j _ _ _ _ z9 z10 in
+    let g4 = shows_xor k j _ _ _ _ z2 z12 in
+    let g5 = shows_xor k j _ _ _ _ z2 z5 in
+    let g6 = shows_xor k j _ _ _ _ z7 z8 in
+    let g7 = shows_xor k j _ _ _ _ z0 z3 in
+    let g8 = shows_xor k j _ _ _ _ z6 z7 in
+    let g9 = shows_xor k j _ _ _ _ z16 z17 in
+    let g10 = shows_xor k j _ _ _ _ z12 g2 in
+    let g11 = shows_xor k j _ _ _ _ g4 g7 in
+    let g12 = shows_xor k j _ _ _ _ z4 g0 in
+    let g13 = shows_xor k j _ _ _ _ z3 g8 in
+    let g14 = shows_xor k j _ _ _ _ g0 g11 in
+    let g15 = shows_xor k j _ _ _ _ z14 g11 in
+    let g16 = shows_xor k j _ _ _ _ g6 g12 in
+    let g17 = shows_xor k j _ _ _ _ g3 g12 in
+    let g18 = shows_xor k j _ _ _ _ z4 g13 in
+    let g19 = shows_xor k j _ _ _ _ g15 g16 in
+    let g20 = shows_xor k j _ _ _ _ z1 g17 in
+    let n7 = shows_xor k j _ _ _ _ g13 g17 in
+    let n1 = shows_xor k j _ _ _ _ g10 g16 in
+    let n0 = shows_xor k j _ _ _ _ g2 g14 in
+    let g21 = shows_xor k j _ _ _ _ g18 g19 in
+    let n4 = shows_xor k j _ _ _ _ g7 g20 in
+    let n3 = shows_xor k j _ _ _ _ g5 g20 in
+    let n2 = shows_xor k j _ _ _ _ g1 g19 in
+    let n6 = shows_xor k j _ _ _ _ g18 n4 in
+    let n5 = shows_xor k j _ _ _ _ g9 g21 in
+    let r0 = shows_xor k j _ _ _ _ n0 ones in
+    let r1 = shows_xor k j _ _ _ _ n1 ones in
+    let r5 = shows_xor k j _ _ _ _ n5 ones in
+    let r6 = shows_xor k j _ _ _ _ n6 ones in
+    λ i. r0.bit i ∷ r1.bit i ∷ n2.bit i ∷ n3.bit i ∷ n4.bit i ∷ r5.bit i ∷ r6.bit i ∷ n7.bit i ∷ []

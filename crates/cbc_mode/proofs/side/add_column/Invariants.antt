@@ -1,0 +1,8 @@
+use Rattle.std.proofs.Common.{ℕ, ◌+◌, ◌*◌}
+use Rattle.aes_block.specs.Aes.{xor_bytes}
+use Rattle.aes_block.specs.Blocks.{block_at}
+use Rattle.cbc_mode.proofs.ColumnFacts.{Filled}
+use Rattle.cbc_mode.proofs.side.add_column.Given as goal
+
+abbrev pub invariant-rows : goal.invariant-rows
+invariant-rows l = Filled (λ (k : ℕ). xor_bytes (block_at l.records (l.stride * k + l.j)) (block_at l.fn.last k)) l.fn.last l.last l.i

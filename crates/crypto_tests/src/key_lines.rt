@@ -1,0 +1,212 @@
+// What no clause says: that the tables are those of SQLCipher, known keys, and what key lines of each kind give.
+use crate::hex_text::is_hex_of;
+use cipher_profile::{HashKind, KeyError, Secret, derive, profile_of, read_key};
+use edge_model::{MemSource, SilentSource, Source};
+use std::alloc::Global;
+use std::test::Fail;
+
+// SQLCipher API, "cipher_compatibility", and the sizes that follow from its settings: the length of a page, its usable
+// bytes, the rounds and the length of a tag.
+#[test]
+fn four_words_name_profiles(rt: HostRuntime) {
+    let table = [
+        ("1", 1, 1024, 1008, HashKind::Sha1, 4_000, 0),
+        ("2", 2, 1024, 976, HashKind::Sha1, 4_000, 20),
+        ("3", 3, 1024, 976, HashKind::Sha1, 64_000, 20),
+        ("4", 4, 4096, 4016, HashKind::Sha512, 256_000, 64),
+    ];
+    for (word, version, page_size, usable, hash, rounds, tag_len) in table {
+        let Some(profile) = profile_of(word) else {
+            panic!(rt; "{word}");
+        };
+        let sizes = profile.page_size == page_size && profile.usable() == usable;
+        let settings = profile.hash == hash
+            && profile.rounds == rounds
+            && profile.tag_len == tag_len;
+        assert!(rt; profile.version == version && sizes && settings, "{word}");
+    }
+    for word in ["", "0", "5", "10", "04", " 4", "four"] {
+        assert!(rt; profile_of(word).is_none(), "{word}");
+    }
+}
+
+const SALT: [u8; 16] = [0, 1, 2, 3, 4, 5, 6, 7, 8, 9, 10, 11, 12, 13, 14, 15];
+
+// By `hashlib.pbkdf2_hmac` of Python 3: with 32 bytes, the profile's hash and rounds, and then 2 rounds over that key with
+// each byte of the salt xor 0x3a.
+#[test]
+fn known_keys_are_derived(rt: HostRuntime) -> Result<(), Fail> {
+    let raw: &[u8] = b"x'000102030405060708090a0b0c0d0e0f101112131415161718191a1b1c1d1e1f'";
+    let table: [(&str, &[u8], &str, &str); 6] = [
+        (
+            "1",
+            b"correct horse",
+            "56d062155faca818e817272a2e0f0b7bb6172bbea464837dae9b6601853adea7",
+            "56b4bd0909d82bc4afbe05345593c4a814a7240724d1f9eb851d26f213631bc2",
+        ),
+        (
+            "2",
+            b"correct horse",
+            "56d062155faca818e817272a2e0f0b7bb6172bbea464837dae9b6601853adea7",
+            "56b4bd0909d82bc4afbe05345593c4a814a7240724d1f9eb851d26f213631bc2",
+        ),
+        (
+            "3",
+            b"correct horse",
+            "01573525bd1d7c55df8dd6dd85b3a41f34a98dfead40ccfe563b54cf8b4f6261",
+            "81a911ebd0d603493c48abf0fa310110b88d789fda8d260b8f4e429d1e52ea75",
+        ),
+        (
+            "4",
+            b"correct horse",
+            "9118a024311c6a93d17484b07c24ec754e0559cc3b687954de6daa9ad9495042",
+            "90d442e2acdb433135e27ea4c651c5c4ab528bff6f005ffb8bb97de28dbc945f",
+        ),
+        (
+            "2",
+            raw,
+            "000102030405060708090a0b0c0d0e0f101112131415161718191a1b1c1d1e1f",
+            "87295ac9ade0f88271f30f9293df1695f79c5badce12855b53576fa64637e3a8",
+        ),
+        (
+            "4",
+            raw,
+            "000102030405060708090a0b0c0d0e0f101112131415161718191a1b1c1d1e1f",
+            "601364baed0dde5a2d291ede302ae7e0540a85b57a281a0d19c344b7d4f382ce",
+        ),
+    ];
+    for (word, line, enc, mac) in table {
+        let mut source = source_of(rt.alloc(), line, &[])?;
+        match (profile_of(word), read_key(&mut source)) {
+            (Some(profile), Ok(secret)) => {
+                let keys = derive(&secret, &profile, &SALT);
+                assert!(rt; is_hex_of(enc, &keys.enc), "the cipher's key of {word}");
+                assert!(rt; is_hex_of(mac, &keys.mac), "the tags' key of {word}");
+            }
+            _ => assert!(rt; false, "{word}"),
+        }
+    }
+    Ok(())
+}
+
+fn source_of(alloc: Global, bytes: &[u8], failing: &[u64]) -> Result<MemSource, Fail> {
+    Ok(MemSource::new(alloc, bytes, failing)?)
+}
+
+/// What a key line gives.
+#[derive(Clone, Copy)]
+enum Answer<'a> {
+    Key(&'a [u8]),
+    Pass(&'a [u8]),
+    Refusal(KeyError),
+}
+
+// Whether the next line gives this.
+fn gives(source: &mut impl Source, want: Answer) -> bool {
+    match (read_key(source), want) {
+        (Ok(Secret::Raw(key)), Answer::Key(bytes)) => key.as_slice() == bytes,
+        (Ok(Secret::Pass(passphrase)), Answer::Pass(bytes)) => passphrase.as_slice() == bytes,
+        (Err(error), Answer::Refusal(refusal)) => error == refusal,
+        _ => false,
+    }
+}
+
+const KEY: &[u8; 32] =
+    b"\x00\x01\x02\x03\x04\x05\x06\x07\x08\x09\x0a\x0b\x0c\x0d\x0e\x0f\x10\x11\x12\x13\x14\x15\x16\x17\x18\x19\x1a\x1b\x1c\x1d\x1e\x1f";
+
+const RAW: &[u8] = b"x'000102030405060708090a0b0c0d0e0f101112131415161718191a1b1c1d1e1f'";
+
+// One digit short, and one that is none.
+const SHORT: &[u8] = b"x'000102030405060708090a0b0c0d0e0f101112131415161718191a1b1c1d1e1'";
+
+const SPOILED: &[u8] = b"x'000102030405060708090a0b0c0d0e0f101112131415161718191a1b1c1d1e1g'";
+
+const SALTED_SPOILED: &[u8] =
+    b"x'000102030405060708090a0b0c0d0e0f101112131415161718191a1b1c1d1e1f202122232425262728292a2b2c2d2e2g'";
+
+#[test]
+fn lines_give_keys_passphrases_and_refusals(rt: HostRuntime) -> Result<(), Fail> {
+    let table: [(&[u8], Answer); 11] = [
+        (RAW, Answer::Key(KEY)),
+        (
+            b"X'000102030405060708090A0B0C0D0E0F101112131415161718191A1B1C1D1E1F'\n",
+            Answer::Key(KEY),
+        ),
+        (SHORT, Answer::Pass(SHORT)),
+        (SPOILED, Answer::Pass(SPOILED)),
+        (SALTED_SPOILED, Answer::Pass(SALTED_SPOILED)),
+        (
+            b"x'000102030405060708090a0b0c0d0e0f101112131415161718191a1b1c1d1e1f202122232425262728292a2b2c2d2e2f'\n",
+            Answer::Refusal(KeyError::KeyForm),
+        ),
+        (
+            b"X'000102030405060708090A0B0C0D0E0F101112131415161718191A1B1C1D1E1F202122232425262728292A2B2C2D2E2F'",
+            Answer::Refusal(KeyError::KeyForm),
+        ),
+        (b"", Answer::Refusal(KeyError::KeyMissing)),
+        (b"\n", Answer::Refusal(KeyError::KeyEmpty)),
+        (b"old\r\n", Answer::Pass(b"old\r")),
+        (b"\x00\x7f\x80\xff", Answer::Pass(b"\x00\x7f\x80\xff")),
+    ];
+    for (line, want) in table {
+        let mut source = source_of(rt.alloc(), line, &[])?;
+        assert!(rt; gives(&mut source, want), "{line:?}");
+    }
+    Ok(())
+}
+
+#[test]
+fn a_passphrase_has_at_most_1024_bytes(rt: HostRuntime) -> Result<(), Fail> {
+    let mut line = [b'p'; 1025];
+    let mut source = source_of(rt.alloc(), &line, &[])?;
+    assert!(rt;
+        gives(&mut source, Answer::Refusal(KeyError::KeyTooLong)),
+        "1,025 bytes"
+    );
+    line[1024] = b'\n';
+    let longest = &line[..1024];
+    let mut source = source_of(rt.alloc(), &line, &[])?;
+    assert!(rt;
+        gives(&mut source, Answer::Pass(longest)),
+        "1,024 bytes and a line feed"
+    );
+    let mut source = source_of(rt.alloc(), longest, &[])?;
+    assert!(rt;
+        gives(&mut source, Answer::Pass(longest)),
+        "1,024 bytes and the end"
+    );
+    Ok(())
+}
+
+fn gives_in_turn(source: &mut impl Source) -> bool {
+    gives(source, Answer::Pass(b"old"))
+        && gives(source, Answer::Refusal(KeyError::KeyEmpty))
+        && gives(source, Answer::Pass(b"new"))
+        && gives(source, Answer::Refusal(KeyError::KeyMissing))
+}
+
+#[test]
+fn lines_are_read_in_turn(rt: HostRuntime) -> Result<(), Fail> {
+    let mut source = source_of(rt.alloc(), b"old\n\nnew", &[])?;
+    assert!(rt; gives_in_turn(&mut source));
+    let mut silent = SilentSource {
+        inner: source_of(rt.alloc(), b"old\n\nnew", &[])?,
+    };
+    assert!(rt; gives_in_turn(&mut silent));
+    Ok(())
+}
+
+// The raw key takes 67 calls, and one more finds the end.
+#[test]
+fn each_failing_call_is_a_fault(rt: HostRuntime) -> Result<(), Fail> {
+    for call in 1..70 {
+        let want = if call < 69 {
+            Answer::Refusal(KeyError::SourceFault)
+        } else {
+            Answer::Key(KEY)
+        };
+        let mut source = source_of(rt.alloc(), RAW, &[call])?;
+        assert!(rt; gives(&mut source, want), "call {call}");
+    }
+    Ok(())
+}

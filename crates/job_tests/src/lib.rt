@@ -1,0 +1,17 @@
+//! Jobs on files in memory, which are tests alone: a new file, a made database, a rekey, a migration and an export, with their stops.
+#![tactic(auto)]
+
+#[cfg(test)]
+mod exporting;
+#[cfg(test)]
+mod making;
+#[cfg(test)]
+mod migrating;
+#[cfg(test)]
+mod new_file;
+#[cfg(test)]
+mod rekeying;
+#[cfg(test)]
+mod sealed;
+#[cfg(test)]
+mod short_read;

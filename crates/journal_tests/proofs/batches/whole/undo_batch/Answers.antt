@@ -1,0 +1,71 @@
+use Rattle.std.proofs.Common.{◌≡◌, false, length, sym, ◌∙◌, ap, rules}
+use Rattle.std.proofs.lemmas.List.{length-replicate}
+use Rattle.edge_model.specs.Moments.{and_then}
+use Rattle.rollback_journal.specs.Writing.{Writing, at_first}
+use Rattle.transaction.specs.Marks.{marked_count}
+use Rattle.transaction.proofs.Batched.{count_none, ready_first, batches_first}
+use Rattle.journal_tests.proofs.batches.whole.undo_batch.Goals as goal
+
+pub write_batch-requires : goal.write_batch-requires
+write_batch-requires g c κs lives =
+    let r = c.requires.1.1 in
+    let none : marked_count c.args.recorded.now ≡ 0 = ap marked_count r.0.1 ∙ count_none g.base.pages in (
+      lives.0,
+      (
+        search rules,
+        (
+          lives.1,
+          (
+            (ap (λ (w : Writing). w.page_size) r.0.0, ap (λ (w : Writing). w.initial) r.0.0),
+            (
+              ap length r.0.1 ∙ length-replicate g.base.pages false,
+              (
+                ready_first c.args.recorded.now _ _ _ _ _ none (r.0.0 ∙ sym (ap (λ (w : Writing). at_first w.page_size w.initial) r.0.0)),
+                (
+                  λ told. batches_first g.base c.args.recorded.now _ _ _ _ _ _ none (r.1.1.1.1.1 told),
+                  (
+                    r.1.1.0.0,
+                    (r.1.1.1.1.0.0, r.1.1.1.1.0.1, r.1.1.0.1),
+                  ),
+                ),
+              ),
+            ),
+          ),
+        ),
+      ),
+    )
+
+pub write_batch-requires-2 : goal.write_batch-requires-2
+write_batch-requires-2 g c κs lives =
+    let r = c.requires.1.1 in
+    let marks = ap length r.0.1 ∙ length-replicate g.base.pages false in (
+      lives.0,
+      (
+        search rules,
+        (
+          lives.1,
+          (
+            c.write_batch.ensures.sizes,
+            (
+              c.in_ok-write_batch.ensures.marks.as_many ∙ marks,
+              (
+                c.in_ok-write_batch.ensures.ready,
+                (
+                  c.in_ok-write_batch.ensures.batches,
+                  (
+                    r.1.1.1.0.0,
+                    (c.write_batch.ensures.buffer ∙ r.1.1.1.1.0.0, r.1.1.1.1.0.1, r.1.1.1.0.1),
+                  ),
+                ),
+              ),
+            ),
+          ),
+        ),
+      ),
+    )
+
+pub returns-in-Ok-clause-any_moment : goal.returns-in-Ok-clause-any_moment
+returns-in-Ok-clause-any_moment g c told = and_then (and_then (c.write_batch.ensures.any_moment told) (c.write_batch-2.ensures.any_moment told)) (c.undo_batches.ensures.any_moment told)
+
+pub returns-in-Err-clause-any_moment : goal.returns-in-Err-clause-any_moment
+returns-in-Err-clause-any_moment g c told = and_then (and_then (c.write_batch.ensures.any_moment told) (c.write_batch-2.ensures.any_moment told)) (c.undo_batches.ensures.any_moment told)

@@ -1,5 +1,0 @@
-use Rattle.btree_walk.specs.Cursor.{IsReady}
-use Rattle.load_runs.proofs.reading.walk.Given as goal
-
-abbrev pub invariant-loop-before : goal.invariant-loop-before
-invariant-loop-before g l = IsReady (g.S.PageSource.plain l.source).count (g.S.PageSource.pins l.source) l.seen l.cursor

@@ -1,5 +1,0 @@
-use Rattle.pager.proofs.UnreadLemmas.{no_held_pins}
-use Rattle.migrate_job.proofs.tests.migrate_file.Goals as goal
-
-pub migrate-disk-requires-clause-unpinned : goal.migrate-disk-requires-clause-unpinned
-migrate-disk-requires-clause-unpinned g c = no_held_pins c.in-Ok.pager.cache.held c.in-Ok.ensures.unread.0

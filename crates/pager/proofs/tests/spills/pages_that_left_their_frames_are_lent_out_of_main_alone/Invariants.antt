@@ -1,9 +1,0 @@
-use Rattle.std.proofs.Common.{[]}
-use Rattle.pager.specs.UnderWay.{zeros}
-use Rattle.pager.proofs.tests.spills.pages_that_left_their_frames_are_lent_out_of_main_alone.Given as goal
-
-abbrev pub ghost-begin : goal.ghost-begin
-ghost-begin g a = record { base = zeros a.self.codec.profile.page_size a.self.count; drawn = [] }
-
-abbrev pub ghost-load : goal.ghost-load
-ghost-load g a = record { base = zeros a.self.now.write.profile.page_size a.self.now.count; drawn = [] }

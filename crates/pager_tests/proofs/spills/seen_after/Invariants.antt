@@ -1,0 +1,9 @@
+use Rattle.std.proofs.Common.{[]}
+use Rattle.pager.specs.UnderWay.{zeros}
+use Rattle.pager_tests.proofs.spills.seen_after.Given as goal
+
+abbrev pub ghost-begin : goal.ghost-begin
+ghost-begin g a = record { base = zeros a.self.codec.profile.page_size a.self.count; drawn = [] }
+
+abbrev pub ghost-load : goal.ghost-load
+ghost-load g a = record { base = zeros a.self.now.write.profile.page_size a.self.now.count; drawn = [] }

@@ -1,6 +1,0 @@
-use Rattle.std.specs.Prelude.{◌==◌}
-use Rattle.std.proofs.Common.{replicate}
-use Rattle.transaction.proofs.tests.batched.a_stop_between_batches_leaves_all_changes_or_none.Given as goal
-
-abbrev pub ghost-change_in_batches : goal.ghost-change_in_batches
-ghost-change_in_batches g a = record { size = 512; pages = 6; start = replicate 3072 1; counts = λ n. n == 3072 }

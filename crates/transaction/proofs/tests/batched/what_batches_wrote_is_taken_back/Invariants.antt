@@ -1,6 +1,0 @@
-use Rattle.std.specs.Prelude.{◌==◌}
-use Rattle.std.proofs.Common.{replicate}
-use Rattle.transaction.proofs.tests.batched.what_batches_wrote_is_taken_back.Given as goal
-
-abbrev pub ghost-undo_batch : goal.ghost-undo_batch
-ghost-undo_batch g a = record { size = 512; pages = 6; start = replicate 3072 1; counts = λ n. n == 3072 }
