@@ -1,0 +1,11 @@
+mod Bounds
+mod ChainSteps
+mod FindSteps
+mod OnceLemmas
+mod PageSteps
+mod RowSteps
+mod SearchSteps
+mod SoundFound
+mod SoundTrees
+mod TablePages
+mod WantedSteps

@@ -1,0 +1,10 @@
+pub mod Bound
+pub mod Causes
+pub mod Found
+pub mod Left
+pub mod Lines
+pub mod Once
+pub mod Reach
+pub mod Search
+pub mod TablePage
+pub mod Wanted
