@@ -15,7 +15,7 @@ use Rattle.sqlcipher_tool.specs.declared.change.Change.{Change}
 use Rattle.sqlcipher_tool.specs.declared.change.Change.TheVariants.{Stamp as StampOf, Rekey as RekeyOf, Migrate as MigrateOf}
 use Rattle.pager.specs.File.{main_of}
 use Rattle.sqlcipher_tool.specs.Promises.{takes_keys}
-use Rattle.sqlcipher_tool.specs.Words.{draws, keys_taken, lacks_tags, layouts_differ}
+use Rattle.sqlcipher_tool.specs.Words.{draws, keys_taken, lacks_tags, layouts_differ, writes_beside}
 use Rattle.sqlcipher_tool.specs.declared.status.Refusal.TheVariants.{NoTags, LayoutDiffers}
 use Rattle.sqlcipher_tool.specs.declared.command.Command.{Command}
 use Rattle.sqlcipher_tool.specs.declared.command.Command.TheVariants.{Tags, Header, Verify, Export, Probe, Recover, Stamp, Rekey, Migrate, Make}
@@ -43,18 +43,18 @@ pub same_secrets : (tells : Bool) (lines : Result (List Secret) KeyError) (these
 same_secrets tells lines these is secrets gave = ok_same secrets these (sym gave.1 ∙ is gave.0)
 
 -- what holds of all secrets that may have been given holds of those that were
-pub changes_of : (status : Status) (command : Command) (run : DiskRun) (gave given : List Secret → Type 0) → ((secrets : List Secret) → given secrets → gave secrets)
-    → Changes status command gave run → Changes status command given run
-changes_of status (Tags profile) run gave given more was = was
-changes_of status (Header profile) run gave given more was = was
-changes_of status (Verify profile) run gave given more was = was
-changes_of status (Export profile) run gave given more was = was
-changes_of status Probe run gave given more was = was
-changes_of status (Recover profile) run gave given more was = was
-changes_of status (Stamp profile field value) run gave given more was = λ secrets has. was secrets (more secrets has)
-changes_of status (Rekey old new) run gave given more was = λ secrets has. was secrets (more secrets has)
-changes_of status (Migrate old new) run gave given more was = λ secrets has. was secrets (more secrets has)
-changes_of status (Make profile rows) run gave given more was = λ secrets has. was secrets (more secrets has)
+pub changes_of : (status : Status) (command : Command) (tells : Bool) (drawn : List ℕ) (run : DiskRun) (gave given : List Secret → Type 0) → ((secrets : List Secret) → given secrets → gave secrets)
+    → Changes status command gave tells drawn run → Changes status command given tells drawn run
+changes_of status (Tags profile) tells drawn run gave given more was = was
+changes_of status (Header profile) tells drawn run gave given more was = was
+changes_of status (Verify profile) tells drawn run gave given more was = was
+changes_of status (Export profile) tells drawn run gave given more was = was
+changes_of status Probe tells drawn run gave given more was = was
+changes_of status (Recover profile) tells drawn run gave given more was = was
+changes_of status (Stamp profile field value) tells drawn run gave given more was = λ secrets has. was secrets (more secrets has)
+changes_of status (Rekey old new) tells drawn run gave given more was = λ secrets has. was secrets (more secrets has)
+changes_of status (Migrate old new) tells drawn run gave given more was = λ secrets has. was secrets (more secrets has)
+changes_of status (Make profile rows) tells drawn run gave given more was = λ secrets has. was secrets (more secrets has)
 
 pub draws_of : (command : Command) (file drawn : List ℕ) (gave given : List Secret → Type 0) → ((secrets : List Secret) → given secrets → gave secrets)
     → HasOwnDraws command gave file drawn → HasOwnDraws command given file drawn
@@ -67,8 +67,9 @@ no_draws command other is none gave file drawn = λ secrets has.
     subst (λ (r : Option Renewal). IsDrawnFor command r file drawn) (sym (ap (λ (c : Command). renewal c secrets) is ∙ none secrets)) tt
 
 -- what holds of a command holds of the same one
-pub changes_as : (status : Status) (command other : Command) (gave : List Secret → Type 0) (run : DiskRun) → command ≡ other → Changes status other gave run → Changes status command gave run
-changes_as status command other gave run is was = subst (λ (c : Command). Changes status c gave run) (sym is) was
+pub changes_as : (status : Status) (command other : Command) (gave : List Secret → Type 0) (tells : Bool) (drawn : List ℕ) (run : DiskRun) → command ≡ other
+    → Changes status other gave tells drawn run → Changes status command gave tells drawn run
+changes_as status command other gave tells drawn run is was = subst (λ (c : Command). Changes status c gave tells drawn run) (sym is) was
 
 pub draws_as : (command other : Command) (gave : List Secret → Type 0) (file drawn : List ℕ) → command ≡ other → HasOwnDraws other gave file drawn → HasOwnDraws command gave file drawn
 draws_as command other gave file drawn is was = subst (λ (c : Command). HasOwnDraws c gave file drawn) (sym is) was
@@ -143,11 +144,20 @@ two_keeps (StampOf field value) old new run keyed fresh = cc
 two_keeps RekeyOf old new run keyed fresh = fresh refl
 two_keeps MigrateOf old new run keyed fresh = tt
 
-pub two_changes : (status : Status) (change : Change) (old new : Profile) (gave : List Secret → Type 0) (run : DiskRun) → keys_taken (command_of change old new) ≡ 2
-    → ((secrets : List Secret) → gave secrets → IsSafely status (command_of change old new) run (two_keys old new secrets)) → Changes status (command_of change old new) gave run
-two_changes status (StampOf field value) old new gave run keyed safe = cc
-two_changes status RekeyOf old new gave run keyed safe = safe
-two_changes status MigrateOf old new gave run keyed safe = safe
+pub two_beside : (change : Change) (old new : Profile) → writes_beside (command_of change old new) ≡ true → is_in_place change ≡ false
+two_beside (StampOf field value) old new beside = cc
+two_beside RekeyOf old new beside = cc
+two_beside MigrateOf old new beside = refl
+
+-- a command that writes nothing beside
+pub none_beside : (command other : Command) → command ≡ other → writes_beside other ≡ false → writes_beside command ≡ true → ⊥
+none_beside command other is none beside = let no = sym none ∙ (sym (ap writes_beside is) ∙ beside) in cc
+
+pub two_changes : (status : Status) (change : Change) (old new : Profile) (gave : List Secret → Type 0) (tells : Bool) (drawn : List ℕ) (run : DiskRun) → keys_taken (command_of change old new) ≡ 2
+    → ((secrets : List Secret) → gave secrets → IsSafely status (command_of change old new) tells drawn run (two_keys old new secrets)) → Changes status (command_of change old new) gave tells drawn run
+two_changes status (StampOf field value) old new gave tells drawn run keyed safe = cc
+two_changes status RekeyOf old new gave tells drawn run keyed safe = safe
+two_changes status MigrateOf old new gave tells drawn run keyed safe = safe
 
 -- ---- no call of the disk
 
@@ -177,25 +187,28 @@ module _ {D : Type 0} (reads : D → Files) (images : D → Files → Type 0) (m
   unchanged_keeps (Migrate old new) disk = tt
   unchanged_keeps (Make profile rows) disk = record { in_the_way = λ there. stays disk; journal = λ c ever. (c, only_now disk c ever, refl) }
 
-  safely : (status : Status) (command : Command) (disk : D) (renewal : Option Renewal) → (status ≡ Done → ⊥) → IsSafely status command (still disk) renewal
-  safely status command disk None never = tt
-  safely status command disk (Some renewal) never = λ start. inl (record { any_moment = λ c ever. start c (only_now disk c ever); not_done = never })
+  safely : (status : Status) (command : Command) (tells : Bool) (drawn : List ℕ) (disk : D) (renewal : Option Renewal) → (status ≡ Done → ⊥)
+      → IsSafely status command tells drawn (still disk) renewal
+  safely status command tells drawn disk None never = tt
+  safely status command tells drawn disk (Some renewal) never = λ start. inl (record { any_moment = λ c ever. start c (only_now disk c ever); not_done = never })
 
-  makes : (status : Status) (profile : Profile) (rows : ℕ) (disk : D) (secrets : List Secret) → (status ≡ Done → ⊥) → MakesWith status profile rows (still disk) secrets
-  makes status profile rows disk [] never = tt
-  makes status profile rows disk (secret ∷ rest) never = record {
+  makes : (status : Status) (profile : Profile) (rows : ℕ) (tells : Bool) (drawn : List ℕ) (disk : D) (secrets : List Secret) → (status ≡ Done → ⊥)
+      → MakesWith status profile rows tells drawn (still disk) secrets
+  makes status profile rows tells drawn disk [] never = tt
+  makes status profile rows tells drawn disk (secret ∷ rest) never = record {
     made = λ done. absurd (never done);
     safely = λ free. inl (record { any_moment = λ c ever. (free c (only_now disk c ever)).main; not_done = never });
   }
 
-  pub unchanged_changes : (status : Status) (command : Command) (gave : List Secret → Type 0) (disk : D) → (status ≡ Done → ⊥) → Changes status command gave (still disk)
-  unchanged_changes status (Tags profile) gave disk never = tt
-  unchanged_changes status (Header profile) gave disk never = tt
-  unchanged_changes status (Verify profile) gave disk never = tt
-  unchanged_changes status (Export profile) gave disk never = tt
-  unchanged_changes status Probe gave disk never = tt
-  unchanged_changes status (Recover profile) gave disk never = λ done. absurd (never done)
-  unchanged_changes status (Stamp profile field value) gave disk never = λ secrets has. safely status (Stamp profile field value) disk (same_key profile secrets) never
-  unchanged_changes status (Rekey old new) gave disk never = λ secrets has. safely status (Rekey old new) disk (two_keys old new secrets) never
-  unchanged_changes status (Migrate old new) gave disk never = λ secrets has. safely status (Migrate old new) disk (two_keys old new secrets) never
-  unchanged_changes status (Make profile rows) gave disk never = λ secrets has. makes status profile rows disk secrets never
+  pub unchanged_changes : (status : Status) (command : Command) (gave : List Secret → Type 0) (tells : Bool) (drawn : List ℕ) (disk : D) → (status ≡ Done → ⊥)
+      → Changes status command gave tells drawn (still disk)
+  unchanged_changes status (Tags profile) gave tells drawn disk never = tt
+  unchanged_changes status (Header profile) gave tells drawn disk never = tt
+  unchanged_changes status (Verify profile) gave tells drawn disk never = tt
+  unchanged_changes status (Export profile) gave tells drawn disk never = tt
+  unchanged_changes status Probe gave tells drawn disk never = tt
+  unchanged_changes status (Recover profile) gave tells drawn disk never = tt
+  unchanged_changes status (Stamp profile field value) gave tells drawn disk never = λ secrets has. safely status (Stamp profile field value) tells drawn disk (same_key profile secrets) never
+  unchanged_changes status (Rekey old new) gave tells drawn disk never = λ secrets has. safely status (Rekey old new) tells drawn disk (two_keys old new secrets) never
+  unchanged_changes status (Migrate old new) gave tells drawn disk never = λ secrets has. safely status (Migrate old new) tells drawn disk (two_keys old new secrets) never
+  unchanged_changes status (Make profile rows) gave tells drawn disk never = λ secrets has. makes status profile rows tells drawn disk secrets never

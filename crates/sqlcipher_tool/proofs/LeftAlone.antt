@@ -1,18 +1,20 @@
 -- Files of which nothing is recovered are left alone.
-use Rattle.std.proofs.Common.{◌≡◌, ◌⊎◌, ⊎_elim, inl, inr, ℕ, ◌≤◌, Bool, true, false, IsTrue, List, [], ◌∷◌, length, Option, Some, None, Result, Ok, Err, refl, sym, ap, subst, ◌∙◌}
-use Rattle.std.specs.Prelude.{◌≢◌, IfErr, IsErr, OnOk, unwrap_or}
+use Rattle.std.proofs.Common.{◌≡◌, ⊎_elim, ℕ, ◌≤◌, Bool, true, false, not, ◌==◌, if◌then◌else◌, IsTrue, List, [], ◌∷◌, length, Option, Some, None, Result, Ok, Err, refl, sym, subst, ◌∙◌}
+use Rattle.std.specs.Prelude.{IsErr, unwrap_or}
 use Rattle.cipher_profile.specs.declared.keys.Secret.{Secret}
 use Rattle.cipher_profile.specs.declared.profile.Profile.{Profile}
 use Rattle.edge_model.specs.Files.{Files, bytes_of}
+use Rattle.edge_model.specs.Images.{LeavesOnly}
 use Rattle.edge_model.specs.OnlyRead.{OnlyRead}
-use Rattle.page_codec.specs.Page.{FileKeys, keys_of}
+use Rattle.journal_format.specs.Header.{page_size_at}
+use Rattle.journal_format.specs.Segments.{is_hot, names_super, played}
 use Rattle.pager.specs.File.{main_of}
-use Rattle.pager.specs.Opening.{Opened, file_opened}
+use Rattle.pager.specs.Opening.{Opened}
 use Rattle.pager.specs.declared.opening.OpenError.{OpenError}
 use Rattle.rollback_journal.specs.declared.recovery.Recovery.{Recovery}
-use Rattle.rollback_journal.specs.declared.recovery.Recovery.TheVariants.{Nothing}
+use Rattle.rollback_journal.specs.declared.recovery.Recovery.TheVariants.{Nothing, Cold, Played}
 use Rattle.rollback_journal.specs.declared.recovery.RecoverError.{RecoverError}
-use Rattle.rollback_journal.specs.declared.recovery.RecoverError.TheVariants.{DiskFault as DiskFails, OutOfMemory as MemoryEnds}
+use Rattle.rollback_journal.specs.declared.recovery.RecoverError.TheVariants.{JournalPageSize, SuperJournal}
 use Rattle.rollback_journal.specs.Recovery.{answer_of, changes_nothing}
 use Rattle.sqlcipher_tool.specs.Change.{command_of}
 use Rattle.sqlcipher_tool.specs.Holding.{DiskRun, disk_run}
@@ -21,10 +23,6 @@ use Rattle.sqlcipher_tool.specs.Recovered.{recovery_of}
 use Rattle.sqlcipher_tool.specs.Untouched.{HasNoFile, IsUnwritten, LeavesAlone, recovers_by}
 use Rattle.sqlcipher_tool.specs.declared.change.Change.{Change}
 use Rattle.sqlcipher_tool.specs.declared.change.Change.TheVariants.{Stamp as StampOf, Rekey as RekeyOf, Migrate as MigrateOf}
-use Rattle.sqlcipher_tool.specs.declared.command.Command.{Command}
-use Rattle.sqlcipher_tool.specs.declared.opening.Stop.{Stop}
-use Rattle.sqlcipher_tool.specs.declared.opening.Stop.TheVariants.{DiskFault as StopDisk}
-use Rattle.sqlcipher_tool.specs.declared.status.Status.{Status}
 
 -- ---- a recovery that is done where there is no file
 
@@ -45,21 +43,30 @@ not_done r did is err = no_error (subst IsErr is err)
 pub has_no_byte : (profile : Profile) (files : Files) (did : Recovery) → recovery_of profile files ≡ Ok did → HasNoFile profile files → length (main_of files) ≡ 0
 has_no_byte profile files did is none = ⊎_elim (λ empty. empty) (λ refused. absurd (not_done (recovery_of profile files) did is refused)) none
 
-abbrev as_done : Recovery → Result Recovery RecoverError
-as_done did = Ok did
+-- the answer to a Main and a Journal that are there, by what is found of them
+abbrev found_answer : ℕ → ℕ → Bool → Bool → Bool → Bool → Result Recovery RecoverError
+found_answer found records empty hot taken named =
+    if empty then Ok Nothing else if not hot then Ok Cold else if not taken then Err (JournalPageSize found) else if named then Err SuperJournal else Ok (Played records)
 
-done_not_err : (did : Recovery) (e : RecoverError) → as_done did ≡ Err e → ⊥
-done_not_err did e is = cc
+found_idle : (found records : ℕ) (empty hot taken named : Bool) → IsErr (found_answer found records empty hot taken named)
+    → IsTrue (changes_nothing (found_answer found records empty hot taken named))
+found_idle found records true hot taken named err = refl
+found_idle found records false false taken named err = absurd (no_error err)
+found_idle found records false true false named err = refl
+found_idle found records false true true true err = refl
+found_idle found records false true true false err = absurd (no_error err)
 
-pub did_nothing : (profile : Profile) (files : Files) (r : Result Recovery RecoverError) (did : Recovery) → r ≡ Ok did
-    → (r ≡ recovery_of profile files) ⊎ (r ≡ Err DiskFails) ⊎ (r ≡ Err MemoryEnds) → HasNoFile profile files → IsTrue (changes_nothing r)
-did_nothing profile files r did is answer none = ⊎_elim
-    (λ (same : r ≡ recovery_of profile files).
-    let empty = has_no_byte profile files did (sym same ∙ is) none in
-    let nothing : r ≡ Ok Nothing = same ∙ empty_nothing profile.page_size (bytes_of files.main) (bytes_of files.journal) empty in
-    subst (λ (x : Result Recovery RecoverError). IsTrue (changes_nothing x)) (sym nothing) refl)
-    (λ failed. ⊎_elim (λ (same : r ≡ Err DiskFails). absurd (done_not_err did DiskFails (sym is ∙ same))) (λ (same : r ≡ Err MemoryEnds). absurd (done_not_err did MemoryEnds (sym is ∙ same))) failed)
-    answer
+refused_idle : (size : ℕ) (main journal : Option (List ℕ)) → IsErr (answer_of size main journal) → IsTrue (changes_nothing (answer_of size main journal))
+refused_idle size None journal err = refl
+refused_idle size (Some main) None err = refl
+refused_idle size (Some main) (Some journal) err =
+    found_idle (page_size_at 0 journal) (length (played size journal)) (length main == 0) (is_hot main journal) (page_size_at 0 journal == size) (names_super journal) err
+
+-- where there is no file the recovery has nothing to do
+is_idle : (profile : Profile) (files : Files) → HasNoFile profile files → IsTrue (changes_nothing (recovery_of profile files))
+is_idle profile files none = ⊎_elim
+    (λ empty. subst (λ (r : Result Recovery RecoverError). IsTrue (changes_nothing r)) (sym (empty_nothing profile.page_size (bytes_of files.main) (bytes_of files.journal) empty)) refl)
+    (λ refused. refused_idle profile.page_size (bytes_of files.main) (bytes_of files.journal) refused) none
 
 -- ---- a file that does not open
 
@@ -89,18 +96,21 @@ pub unmoved : {D : Type 0} (reads : D → Files) (images : D → Files → Type 
     (only_now : (disk : D) (c : Files) → since disk (moment disk) c → images disk c) (disk : D) → IsUnwritten (disk_run reads images moment since disk disk)
 unmoved reads images moment since only_now disk = record { reads = refl; no_more = λ image ever. only_now disk image ever }
 
-pub left_alone : (status : Status) (profile : Option Profile) (run : DiskRun) → IsUnwritten run → LeavesAlone status profile run
-left_alone status None run is = tt
-left_alone status (Some profile) run is = λ none ok. is
+-- an idle recovery
+pub left_idle : {D : Type 0} (reads : D → Files) (images : D → Files → Type 0) {moment : D → ℕ} {since : D → ℕ → Files → Type 0} (profile : Profile) {old new : D}
+    → (IsTrue (changes_nothing (recovery_of profile (reads old))) → reads new ≡ reads old)
+    → (IsTrue (changes_nothing (recovery_of profile (reads old))) → LeavesOnly moment since old new (images old))
+    → HasNoFile profile (reads old) → IsUnwritten (disk_run reads images moment since old new)
+left_idle reads images profile {old} same only none =
+    let idle = is_idle profile (reads old) none in
+    record { reads = same idle; no_more = λ image ever. (only idle).each image ever }
+
+pub left_alone : (profile : Option Profile) (run : DiskRun) → IsUnwritten run → LeavesAlone profile run
+left_alone None run is = tt
+left_alone (Some profile) run is = λ none. is
 
 -- a change recovers the old file
 pub change_recovers : (change : Change) (old new : Profile) → recovers_by (command_of change old new) ≡ Some old
 change_recovers (StampOf field value) old new = refl
 change_recovers RekeyOf old new = refl
 change_recovers MigrateOf old new = refl
-
--- what holds of a result, and of an error that is no fault of the disk, holds of an outcome that is none
-pub either_way : {T : Type 0} (outcome : Result T Stop) {told : Type 0} {none : Type 0} {P : Type 0} → told → none → (outcome ≡ Err StopDisk → ⊥)
-    → OnOk outcome (told → none → P) → IfErr outcome (λ stop. told → stop ≢ StopDisk → P) → P
-either_way (Ok report) told none other done failed = done told none
-either_way (Err stop) told none other done failed = failed told (λ is. other (ap Err is))

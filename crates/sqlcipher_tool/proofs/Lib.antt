@@ -22,6 +22,7 @@ pub mod StampedPages
 pub mod Changing
 pub mod Stamping
 pub mod Changed
+pub mod Behind
 pub mod Making
 pub mod MadeFile
 pub mod MigratedFile

@@ -17,6 +17,7 @@ use Rattle.fresh_file.specs.State.{most_pages}
 use Rattle.make_job.specs.Stops.{in_the_way, is_refusal}
 use Rattle.make_job.specs.declared.error.MakeError.{MakeError}
 use Rattle.make_job.specs.declared.error.MakeError.TheVariants.{FileThere as MainStands, JournalThere as JournalStands, TooManyPages as PagesEnd, DiskFault as DiskFails, EntropyFault as DrawFails, OutOfMemory as MemoryEnds}
+use Rattle.pager.specs.File.{main_of}
 use Rattle.sqlcipher_tool.specs.Answer.{Answer, done, refused}
 use Rattle.sqlcipher_tool.specs.Change.{Commits, IsLateChange, KeepsOld, KeepsOrCommits, change_answer, change_status}
 use Rattle.sqlcipher_tool.specs.Crash.{HasNoMain, SameJournal, Stays}
@@ -167,6 +168,15 @@ same_journal {images = images} {old = old} may = ⊎_elim
   where
     as_old : (images : Files → Type 0) (c : Files) → IsOld images c → From SameJournal images c
     as_old images c from = (from.0, from.1, from.2.journal)
+
+-- of the file that has taken Main's place holds what holds of Main
+pub place_with : {D : Type 0} {reads : D → Files} {images : D → Files → Type 0} {moment : D → ℕ} {since : D → ℕ → Files → Type 0} {is_new : List ℕ → Type 0} {old new : D} (own : List ℕ → Type 0)
+    → TakesPlace reads images moment since is_new old new → own (main_of (reads new)) → TakesPlace reads images moment since (λ file. is_new file × own file) old new
+place_with own there has = record {
+  may = record { file = there.may.file; is = (there.may.is, subst own (ap (λ (files : Files). main_of files) there.reads_so) has); any_moment = there.may.any_moment };
+  reads_so = there.reads_so;
+  at_exit = there.at_exit;
+}
 
 -- no image at the start has a Main or a Journal
 module _ {D : Type 0} (reads : D → Files) (images : D → Files → Type 0) (moment : D → ℕ) (since : D → ℕ → Files → Type 0)

@@ -39,7 +39,7 @@ use Rattle.rekey_job.specs.Draws.{FileDraws}
 use Rattle.sqlcipher_tool.specs.Holding.{HoldsOnly, held_by}
 use Rattle.sqlcipher_tool.specs.Plain.{is_left, refused_in_use}
 use Rattle.sqlcipher_tool.specs.Rekey.{rekey_due}
-use Rattle.sqlcipher_tool.specs.Renewal.{pages_of}
+use Rattle.sqlcipher_tool.specs.Renewal.{WithDraws, pages_of}
 use Rattle.sqlcipher_tool.specs.Tags.{numbers_where, page_numbers}
 use Rattle.sqlcipher_tool.specs.Text.{rekeyed_report}
 use Rattle.sqlcipher_tool.specs.Verify.{else_answers, stop_answers}
@@ -196,12 +196,17 @@ module _ {D : Type 0} (reads : D → Files) (images : D → Files → Type 0) (m
     (counts_now : (disk : D) (t : ℕ) (c : Files) → t ≤ moment disk → images disk c → since disk t c)
     (only_now : (disk : D) (c : Files) → since disk (moment disk) c → images disk c)
     (keys write : FileKeys) (file : List ℕ) (header : Header) (n : ℕ) (opens : file_opened keys file ≡ Ok (record { header = header; count = n })) (some : 1 ≤ n) (sized : 1 ≤ keys.profile.page_size)
-    (sizes : write.profile.page_size ≡ keys.profile.page_size) (reserves : write.profile.reserve ≡ keys.profile.reserve) (old new : D) (alone : Each (images old) (IsAlone file)) where
+    (sizes : write.profile.page_size ≡ keys.profile.page_size) (reserves : write.profile.reserve ≡ keys.profile.reserve) (old new : D) (alone : Each (images old) (IsAlone file))
+    (tells : Bool) (own : List ℕ → Type 0) where
   abbrev pub Old : Files → Type 0
   Old image = HoldsOnly (held_by keys file) image
 
   abbrev pub New : List ℕ → Files → Type 0
   New main image = HoldsOnly (held_by write main) image
+
+  -- a rekeyed file, with what is said of its draws
+  abbrev pub IsOne : List ℕ → Type 0
+  IsOne = WithDraws (IsRekeyed keys write n file) tells own
 
   parts_open : IsOpen keys file header n
   parts_open = open_parts keys file header n opens
@@ -235,19 +240,19 @@ module _ {D : Type 0} (reads : D → Files) (images : D → Files → Type 0) (m
   before : LeavesOnly moment since old old Old
   before = started only_now old Old at_start
 
-  holds : (main : List ℕ) → IsRekeyed keys write n file main → (c : Files) → HoldsPages (base_of keys file n) (stored_pages keys.profile.page_size n main) c → New main c
-  holds main rekeyed c is = holds_rekeyed keys write file main n c some sizes reserves rekeyed is
+  holds : (main : List ℕ) → IsOne main → (c : Files) → HoldsPages (base_of keys file n) (stored_pages keys.profile.page_size n main) c → New main c
+  holds main one c is = holds_rekeyed keys write file main n c some sizes reserves one.0 is
 
   -- it was done
-  pub done_rekey : (main : List ℕ) → IsRekeyed keys write n file main → Each (images new) (IsCommitted (base_of keys file n) main)
+  pub done_rekey : (main : List ℕ) → IsOne main → Each (images new) (IsCommitted (base_of keys file n) main)
       → LeavesOnly moment since old new (HoldsEither (base_of keys file n) (stored_pages keys.profile.page_size n main)) → bytes_of (reads new).main ≡ Some main
-      → Commits reads images moment since Done (IsRekeyed keys write n file) Old New old new
-  done_rekey main rekeyed now run is = committed reads images moment since counts_now only_now (base_of keys file n) (IsRekeyed keys write n file) was_old (λ main has. has) holds before main rekeyed now run is
+      → Commits reads images moment since Done IsOne Old New old new
+  done_rekey main rekeyed now run is = committed reads images moment since counts_now only_now (base_of keys file n) IsOne was_old (λ main has. has) holds before main rekeyed now run is
 
   -- it was stopped
   pub stopped_rekey : (error : RekeyError) → (is_unwritten error ≡ true → OnlyRead reads images moment since old new)
-      → (error ≡ RekeyEntropy → LeavesOnly moment since old new (HoldsOld (base_of keys file n))) → LeavesChanged moment since (base_of keys file n) (IsRekeyed keys write n file) old new
-      → KeepsOrCommits reads images moment since (change_status (Err (rekey_error error))) (IsRekeyed keys write n file) Old New old new
+      → (error ≡ RekeyEntropy → LeavesOnly moment since old new (HoldsOld (base_of keys file n))) → LeavesChanged moment since (base_of keys file n) IsOne old new
+      → KeepsOrCommits reads images moment since (change_status (Err (rekey_error error))) IsOne Old New old new
   stopped_rekey error read undrawn run = by_error error read undrawn
     where
       kept : (status : Status) → (status ≡ Done → ⊥) → OnlyRead reads images moment since old new → KeepsOld moment since status Old old new
@@ -255,12 +260,12 @@ module _ {D : Type 0} (reads : D → Files) (images : D → Files → Type 0) (m
 
       by_error : (error : RekeyError) → (is_unwritten error ≡ true → OnlyRead reads images moment since old new)
           → (error ≡ RekeyEntropy → LeavesOnly moment since old new (HoldsOld (base_of keys file n)))
-          → KeepsOrCommits reads images moment since (change_status (Err (rekey_error error))) (IsRekeyed keys write n file) Old New old new
+          → KeepsOrCommits reads images moment since (change_status (Err (rekey_error error))) IsOne Old New old new
       by_error LayoutDiffers read undrawn = inl (kept _ (λ is. cc) (read refl))
       by_error (RekeyTag page) read undrawn = inl (kept _ (λ is. cc) (read refl))
       by_error (RekeyDefect defect) read undrawn = inl (kept _ (λ is. cc) (read refl))
       by_error RekeyDisk read undrawn =
-          broken reads images moment since counts_now only_now (base_of keys file n) (IsRekeyed keys write n file) was_old (λ main has. has) holds before run
+          broken reads images moment since counts_now only_now (base_of keys file n) IsOne was_old (λ main has. has) holds before run
       by_error RekeyEntropy read undrawn =
-          inl (uncommitted reads images moment since counts_now only_now (base_of keys file n) (IsRekeyed keys write n file) was_old (λ main has. has) holds before _ (λ is. cc) (undrawn refl))
+          inl (uncommitted reads images moment since counts_now only_now (base_of keys file n) IsOne was_old (λ main has. has) holds before _ (λ is. cc) (undrawn refl))
       by_error RekeyMemory read undrawn = inl (kept _ (λ is. cc) (read refl))

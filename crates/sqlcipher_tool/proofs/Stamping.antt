@@ -38,6 +38,7 @@ use Rattle.sqlcipher_tool.specs.Change.{Commits, IsLateChange, KeepsOld, KeepsOr
 use Rattle.sqlcipher_tool.specs.Stop.{IsLate, stop_of}
 use Rattle.rekey_job.specs.Draws.{FileDraws}
 use Rattle.sqlcipher_tool.specs.Holding.{HoldsOnly, held_by}
+use Rattle.sqlcipher_tool.specs.Renewal.{WithDraws}
 use Rattle.sqlcipher_tool.specs.Stamp.{IsStamped, field_at, next_change, stamped_page, with_field}
 use Rattle.sqlcipher_tool.specs.declared.command.Field.{Field}
 use Rattle.sqlcipher_tool.specs.declared.opening.Stop.TheVariants.{DiskFault as StopDisk}
@@ -260,7 +261,7 @@ module _ {D : Type 0} (reads : D → Files) (images : D → Files → Type 0) (m
         (touched : ℕ → Bool) (pages : ℕ → List ℕ) (tells : Bool) (after : List ℕ)
         (is_page : pages 1 ≡ stamped_page field value n (opened keys 1 (page_stored keys file 1))) (one : (m : ℕ) → is_number n m ≡ true → touched m ≡ (m == 1)) where
       abbrev pub IsNew : List ℕ → Type 0
-      IsNew main = IsStamped keys field value file main
+      IsNew = WithDraws (IsStamped keys field value file) tells (λ main. FileDraws keys main (λ m. m == 1) 0 (drop (length start.drawn) after))
 
       abbrev pub HasNew : List ℕ → Type 0
       HasNew main = HasNewPages start keys touched pages tells after main
@@ -275,7 +276,10 @@ module _ {D : Type 0} (reads : D → Files) (images : D → Files → Type 0) (m
       as_file main has = subst (λ (b : Base). HasNewPages (record { base = b; drawn = start.drawn }) keys touched pages tells after main) is_start has
 
       is_new : (main : List ℕ) → HasNew main → IsNew main
-      is_new main has = is_stamped keys field value n file header parts some salt room touched pages tells start.drawn after main is_page one (as_file main has)
+      is_new main has = (
+        is_stamped keys field value n file header parts some salt room touched pages tells start.drawn after main is_page one (as_file main has),
+        own_draws keys field value n file header parts some salt room touched pages tells start.drawn after main is_page one (as_file main has),
+      )
 
       is_long : (main : List ℕ) → HasNew main → n * keys.profile.page_size ≤ length main
       is_long main has = new_long keys field value n file header parts some salt room touched pages tells start.drawn after main is_page one (as_file main has)
@@ -305,4 +309,4 @@ module _ {D : Type 0} (reads : D → Files) (images : D → Files → Type 0) (m
 
       pub draws : IsTrue tells → HasNew (read_main (reads new)) → FileDraws keys (main_of (reads new)) (λ m. m == 1) 0 (drop (length start.drawn) after)
       draws told has = subst (λ (l : List ℕ). FileDraws keys l (λ m. m == 1) 0 (drop (length start.drawn) after)) (sym (same_main (reads new)))
-          (own_draws keys field value n file header parts some salt room touched pages tells start.drawn after (read_main (reads new)) is_page one (as_file (read_main (reads new)) has) told)
+          ((is_new (read_main (reads new)) has).1 told)

@@ -1,14 +1,15 @@
 -- What a crash at any moment of a run leaves, and what the run leaves at its end.
-use Rattle.std.specs.Prelude.{◌≡◌, ◌⊎◌, ◌<◌, ℕ, Bool, true, IsTrue, List, [], ◌∷◌, length, Option, Some, None, Result, Ok}
+use Rattle.std.specs.Prelude.{◌≡◌, ◌⊎◌, ℕ, Bool, true, IsTrue, List, [], ◌∷◌, Option, Some, None, Result, Ok}
 use Rattle.edge_model.specs.Files.{Files, bytes_of}
 use Rattle.edge_model.specs.Images.{Each, From}
 use Rattle.disk_side.specs.Published.{IsNew as IsAlone}
+use Rattle.fresh_file.specs.Draws.{HasOwnDraws as AreOwn}
 use Rattle.make_job.specs.Free.{IsFree}
 use Rattle.make_job.specs.Made.{IsMade}
 use Rattle.cipher_profile.specs.declared.key_line.KeyError.{KeyError}
 use Rattle.cipher_profile.specs.declared.keys.Secret.{Secret}
 use Rattle.cipher_profile.specs.declared.profile.Profile.{Profile}
-use Rattle.rollback_journal.specs.Recovery.{IsDone, Keeps as KeepsRecovered}
+use Rattle.rollback_journal.specs.Recovery.{Keeps as KeepsRecovered}
 use Rattle.sqlcipher_tool.specs.declared.command.Command.{Command}
 use Rattle.sqlcipher_tool.specs.declared.command.Command.TheVariants.{Tags, Header, Verify, Export, Probe, Recover, Stamp, Rekey, Migrate, Make}
 use Rattle.sqlcipher_tool.specs.declared.status.Status.{Status}
@@ -16,7 +17,8 @@ use Rattle.sqlcipher_tool.specs.declared.status.Status.TheVariants.{Done, Usage,
 use Rattle.sqlcipher_tool.specs.Holding.{Held, HoldsOnly, HoldsOneOf, AreOfSize, DiskRun, held_by}
 use Rattle.sqlcipher_tool.specs.Make.{has_main_or_journal}
 use Rattle.sqlcipher_tool.specs.Recovered.{recovered_main}
-use Rattle.sqlcipher_tool.specs.Renewal.{Renewal, renewal, old_keys, new_keys, IsNew, AreDrawn}
+use Rattle.sqlcipher_tool.specs.Renewal.{Renewal, renewal, old_keys, new_keys, AreDrawn, IsNewDrawn, WithDraws}
+use Rattle.page_codec.specs.Page.{keys_of}
 use Rattle.pager.specs.File.{main_of}
 use Rattle.transaction.specs.Facts.{SameFresh}
 
@@ -91,12 +93,13 @@ old_held renewal files = let file = recovered_main renewal.old_profile files in 
 abbrev pub new_held : Renewal → List ℕ → Held
 new_held renewal file = held_by (new_keys renewal file) file
 
--- where each image at the start holds the old database alone, there is never another, or there is one new file
-abbrev pub IsSafely : Status → Command → DiskRun → Option Renewal → Type 0
-IsSafely status command run None = Unit {0}
-IsSafely status command run (Some renewal) =
+-- Where each image at the start holds the old database alone, there is never another, or there is one new file, each page of which that
+-- the command sealed has bytes of its own of those that were drawn.
+abbrev pub IsSafely : Status → Command → Bool → List ℕ → DiskRun → Option Renewal → Type 0
+IsSafely status command tells drawn run None = Unit {0}
+IsSafely status command tells drawn run (Some renewal) =
     Each run.at_start (HoldsOnly (old_held renewal run.before))
-    → StaysOrRenews status (IsNew command renewal (recovered_main renewal.old_profile run.before)) (HoldsOnly (old_held renewal run.before))
+    → StaysOrRenews status (IsNewDrawn command renewal tells drawn (recovered_main renewal.old_profile run.before)) (HoldsOnly (old_held renewal run.before))
     (λ file. HoldsOnly (new_held renewal file)) run
 
 -- ---- a new file where none was
@@ -105,14 +108,15 @@ abbrev pub HasNoMain : Files → Type 0
 HasNoMain image = image.main ≡ None
 
 -- After Done Main is a made file. Where no image at the start has a Main or a Journal, there is never a Main, or there is one made file.
-pub record Makes (status : Status) (profile : Profile) (secret : Secret) (rows : ℕ) (run : DiskRun) : Type 0 where
+pub record Makes (status : Status) (profile : Profile) (secret : Secret) (rows : ℕ) (tells : Bool) (drawn : List ℕ) (run : DiskRun) : Type 0 where
   pub made : status ≡ Done → IsMade profile secret rows (main_of run.after)
-  pub safely : Each run.at_start IsFree → StaysOrRenews status (IsMade profile secret rows) HasNoMain IsAlone run
+  pub safely : Each run.at_start IsFree
+      → StaysOrRenews status (WithDraws (IsMade profile secret rows) tells (λ file. AreOwn (keys_of profile secret file) file drawn)) HasNoMain IsAlone run
 
 -- the same with the secret that was given
-abbrev pub MakesWith : Status → Profile → ℕ → DiskRun → List Secret → Type 0
-MakesWith status profile rows run [] = Unit {0}
-MakesWith status profile rows run (secret ∷ rest) = Makes status profile secret rows run
+abbrev pub MakesWith : Status → Profile → ℕ → Bool → List ℕ → DiskRun → List Secret → Type 0
+MakesWith status profile rows tells drawn run [] = Unit {0}
+MakesWith status profile rows tells drawn run (secret ∷ rest) = Makes status profile secret rows tells drawn run
 
 -- ---- by command
 
@@ -133,28 +137,23 @@ Keeps (Rekey old new) run = KeepsFresh run
 Keeps (Migrate old new) run = Unit {0}
 Keeps (Make profile rows) run = KeepsFiles run
 
--- after Done, where Main had a byte, every image has the recovered file as Main and no journal
-abbrev pub IsRecovered : Profile → Status → DiskRun → Type 0
-IsRecovered profile status run =
-    status ≡ Done → 0 < length (main_of run.before)
-    → Each run.at_exit (IsDone profile.page_size (bytes_of run.before.main) (bytes_of run.before.journal))
-
--- what a command changes with the secrets that it was given, at every moment and by its status
-abbrev pub Changes : Status → Command → (List Secret → Type 0) → DiskRun → Type 0
-Changes status (Tags profile) gave run = Unit {0}
-Changes status (Header profile) gave run = Unit {0}
-Changes status (Verify profile) gave run = Unit {0}
-Changes status (Export profile) gave run = Unit {0}
-Changes status Probe gave run = Unit {0}
-Changes status (Recover profile) gave run = IsRecovered profile status run
-Changes status (Stamp profile field value) gave run =
+-- What a command changes with the secrets that it was given, at every moment and by its status. `drawn` are the bytes that it drew, where
+-- the entropy tells them.
+abbrev pub Changes : Status → Command → (List Secret → Type 0) → Bool → List ℕ → DiskRun → Type 0
+Changes status (Tags profile) gave tells drawn run = Unit {0}
+Changes status (Header profile) gave tells drawn run = Unit {0}
+Changes status (Verify profile) gave tells drawn run = Unit {0}
+Changes status (Export profile) gave tells drawn run = Unit {0}
+Changes status Probe gave tells drawn run = Unit {0}
+Changes status (Recover profile) gave tells drawn run = Unit {0}
+Changes status (Stamp profile field value) gave tells drawn run =
     (secrets : List Secret) → gave secrets
-    → IsSafely status (Stamp profile field value) run (renewal (Stamp profile field value) secrets)
-Changes status (Rekey old new) gave run =
-    (secrets : List Secret) → gave secrets → IsSafely status (Rekey old new) run (renewal (Rekey old new) secrets)
-Changes status (Migrate old new) gave run =
-    (secrets : List Secret) → gave secrets → IsSafely status (Migrate old new) run (renewal (Migrate old new) secrets)
-Changes status (Make profile rows) gave run = (secrets : List Secret) → gave secrets → MakesWith status profile rows run secrets
+    → IsSafely status (Stamp profile field value) tells drawn run (renewal (Stamp profile field value) secrets)
+Changes status (Rekey old new) gave tells drawn run =
+    (secrets : List Secret) → gave secrets → IsSafely status (Rekey old new) tells drawn run (renewal (Rekey old new) secrets)
+Changes status (Migrate old new) gave tells drawn run =
+    (secrets : List Secret) → gave secrets → IsSafely status (Migrate old new) tells drawn run (renewal (Migrate old new) secrets)
+Changes status (Make profile rows) gave tells drawn run = (secrets : List Secret) → gave secrets → MakesWith status profile rows tells drawn run secrets
 
 -- what was drawn for the new file
 abbrev pub IsDrawnFor : Command → Option Renewal → List ℕ → List ℕ → Type 0

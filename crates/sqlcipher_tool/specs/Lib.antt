@@ -1,4 +1,5 @@
 pub mod Answer
+pub mod Behind
 pub mod Change
 pub mod Crash
 pub mod Plain

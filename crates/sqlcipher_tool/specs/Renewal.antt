@@ -1,5 +1,5 @@
 -- What the new file of a command is to the old one.
-use Rattle.std.specs.Prelude.{ℕ, ◌==◌, List, [], ◌∷◌, Option, Some, None, unwrap_or}
+use Rattle.std.specs.Prelude.{ℕ, ◌==◌, Bool, IsTrue, List, [], ◌∷◌, Option, Some, None, unwrap_or}
 use Rattle.cipher_profile.specs.declared.keys.Secret.{Secret}
 use Rattle.cipher_profile.specs.declared.profile.Profile.{Profile}
 use Rattle.page_codec.specs.Page.{FileKeys, keys_of}
@@ -98,3 +98,11 @@ AreDrawn (Stamp profile field value) renewal file drawn = FileDraws (new_keys re
 AreDrawn (Rekey old new) renewal file drawn = FileDraws (new_keys renewal file) file (is_number (pages_of (new_keys renewal file) file)) 0 drawn
 AreDrawn (Migrate old new) renewal file drawn = HasOwnDraws (new_keys renewal file) file drawn
 AreDrawn (Make profile rows) renewal file drawn = HasOwnDraws (new_keys renewal file) file drawn
+
+-- such a file, and of it holds what is said of its draws, where the entropy tells them
+abbrev pub WithDraws : (List ℕ → Type 0) → Bool → (List ℕ → Type 0) → List ℕ → Type 0
+WithDraws is_new tells own file = is_new file × (IsTrue tells → own file)
+
+-- the file `after` is a new file of the command for the file `before`, and the pages that the command sealed have drawn bytes of their own
+abbrev pub IsNewDrawn : Command → Renewal → Bool → List ℕ → List ℕ → List ℕ → Type 0
+IsNewDrawn command renewal tells drawn before after = WithDraws (IsNew command renewal before) tells (λ file. AreDrawn command renewal file drawn) after

@@ -1,5 +1,5 @@
 -- A command that recovers Main first leaves the disk alone where there is no file to recover.
-use Rattle.std.specs.Prelude.{◌≡◌, ◌≢◌, ◌⊎◌, length, Option, Some, None, IsErr}
+use Rattle.std.specs.Prelude.{◌≡◌, ◌⊎◌, length, Option, Some, None, IsErr}
 use Rattle.cipher_profile.specs.declared.profile.Profile.{Profile}
 use Rattle.edge_model.specs.Files.{Files}
 use Rattle.edge_model.specs.Images.{Each}
@@ -8,8 +8,6 @@ use Rattle.sqlcipher_tool.specs.Holding.{DiskRun}
 use Rattle.sqlcipher_tool.specs.Recovered.{recovery_of}
 use Rattle.sqlcipher_tool.specs.declared.command.Command.{Command}
 use Rattle.sqlcipher_tool.specs.declared.command.Command.TheVariants.{Tags, Header, Verify, Export, Probe, Recover, Stamp, Rekey, Migrate, Make}
-use Rattle.sqlcipher_tool.specs.declared.status.Status.{Status}
-use Rattle.sqlcipher_tool.specs.declared.status.Status.TheVariants.{DiskFault}
 
 -- the profile by which it recovers Main; `probe` and `make` recover nothing
 abbrev pub recovers_by : Command → Option Profile
@@ -33,7 +31,7 @@ pub record IsUnwritten (run : DiskRun) : Type 0 where
   pub reads : run.after ≡ run.before
   pub no_more : Each run.ever run.at_start
 
--- where there is no file to recover, nothing is written, unless the disk fails
-abbrev pub LeavesAlone : Status → Option Profile → DiskRun → Type 0
-LeavesAlone status None run = Unit {0}
-LeavesAlone status (Some profile) run = HasNoFile profile run.before → status ≢ DiskFault → IsUnwritten run
+-- where there is no file to recover, nothing is written, not even where the disk fails
+abbrev pub LeavesAlone : Option Profile → DiskRun → Type 0
+LeavesAlone None run = Unit {0}
+LeavesAlone (Some profile) run = HasNoFile profile run.before → IsUnwritten run

@@ -148,6 +148,19 @@ draws (Rekey old new) = true
 draws (Migrate old new) = true
 draws (Make profile rows) = true
 
+-- it writes a new file beside, in Fresh, which takes the place of Main
+abbrev pub writes_beside : Command → Bool
+writes_beside (Tags profile) = false
+writes_beside (Header profile) = false
+writes_beside (Verify profile) = false
+writes_beside (Export profile) = false
+writes_beside Probe = false
+writes_beside (Recover profile) = false
+writes_beside (Stamp profile field value) = false
+writes_beside (Rekey old new) = false
+writes_beside (Migrate old new) = true
+writes_beside (Make profile rows) = true
+
 -- the words' bytes
 abbrev pub texts : List (Bor (List ℕ)) → List (List ℕ)
 texts words = map (λ word. word.now) words

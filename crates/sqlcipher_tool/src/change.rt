@@ -1,6 +1,7 @@
 // A change of the file: it is recovered, opened, and changed in one transaction, or written anew.
-ghost use Rattle.std.specs.Prelude.{◌≡◌, ◌≢◌, ◌≤◌, drop, length, true, Some, Err, IfErr, IsErr, OnOk, IsTrue};
+ghost use Rattle.std.specs.Prelude.{◌≡◌, ◌≤◌, drop, length, true, false, None, Some, Err, IfErr, IsErr, OnOk, IsTrue};
 ghost use Rattle.std.specs.List.{Contains};
+ghost use Rattle.disk_side.specs.OnlyFresh.{IsOld};
 ghost use Rattle.disk_side.specs.Published.{IsNew as IsAlone};
 ghost use Rattle.cipher_profile.specs.Profile.{IsListed};
 ghost use Rattle.edge_model.specs.Causes.{Rose};
@@ -10,13 +11,14 @@ ghost use Rattle.page_codec.specs.Page.{keys_of};
 ghost use Rattle.pager.specs.File.{main_of};
 ghost use Rattle.transaction.specs.Facts.{SameFresh};
 ghost use Rattle.sqlcipher_tool.specs.Answer.{Answer, HasDrawnCauses, PutsLine};
+ghost use Rattle.sqlcipher_tool.specs.Behind.{HasOnlyRead, IsRecovered, IsRefusedChange};
 ghost use Rattle.sqlcipher_tool.specs.Change.{IsChangeBetween, IsLateChange, KeepsOrCommits, change_answer, change_answers, change_status, command_of, is_in_place};
 ghost use Rattle.sqlcipher_tool.specs.Crash.{IsSafely};
 ghost use Rattle.sqlcipher_tool.specs.Holding.{HoldsOnly, disk_run, held_by};
 ghost use Rattle.sqlcipher_tool.specs.Opening.{AreRecovered, opened_with};
 ghost use Rattle.sqlcipher_tool.specs.Promises.{AnswersOne, IsUnrecovered};
 ghost use Rattle.sqlcipher_tool.specs.Recovered.{recovered_answers};
-ghost use Rattle.sqlcipher_tool.specs.Renewal.{AreDrawn, IsNew, from_to};
+ghost use Rattle.sqlcipher_tool.specs.Renewal.{AreDrawn, IsNewDrawn, from_to};
 ghost use Rattle.sqlcipher_tool.specs.Untouched.{HasNoFile, IsUnwritten};
 
 use crate::command::Field;
@@ -68,14 +70,16 @@ pub fn change_file<S: Sink, E: Entropy, D: Disk>(
     ensures line { IsTrue S.tells → PutsLine result (S.taken out.old) (S.taken out.new) }
     ensures causes { HasDrawnCauses result true (D.faults disk.old) (D.faults disk.new) (S.faults out.old) (S.faults out.new) (E.faults entropy.old) (E.faults entropy.new) }
     // old or new
-    ensures changes { IsTrue D.tells → IsSafely result (command_of change old new) (disk_run D.reads D.images D.moment D.since disk.old disk.new)
-        (Some (from_to old first.now new second.now)) }
+    ensures changes { IsTrue D.tells → IsSafely result (command_of change old new) E.tells (drop (length (E.drawn entropy.old)) (E.drawn entropy.new))
+        (disk_run D.reads D.images D.moment D.since disk.old disk.new) (Some (from_to old first.now new second.now)) }
     ensures fresh { IsTrue D.tells → is_in_place change ≡ true → LeavesOnly D.moment D.since disk.old disk.new (From SameFresh (D.images disk.old)) }
+    ensures fresh_gone { IsTrue D.tells → result ≡ Status.Done → is_in_place change ≡ false → (D.reads disk.new).fresh ≡ None }
     ensures own_draws { IsTrue D.tells → IsTrue E.tells → result ≡ Status.Done
         → AreDrawn (command_of change old new) (from_to old first.now new second.now)
         (main_of (D.reads disk.new)) (drop (length (E.drawn entropy.old)) (E.drawn entropy.new)) }
     ensures unrecovered { IsTrue D.tells → IsUnrecovered result → D.reads disk.new ≡ D.reads disk.old }
-    ensures untouched { IsTrue D.tells → HasNoFile old (D.reads disk.old) → result ≢ Status.DiskFault → IsUnwritten (disk_run D.reads D.images D.moment D.since disk.old disk.new) }
+    ensures recovered { IsTrue D.tells → HasOnlyRead true result → IsRecovered old (disk_run D.reads D.images D.moment D.since disk.old disk.new) }
+    ensures untouched { IsTrue D.tells → HasNoFile old (D.reads disk.old) → IsUnwritten (disk_run D.reads D.images D.moment D.since disk.old disk.new) }
 {
     match recover_main(alloc, disk, old) {
         Ok(_) => change_main(alloc, change, old, new, first, second, out, entropy, disk),
@@ -106,11 +110,13 @@ fn change_main<S: Sink, E: Entropy, D: Disk>(
     ensures causes { HasDrawnCauses result true (D.faults disk.old) (D.faults disk.new) (S.faults out.old) (S.faults out.new) (E.faults entropy.old) (E.faults entropy.new) }
     ensures safely { IsTrue D.tells → Each (D.images disk.old) (HoldsOnly (held_by (keys_of old first.now (main_of (D.reads disk.old))) (main_of (D.reads disk.old))))
         → KeepsOrCommits D.reads D.images D.moment D.since result
-        (IsNew (command_of change old new) (from_to old first.now new second.now) (main_of (D.reads disk.old)))
+        (IsNewDrawn (command_of change old new) (from_to old first.now new second.now) E.tells (drop (length (E.drawn entropy.old)) (E.drawn entropy.new)) (main_of (D.reads disk.old)))
         (HoldsOnly (held_by (keys_of old first.now (main_of (D.reads disk.old))) (main_of (D.reads disk.old))))
         (λ file. HoldsOnly (held_by (keys_of new second.now file) file)) disk.old disk.new }
     ensures fresh { IsTrue D.tells → is_in_place change ≡ true → LeavesOnly D.moment D.since disk.old disk.new (From SameFresh (D.images disk.old)) }
+    ensures stays { IsTrue D.tells → HasOnlyRead true result → Each (D.images disk.new) (IsOld (D.images disk.old)) }
     ensures unopened { IsTrue D.tells → IsErr (opened_with old first.now (main_of (D.reads disk.old))) → OnlyRead D.reads D.images D.moment D.since disk.old disk.new }
+    ensures fresh_gone { IsTrue D.tells → result ≡ Status.Done → is_in_place change ≡ false → (D.reads disk.new).fresh ≡ None }
     ensures own_draws { IsTrue D.tells → IsTrue E.tells → result ≡ Status.Done
         → AreDrawn (command_of change old new) (from_to old first.now new second.now)
         (main_of (D.reads disk.new)) (drop (length (E.drawn entropy.old)) (E.drawn entropy.new)) }
@@ -141,11 +147,13 @@ fn change_opened<E: Entropy, D: Disk>(
         → Contains (change_answers change (from_to old first.now new second.now) (main_of (D.reads disk.old)) (main_of (D.reads disk.new))) answer }
     ensures safely { IsTrue D.tells → Each (D.images disk.old) (HoldsOnly (held_by (keys_of old first.now (main_of (D.reads disk.old))) (main_of (D.reads disk.old))))
         → KeepsOrCommits D.reads D.images D.moment D.since (change_status result)
-        (IsNew (command_of change old new) (from_to old first.now new second.now) (main_of (D.reads disk.old)))
+        (IsNewDrawn (command_of change old new) (from_to old first.now new second.now) E.tells (drop (length (E.drawn entropy.old)) (E.drawn entropy.new)) (main_of (D.reads disk.old)))
         (HoldsOnly (held_by (keys_of old first.now (main_of (D.reads disk.old))) (main_of (D.reads disk.old))))
         (λ file. HoldsOnly (held_by (keys_of new second.now file) file)) disk.old disk.new }
     ensures fresh { IsTrue D.tells → is_in_place change ≡ true → LeavesOnly D.moment D.since disk.old disk.new (From SameFresh (D.images disk.old)) }
+    ensures stays { IfErr result (λ e. IsRefusedChange e → IsTrue D.tells → Each (D.images disk.new) (IsOld (D.images disk.old))) }
     ensures unopened { IsTrue D.tells → IsErr (opened_with old first.now (main_of (D.reads disk.old))) → OnlyRead D.reads D.images D.moment D.since disk.old disk.new }
+    ensures fresh_gone { IsTrue D.tells → is_in_place change ≡ false → OnOk result ((D.reads disk.new).fresh ≡ None) }
     ensures own_draws { OnOk result (IsTrue D.tells → IsTrue E.tells
         → AreDrawn (command_of change old new) (from_to old first.now new second.now)
         (main_of (D.reads disk.new)) (drop (length (E.drawn entropy.old)) (E.drawn entropy.new))) }

@@ -1,5 +1,5 @@
 // `header`: the fields of page 1, and the count of pages.
-ghost use Rattle.std.specs.Prelude.{◌≡◌, ◌≢◌, ◌⊎◌, ◌≤◌, Some, Ok, Err, IfErr, IsTrue};
+ghost use Rattle.std.specs.Prelude.{◌≡◌, ◌⊎◌, ◌≤◌, Some, Ok, Err, IfErr, false, IsTrue};
 ghost use Rattle.edge_model.specs.Causes.{Rose};
 ghost use Rattle.edge_model.specs.Images.{From, LeavesOnly};
 ghost use Rattle.edge_model.specs.OnlyRead.{OnlyRead};
@@ -7,6 +7,7 @@ ghost use Rattle.cipher_profile.specs.Profile.{IsListed};
 ghost use Rattle.pager.specs.File.{main_of};
 ghost use Rattle.pager.specs.Opening.{file_opened};
 ghost use Rattle.rollback_journal.specs.Recovery.{Keeps};
+ghost use Rattle.sqlcipher_tool.specs.Behind.{HasOnlyRead, IsRecovered};
 ghost use Rattle.sqlcipher_tool.specs.Answer.{Puts, PutsLine, IsAnswered, HasCauses};
 ghost use Rattle.sqlcipher_tool.specs.Header.{header_answer};
 ghost use Rattle.sqlcipher_tool.specs.Holding.{disk_run};
@@ -46,7 +47,8 @@ pub fn header<S: Sink, E: Entropy, D: Disk>(
     ensures keeps { IsTrue D.tells → LeavesOnly D.moment D.since disk.old disk.new (From (Keeps profile.page_size) (D.images disk.old)) }
     ensures draws { entropy.new ≡ entropy.old }
     ensures unrecovered { IsTrue D.tells → IsUnrecovered result → D.reads disk.new ≡ D.reads disk.old }
-    ensures untouched { IsTrue D.tells → HasNoFile profile (D.reads disk.old) → result ≢ Status.DiskFault → IsUnwritten (disk_run D.reads D.images D.moment D.since disk.old disk.new) }
+    ensures recovered { IsTrue D.tells → HasOnlyRead false result → IsRecovered profile (disk_run D.reads D.images D.moment D.since disk.old disk.new) }
+    ensures untouched { IsTrue D.tells → HasNoFile profile (D.reads disk.old) → IsUnwritten (disk_run D.reads D.images D.moment D.since disk.old disk.new) }
 {
     match recover_main(alloc, disk, profile) {
         Ok(_) => header_of_main(alloc, profile, secret, out, entropy, disk),

@@ -6,37 +6,21 @@ mod command;
 mod complete;
 mod conclusion;
 mod export;
-#[cfg(test)]
-mod export_tests;
 mod header;
 mod in_use;
 mod job;
 mod laws;
 mod make;
-#[cfg(test)]
-mod make_tests;
 mod migrate;
-#[cfg(test)]
-mod migrate_tests;
 mod opening;
 mod probe;
 mod recovery;
 mod rekey;
-#[cfg(test)]
-mod rekey_tests;
 mod stamp;
-#[cfg(test)]
-mod stamp_tests;
 mod status;
 mod tags;
-#[cfg(test)]
-mod tests;
 mod text;
-#[cfg(test)]
-mod text_tests;
 mod top;
-#[cfg(test)]
-mod verify_tests;
 mod walk;
 
 pub use complete::{

@@ -1,8 +1,9 @@
 // `migrate`: the database is written anew in another profile, and takes the file's place.
-ghost use Rattle.std.specs.Prelude.{◌≡◌, ◌≤◌, ℕ, List, drop, length, Ok, Err, IfErr, IsErr, OnOk, IsTrue, Some};
+ghost use Rattle.std.specs.Prelude.{◌≡◌, ◌≤◌, ℕ, List, drop, length, Ok, Err, IfErr, IsErr, OnOk, IsTrue, None, Some};
 ghost use Rattle.std.specs.List.{Contains};
 ghost use Rattle.cipher_profile.specs.Profile.{IsListed};
 ghost use Rattle.db_format.specs.Source.{no_pins};
+ghost use Rattle.disk_side.specs.OnlyFresh.{IsOld};
 ghost use Rattle.disk_side.specs.Published.{IsNew as IsAlone};
 ghost use Rattle.edge_model.specs.Causes.{Rose};
 ghost use Rattle.edge_model.specs.Images.{Each};
@@ -14,11 +15,12 @@ ghost use Rattle.pager.specs.Held.{pins_of};
 ghost use Rattle.pager.specs.Opening.{file_opened};
 ghost use Rattle.pager.specs.Pages.{opened_pages};
 ghost use Rattle.sqlcipher_tool.specs.Answer.{Answer};
+ghost use Rattle.sqlcipher_tool.specs.Behind.{IsRefusedChange};
 ghost use Rattle.sqlcipher_tool.specs.Change.{IsLateChange, KeepsOrCommits, change_answer, change_status};
 ghost use Rattle.sqlcipher_tool.specs.Holding.{HoldsOnly, held_by};
 ghost use Rattle.sqlcipher_tool.specs.Migrate.{IsMigratedSo, migrate_answers, migrate_due, migrate_error};
 ghost use Rattle.sqlcipher_tool.specs.Opening.{AreRecovered, opened_with};
-ghost use Rattle.sqlcipher_tool.specs.Renewal.{pages_under};
+ghost use Rattle.sqlcipher_tool.specs.Renewal.{WithDraws, pages_under};
 
 use crate::opening::{ChangeError, Stop, open_main};
 use crate::status::Refusal;
@@ -47,10 +49,13 @@ pub fn migrate_file<E: Entropy, D: Disk>(
         → Contains (migrate_answers old first.now new (pages_under new second.now (main_of (D.reads disk.new))) (main_of (D.reads disk.old))) answer }
     ensures safely { IsTrue D.tells → Each (D.images disk.old) (HoldsOnly (held_by (keys_of old first.now (main_of (D.reads disk.old))) (main_of (D.reads disk.old))))
         → KeepsOrCommits D.reads D.images D.moment D.since (change_status result)
-        (λ file. IsMigratedSo (keys_of old first.now (main_of (D.reads disk.old))) (keys_of new second.now file) (main_of (D.reads disk.old)) file)
+        (WithDraws (λ file. IsMigratedSo (keys_of old first.now (main_of (D.reads disk.old))) (keys_of new second.now file) (main_of (D.reads disk.old)) file) E.tells
+        (λ file. HasOwnDraws (keys_of new second.now file) file (drop (length (E.drawn entropy.old)) (E.drawn entropy.new))))
         (HoldsOnly (held_by (keys_of old first.now (main_of (D.reads disk.old))) (main_of (D.reads disk.old))))
         (λ file. HoldsOnly (held_by (keys_of new second.now file) file)) disk.old disk.new }
+    ensures stays { IfErr result (λ e. IsRefusedChange e → IsTrue D.tells → Each (D.images disk.new) (IsOld (D.images disk.old))) }
     ensures unopened { IsTrue D.tells → IsErr (opened_with old first.now (main_of (D.reads disk.old))) → OnlyRead D.reads D.images D.moment D.since disk.old disk.new }
+    ensures fresh_gone { IsTrue D.tells → OnOk result ((D.reads disk.new).fresh ≡ None) }
     ensures own_draws { OnOk result (IsTrue D.tells → IsTrue E.tells
         → HasOwnDraws (keys_of new second.now (main_of (D.reads disk.new))) (main_of (D.reads disk.new)) (drop (length (E.drawn entropy.old)) (E.drawn entropy.new))) }
     ensures late { IfErr result IsLateChange }
@@ -88,12 +93,15 @@ fn migrate_pages<'d, D: Disk, E: Entropy>(
         → Contains (migrate_due profile (pages_under profile secret.now (main_of (D.reads result.0.now)))
         (opened_pages pager.entry.codec (main_of (D.reads pager.entry.disk.now)) pager.entry.count)) answer }
     ensures safely { IsTrue D.tells → KeepsOrCommits D.reads D.images D.moment D.since (change_status result.2)
-        (λ file. IsMigratedSo pager.entry.codec (keys_of profile secret.now file) (main_of (D.reads pager.entry.disk.now)) file)
+        (WithDraws (λ file. IsMigratedSo pager.entry.codec (keys_of profile secret.now file) (main_of (D.reads pager.entry.disk.now)) file) E.tells
+        (λ file. HasOwnDraws (keys_of profile secret.now file) file (drop (length (E.drawn pager.entry.entropy.now)) (E.drawn result.1.now))))
         (HoldsOnly (held_by pager.entry.codec (main_of (D.reads pager.entry.disk.now))))
         (λ file. HoldsOnly (held_by (keys_of profile secret.now file) file)) pager.entry.disk.now result.0.now }
+    ensures fresh_gone { IsTrue D.tells → OnOk result.2 ((D.reads result.0.now).fresh ≡ None) }
     ensures own_draws { OnOk result.2 (IsTrue D.tells → IsTrue E.tells
         → HasOwnDraws (keys_of profile secret.now (main_of (D.reads result.0.now))) (main_of (D.reads result.0.now))
         (drop (length (E.drawn pager.entry.entropy.now)) (E.drawn result.1.now))) }
+    ensures stays { IfErr result.2 (λ e. IsRefusedChange e → IsTrue D.tells → Each (D.images result.0.now) (IsOld (D.images pager.entry.disk.now))) }
     ensures late { IfErr result.2 IsLateChange }
     ensures disk_fault { result.2 ≡ Err (ChangeError.Stopped Stop.DiskFault) → Rose (D.faults pager.entry.disk.now) (D.faults result.0.now) }
     ensures entropy_fault { result.2 ≡ Err ChangeError.EntropyFault → Rose (E.faults pager.entry.entropy.now) (E.faults result.1.now) }

@@ -1,10 +1,11 @@
 // `recover`, and the recovery that comes before a file is read.
-ghost use Rattle.std.specs.Prelude.{◌≡◌, ◌≢◌, ◌⊎◌, ◌<◌, ◌≤◌, length, Ok, Err, Some, IfErr, IfOk, OnOk, IsTrue};
+ghost use Rattle.std.specs.Prelude.{◌≡◌, ◌≢◌, ◌⊎◌, ◌<◌, ◌≤◌, length, Ok, Err, Some, IfErr, IfOk, OnOk, false, IsTrue};
 ghost use Rattle.edge_model.specs.Causes.{Rose};
 ghost use Rattle.edge_model.specs.Files.{bytes_of};
 ghost use Rattle.edge_model.specs.Images.{Each, From, LeavesOnly};
 ghost use Rattle.cipher_profile.specs.Profile.{IsListed};
 ghost use Rattle.rollback_journal.specs.Recovery.{IsDone, Keeps};
+ghost use Rattle.sqlcipher_tool.specs.Behind.{HasOnlyRead, IsOfRecovery, IsRecovered};
 ghost use Rattle.sqlcipher_tool.specs.Answer.{IsAnswered, HasCauses, Puts, PutsLine};
 ghost use Rattle.pager.specs.File.{main_of};
 ghost use Rattle.sqlcipher_tool.specs.Promises.{IsUnrecovered};
@@ -36,11 +37,10 @@ pub fn report_recovery<S: Sink, D: Disk>(
     ensures disk_text { result ≡ Status.DiskFault → out.new ≡ out.old }
     ensures memory_text { result ≡ Status.OutOfMemory → out.new ≡ out.old }
     ensures causes { HasCauses result (D.faults disk.old) (D.faults disk.new) (S.faults out.old) (S.faults out.new) }
-    ensures done { IsTrue D.tells → result ≡ Status.Done → 0 < length (main_of (D.reads disk.old)) →
-        Each (D.images disk.new) (IsDone profile.page_size (bytes_of (D.reads disk.old).main) (bytes_of (D.reads disk.old).journal)) }
+    ensures recovered { IsTrue D.tells → HasOnlyRead false result → IsRecovered profile (disk_run D.reads D.images D.moment D.since disk.old disk.new) }
     ensures keeps { IsTrue D.tells → LeavesOnly D.moment D.since disk.old disk.new (From (Keeps profile.page_size) (D.images disk.old)) }
     ensures unrecovered { IsTrue D.tells → IsUnrecovered result → D.reads disk.new ≡ D.reads disk.old }
-    ensures untouched { IsTrue D.tells → HasNoFile profile (D.reads disk.old) → result ≢ Status.DiskFault → IsUnwritten (disk_run D.reads D.images D.moment D.since disk.old disk.new) }
+    ensures untouched { IsTrue D.tells → HasNoFile profile (D.reads disk.old) → IsUnwritten (disk_run D.reads D.images D.moment D.since disk.old disk.new) }
 {
     let outcome = describe_recovery(alloc, disk, profile);
     conclude_outcome(out, outcome)
@@ -54,8 +54,9 @@ fn describe_recovery<D: Disk>(alloc: Global, disk: &mut D, profile: Profile) -> 
     ensures done { OnOk result (IsTrue D.tells → 0 < length (main_of (D.reads disk.old)) →
         Each (D.images disk.new) (IsDone profile.page_size (bytes_of (D.reads disk.old).main) (bytes_of (D.reads disk.old).journal))) }
     ensures refused { IfErr result (λ stop. IsTrue D.tells → IsOutside stop ⊎ (D.reads disk.new ≡ D.reads disk.old)) }
-    ensures untouched { OnOk result (IsTrue D.tells → HasNoFile profile (D.reads disk.old) → IsUnwritten (disk_run D.reads D.images D.moment D.since disk.old disk.new)) }
+    ensures untouched { IsTrue D.tells → HasNoFile profile (D.reads disk.old) → IsUnwritten (disk_run D.reads D.images D.moment D.since disk.old disk.new) }
     ensures unwritten { IfErr result (λ stop. IsTrue D.tells → stop ≢ Stop.DiskFault → IsUnwritten (disk_run D.reads D.images D.moment D.since disk.old disk.new)) }
+    ensures of_recovery { IfErr result IsOfRecovery }
     ensures late { IfErr result IsLate }
     ensures keeps { IsTrue D.tells → LeavesOnly D.moment D.since disk.old disk.new (From (Keeps profile.page_size) (D.images disk.old)) }
     ensures cause { IfErr result (λ stop. stop ≡ Stop.DiskFault → Rose (D.faults disk.old) (D.faults disk.new)) }
@@ -80,8 +81,9 @@ pub fn recover_main<D: Disk>(
         Each (D.images disk.new) (IsDone profile.page_size (bytes_of (D.reads disk.old).main) (bytes_of (D.reads disk.old).journal))) }
     ensures stop { IfErr result (λ stop. IsTrue D.tells → IsOutside stop ⊎ (stop_answer stop ≡ refused_answer (recovery_of profile (D.reads disk.old)))) }
     ensures refused { IfErr result (λ stop. IsTrue D.tells → IsOutside stop ⊎ (D.reads disk.new ≡ D.reads disk.old)) }
-    ensures untouched { OnOk result (IsTrue D.tells → HasNoFile profile (D.reads disk.old) → IsUnwritten (disk_run D.reads D.images D.moment D.since disk.old disk.new)) }
+    ensures untouched { IsTrue D.tells → HasNoFile profile (D.reads disk.old) → IsUnwritten (disk_run D.reads D.images D.moment D.since disk.old disk.new) }
     ensures unwritten { IfErr result (λ stop. IsTrue D.tells → stop ≢ Stop.DiskFault → IsUnwritten (disk_run D.reads D.images D.moment D.since disk.old disk.new)) }
+    ensures of_recovery { IfErr result IsOfRecovery }
     ensures late { IfErr result IsLate }
     ensures keeps { IsTrue D.tells → LeavesOnly D.moment D.since disk.old disk.new (From (Keeps profile.page_size) (D.images disk.old)) }
     ensures cause { IfErr result (λ stop. stop ≡ Stop.DiskFault → Rose (D.faults disk.old) (D.faults disk.new)) }

@@ -1,6 +1,7 @@
 // `rekey`: every page is sealed under another key, in one transaction.
 ghost use Rattle.std.specs.Prelude.{◌≡◌, ◌≢◌, ◌≤◌, ℕ, List, drop, length, Ok, Err, IfErr, IsErr, OnOk, IsTrue, Some};
 ghost use Rattle.std.specs.List.{Contains};
+ghost use Rattle.disk_side.specs.OnlyFresh.{IsOld};
 ghost use Rattle.disk_side.specs.Published.{IsNew as IsAlone};
 ghost use Rattle.edge_model.specs.Causes.{Rose};
 ghost use Rattle.edge_model.specs.Images.{Each, From, LeavesOnly};
@@ -15,12 +16,13 @@ ghost use Rattle.pager.specs.Pages.{is_number, opened_pages};
 ghost use Rattle.rekey_job.specs.Rekeyed.{IsRekeyed};
 ghost use Rattle.transaction.specs.Facts.{SameFresh};
 ghost use Rattle.sqlcipher_tool.specs.Answer.{Answer};
+ghost use Rattle.sqlcipher_tool.specs.Behind.{IsRefusedChange};
 ghost use Rattle.sqlcipher_tool.specs.Change.{IsLateChange, KeepsOrCommits, change_answer, change_status, rekey_error};
 ghost use Rattle.rekey_job.specs.Draws.{FileDraws};
 ghost use Rattle.sqlcipher_tool.specs.Holding.{HoldsOnly, held_by};
 ghost use Rattle.sqlcipher_tool.specs.Opening.{AreRecovered, opened_with};
 ghost use Rattle.sqlcipher_tool.specs.Rekey.{rekey_answers, rekey_due};
-ghost use Rattle.sqlcipher_tool.specs.Renewal.{IsRekeyedSo, pages_of};
+ghost use Rattle.sqlcipher_tool.specs.Renewal.{IsRekeyedSo, WithDraws, pages_of};
 
 use crate::opening::{ChangeError, Stop, open_main};
 use crate::status::Refusal;
@@ -49,10 +51,12 @@ pub fn rekey_file<E: Entropy, D: Disk>(
     ensures told { IsTrue D.tells → (answer : Answer) → change_answer result ≡ Some answer → Contains (rekey_answers old first.now (main_of (D.reads disk.old))) answer }
     ensures safely { IsTrue D.tells → Each (D.images disk.old) (HoldsOnly (held_by (keys_of old first.now (main_of (D.reads disk.old))) (main_of (D.reads disk.old))))
         → KeepsOrCommits D.reads D.images D.moment D.since (change_status result)
-        (λ file. IsRekeyedSo (keys_of old first.now (main_of (D.reads disk.old))) (keys_of new second.now file) (main_of (D.reads disk.old)) file)
+        (WithDraws (λ file. IsRekeyedSo (keys_of old first.now (main_of (D.reads disk.old))) (keys_of new second.now file) (main_of (D.reads disk.old)) file) E.tells
+        (λ file. FileDraws (keys_of new second.now file) file (is_number (pages_of (keys_of new second.now file) file)) 0 (drop (length (E.drawn entropy.old)) (E.drawn entropy.new))))
         (HoldsOnly (held_by (keys_of old first.now (main_of (D.reads disk.old))) (main_of (D.reads disk.old))))
         (λ file. HoldsOnly (held_by (keys_of new second.now file) file)) disk.old disk.new }
     ensures fresh { IsTrue D.tells → LeavesOnly D.moment D.since disk.old disk.new (From SameFresh (D.images disk.old)) }
+    ensures stays { IfErr result (λ e. IsRefusedChange e → IsTrue D.tells → Each (D.images disk.new) (IsOld (D.images disk.old))) }
     ensures unopened { IsTrue D.tells → IsErr (opened_with old first.now (main_of (D.reads disk.old))) → OnlyRead D.reads D.images D.moment D.since disk.old disk.new }
     ensures own_draws { OnOk result (IsTrue D.tells → IsTrue E.tells
         → FileDraws (keys_of new second.now (main_of (D.reads disk.new))) (main_of (D.reads disk.new))
@@ -102,13 +106,15 @@ fn rekey_pages<'d, D: Disk, E: Entropy>(
     ensures told { IsTrue D.tells → (answer : Answer) → change_answer result.2 ≡ Some answer
         → Contains (rekey_due (opened_pages pager.entry.codec (main_of (D.reads pager.entry.disk.now)) pager.entry.count)) answer }
     ensures safely { IsTrue D.tells → KeepsOrCommits D.reads D.images D.moment D.since (change_status result.2)
-        (IsRekeyed pager.entry.codec write pager.entry.count (main_of (D.reads pager.entry.disk.now)))
+        (WithDraws (IsRekeyed pager.entry.codec write pager.entry.count (main_of (D.reads pager.entry.disk.now))) E.tells
+        (λ file. FileDraws write file (is_number pager.entry.count) 0 (drop (length (E.drawn pager.entry.entropy.now)) (E.drawn result.1.now))))
         (HoldsOnly (held_by pager.entry.codec (main_of (D.reads pager.entry.disk.now))))
         (λ file. HoldsOnly (held_by write file)) pager.entry.disk.now result.0.now }
     ensures fresh { IsTrue D.tells → LeavesOnly D.moment D.since pager.entry.disk.now result.0.now (From SameFresh (D.images pager.entry.disk.now)) }
     ensures rekeyed { OnOk result.2 (IsTrue D.tells → IsRekeyed pager.entry.codec write pager.entry.count (main_of (D.reads pager.entry.disk.now)) (main_of (D.reads result.0.now))) }
     ensures own_draws { OnOk result.2 (IsTrue D.tells → IsTrue E.tells
         → FileDraws write (main_of (D.reads result.0.now)) (is_number pager.entry.count) 0 (drop (length (E.drawn pager.entry.entropy.now)) (E.drawn result.1.now))) }
+    ensures stays { IfErr result.2 (λ e. IsRefusedChange e → IsTrue D.tells → Each (D.images result.0.now) (IsOld (D.images pager.entry.disk.now))) }
     ensures late { IfErr result.2 IsLateChange }
     ensures disk_fault { result.2 ≡ Err (ChangeError.Stopped Stop.DiskFault) → Rose (D.faults pager.entry.disk.now) (D.faults result.0.now) }
     ensures entropy_fault { result.2 ≡ Err ChangeError.EntropyFault → Rose (E.faults pager.entry.entropy.now) (E.faults result.1.now) }

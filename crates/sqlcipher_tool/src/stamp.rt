@@ -1,5 +1,6 @@
 // `stamp`: a field of the database header is set, in one transaction that changes page 1 alone.
 ghost use Rattle.std.specs.Prelude.{◌≡◌, ◌≢◌, ◌⊎◌, ◌≤◌, ◌==◌, ◌∷◌, [], ℕ, List, drop, length, true, Some, Ok, Err, IfErr, IsErr, OnOk, IsTrue, if◌then◌else◌};
+ghost use Rattle.disk_side.specs.OnlyFresh.{IsOld};
 ghost use Rattle.disk_side.specs.Published.{IsNew as IsAlone};
 ghost use Rattle.edge_model.specs.Causes.{Rose};
 ghost use Rattle.edge_model.specs.Images.{Each, From, LeavesOnly};
@@ -15,10 +16,12 @@ ghost use Rattle.rollback_journal.specs.Playing.{main_of as read_main};
 ghost use Rattle.transaction.specs.Database.{HoldsOld};
 ghost use Rattle.transaction.specs.Facts.{IsBase, SameFresh};
 ghost use Rattle.sqlcipher_tool.specs.Answer.{Answer, IsFault};
+ghost use Rattle.sqlcipher_tool.specs.Behind.{IsRefusedChange};
 ghost use Rattle.sqlcipher_tool.specs.Change.{IsLateChange, IsStopOf, KeepsOrCommits, change_answer, change_status};
 ghost use Rattle.rekey_job.specs.Draws.{FileDraws};
 ghost use Rattle.sqlcipher_tool.specs.Holding.{HoldsOnly, held_by};
 ghost use Rattle.sqlcipher_tool.specs.Opening.{AreRecovered, opened_with};
+ghost use Rattle.sqlcipher_tool.specs.Renewal.{WithDraws};
 ghost use Rattle.sqlcipher_tool.specs.Text.{stamped_report};
 ghost use Rattle.sqlcipher_tool.specs.Stamp.{IsStamped, field_at, next_change, stamp_answer, with_field};
 
@@ -57,10 +60,12 @@ pub fn stamp_file<E: Entropy, D: Disk>(
     ensures told { IsTrue D.tells → (answer : Answer) → change_answer result ≡ Some answer → answer ≡ stamp_answer profile secret.now (main_of (D.reads disk.old)) }
     ensures safely { IsTrue D.tells → Each (D.images disk.old) (HoldsOnly (held_by (keys_of profile secret.now (main_of (D.reads disk.old))) (main_of (D.reads disk.old))))
         → KeepsOrCommits D.reads D.images D.moment D.since (change_status result)
-        (IsStamped (keys_of profile secret.now (main_of (D.reads disk.old))) field value (main_of (D.reads disk.old)))
+        (WithDraws (IsStamped (keys_of profile secret.now (main_of (D.reads disk.old))) field value (main_of (D.reads disk.old))) E.tells
+        (λ file. FileDraws (keys_of profile secret.now file) file (λ n. n == 1) 0 (drop (length (E.drawn entropy.old)) (E.drawn entropy.new))))
         (HoldsOnly (held_by (keys_of profile secret.now (main_of (D.reads disk.old))) (main_of (D.reads disk.old))))
         (λ file. HoldsOnly (held_by (keys_of profile secret.now file) file)) disk.old disk.new }
     ensures fresh { IsTrue D.tells → LeavesOnly D.moment D.since disk.old disk.new (From SameFresh (D.images disk.old)) }
+    ensures stays { IfErr result (λ e. IsRefusedChange e → IsTrue D.tells → Each (D.images disk.new) (IsOld (D.images disk.old))) }
     ensures unopened { IsTrue D.tells → IsErr (opened_with profile secret.now (main_of (D.reads disk.old))) → OnlyRead D.reads D.images D.moment D.since disk.old disk.new }
     ensures own_draws { OnOk result (IsTrue D.tells → IsTrue E.tells
         → FileDraws (keys_of profile secret.now (main_of (D.reads disk.new))) (main_of (D.reads disk.new)) (λ n. n == 1) 0 (drop (length (E.drawn entropy.old)) (E.drawn entropy.new))) }
@@ -104,7 +109,8 @@ fn stamp_pages<'d, D: Disk, E: Entropy>(
     ensures entropy { result.1.ghost_name ≡ pager.entry.entropy.ghost_name }
     ensures told { IsTrue D.tells → IsFault (change_status result.2) ⊎ (result.2 ≡ Ok stamped_report) }
     ensures safely { IsTrue D.tells → KeepsOrCommits D.reads D.images D.moment D.since (change_status result.2)
-        (IsStamped pager.entry.codec field value (main_of (D.reads pager.entry.disk.now)))
+        (WithDraws (IsStamped pager.entry.codec field value (main_of (D.reads pager.entry.disk.now))) E.tells
+        (λ file. FileDraws pager.entry.codec file (λ n. n == 1) 0 (drop (length (E.drawn pager.entry.entropy.now)) (E.drawn result.1.now))))
         (HoldsOnly (held_by pager.entry.codec (main_of (D.reads pager.entry.disk.now))))
         (λ file. HoldsOnly (held_by pager.entry.codec file)) pager.entry.disk.now result.0.now }
     ensures fresh { IsTrue D.tells → LeavesOnly D.moment D.since pager.entry.disk.now result.0.now (From SameFresh (D.images pager.entry.disk.now)) }
@@ -188,17 +194,17 @@ fn write_fields<D: Disk, E: Entropy>(
     requires room { 100 ≤ usable txn.old.write.profile }
     requires sizes { (txn.old.write.profile.page_size ≡ start.base.size) × (txn.old.count ≡ start.base.pages) }
     requires ready { IsReadyFor txn.old.recorded txn.old.writer }
-    requires under_way { IsTrue D.tells → IsUnderWay start txn.old.write txn.old.recorded txn.old.writer (D.reads txn.old.disk.now)
+    requires under_way { IsTrue D.tells → IsUnderWay start txn.old.write txn.old.recorded txn.old.written txn.old.writer (D.reads txn.old.disk.now)
         (D.images txn.old.disk.now) E.tells (E.drawn txn.old.entropy.now) }
-    ensures stamped { OnOk result (IsTrue D.tells → (seen_pages txn.new.read txn.new.write (read_main (D.reads txn.new.disk.now)) txn.new.count txn.new.recorded txn.new.changed.held).page 1
+    ensures stamped { OnOk result (IsTrue D.tells → (seen_pages txn.new.read txn.new.write (read_main (D.reads txn.new.disk.now)) txn.new.count txn.new.written txn.new.changed.held).page 1
         ≡ with_field 92 change (with_field 28 pages (with_field 24 change (with_field (field_at field) value
-        ((seen_pages txn.old.read txn.old.write (read_main (D.reads txn.old.disk.now)) txn.old.count txn.old.recorded txn.old.changed.held).page 1))))) }
-    ensures touched { OnOk result ((m : ℕ) → is_number txn.old.count m ≡ true → is_touched txn.new.recorded txn.new.changed.held m
-        ≡ (if m == 1 then true else is_touched txn.old.recorded txn.old.changed.held m)) }
-    ensures refused { IfErr result (IsRefusedAs D.tells (seen_pages txn.old.read txn.old.write (read_main (D.reads txn.old.disk.now)) txn.old.count txn.old.recorded txn.old.changed.held)
+        ((seen_pages txn.old.read txn.old.write (read_main (D.reads txn.old.disk.now)) txn.old.count txn.old.written txn.old.changed.held).page 1))))) }
+    ensures touched { OnOk result ((m : ℕ) → is_number txn.old.count m ≡ true → is_touched txn.new.written txn.new.changed.held m
+        ≡ (if m == 1 then true else is_touched txn.old.written txn.old.changed.held m)) }
+    ensures refused { IfErr result (IsRefusedAs D.tells (seen_pages txn.old.read txn.old.write (read_main (D.reads txn.old.disk.now)) txn.old.count txn.old.written txn.old.changed.held)
         1 (D.faults txn.old.disk.now) (D.faults txn.new.disk.now) (E.faults txn.old.entropy.now) (E.faults txn.new.entropy.now)) }
     ensures ready { OnOk result (IsReadyFor txn.new.recorded txn.new.writer) }
-    ensures under_way { OnOk result (IsTrue D.tells → IsUnderWay start txn.new.write txn.new.recorded txn.new.writer (D.reads txn.new.disk.now)
+    ensures under_way { OnOk result (IsTrue D.tells → IsUnderWay start txn.new.write txn.new.recorded txn.new.written txn.new.writer (D.reads txn.new.disk.now)
         (D.images txn.new.disk.now) E.tells (E.drawn txn.new.entropy.now)) }
     ensures any_moment { IsTrue D.tells → LeavesOnly D.moment D.since txn.old.disk.now txn.new.disk.now (HoldsOld start.base) }
     ensures fresh { IsTrue D.tells → LeavesOnly D.moment D.since txn.old.disk.now txn.new.disk.now (From SameFresh (D.images txn.old.disk.now)) }
@@ -224,17 +230,17 @@ fn write_number<D: Disk, E: Entropy>(
     requires room { 100 ≤ usable txn.old.write.profile }
     requires sizes { (txn.old.write.profile.page_size ≡ start.base.size) × (txn.old.count ≡ start.base.pages) }
     requires ready { IsReadyFor txn.old.recorded txn.old.writer }
-    requires under_way { IsTrue D.tells → IsUnderWay start txn.old.write txn.old.recorded txn.old.writer (D.reads txn.old.disk.now)
+    requires under_way { IsTrue D.tells → IsUnderWay start txn.old.write txn.old.recorded txn.old.written txn.old.writer (D.reads txn.old.disk.now)
         (D.images txn.old.disk.now) E.tells (E.drawn txn.old.entropy.now) }
-    ensures written { OnOk result (IsTrue D.tells → (seen_pages txn.new.read txn.new.write (read_main (D.reads txn.new.disk.now)) txn.new.count txn.new.recorded txn.new.changed.held).page 1
-        ≡ with_field at number ((seen_pages txn.old.read txn.old.write (read_main (D.reads txn.old.disk.now)) txn.old.count txn.old.recorded txn.old.changed.held).page 1)) }
-    ensures touched { OnOk result ((m : ℕ) → is_number txn.old.count m ≡ true → is_touched txn.new.recorded txn.new.changed.held m
-        ≡ (if m == 1 then true else is_touched txn.old.recorded txn.old.changed.held m)) }
-    ensures accepted { OnOk result (IsTrue D.tells → (seen_pages txn.new.read txn.new.write (read_main (D.reads txn.new.disk.now)) txn.new.count txn.new.recorded txn.new.changed.held).accepts 1 ≡ true) }
-    ensures refused { IfErr result (IsRefusedAs D.tells (seen_pages txn.old.read txn.old.write (read_main (D.reads txn.old.disk.now)) txn.old.count txn.old.recorded txn.old.changed.held)
+    ensures written { OnOk result (IsTrue D.tells → (seen_pages txn.new.read txn.new.write (read_main (D.reads txn.new.disk.now)) txn.new.count txn.new.written txn.new.changed.held).page 1
+        ≡ with_field at number ((seen_pages txn.old.read txn.old.write (read_main (D.reads txn.old.disk.now)) txn.old.count txn.old.written txn.old.changed.held).page 1)) }
+    ensures touched { OnOk result ((m : ℕ) → is_number txn.old.count m ≡ true → is_touched txn.new.written txn.new.changed.held m
+        ≡ (if m == 1 then true else is_touched txn.old.written txn.old.changed.held m)) }
+    ensures accepted { OnOk result (IsTrue D.tells → (seen_pages txn.new.read txn.new.write (read_main (D.reads txn.new.disk.now)) txn.new.count txn.new.written txn.new.changed.held).accepts 1 ≡ true) }
+    ensures refused { IfErr result (IsRefusedAs D.tells (seen_pages txn.old.read txn.old.write (read_main (D.reads txn.old.disk.now)) txn.old.count txn.old.written txn.old.changed.held)
         1 (D.faults txn.old.disk.now) (D.faults txn.new.disk.now) (E.faults txn.old.entropy.now) (E.faults txn.new.entropy.now)) }
     ensures ready { OnOk result (IsReadyFor txn.new.recorded txn.new.writer) }
-    ensures under_way { OnOk result (IsTrue D.tells → IsUnderWay start txn.new.write txn.new.recorded txn.new.writer (D.reads txn.new.disk.now)
+    ensures under_way { OnOk result (IsTrue D.tells → IsUnderWay start txn.new.write txn.new.recorded txn.new.written txn.new.writer (D.reads txn.new.disk.now)
         (D.images txn.new.disk.now) E.tells (E.drawn txn.new.entropy.now)) }
     ensures any_moment { IsTrue D.tells → LeavesOnly D.moment D.since txn.old.disk.now txn.new.disk.now (HoldsOld start.base) }
     ensures fresh { IsTrue D.tells → LeavesOnly D.moment D.since txn.old.disk.now txn.new.disk.now (From SameFresh (D.images txn.old.disk.now)) }

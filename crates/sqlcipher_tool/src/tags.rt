@@ -1,5 +1,5 @@
 // `tags`: whether each whole page of Main is accepted.
-ghost use Rattle.std.specs.Prelude.{◌≡◌, ◌≢◌, ◌⊎◌, ◌+◌, ◌*◌, ◌/◌, ◌%◌, ◌<◌, ◌≤◌, None, ◌++◌, ◌∷◌, [], length, slice_get, option_to_list, Some, IfOk, IfErr, OnOk, OnErr, IsTrue, Err};
+ghost use Rattle.std.specs.Prelude.{◌≡◌, ◌⊎◌, ◌+◌, ◌*◌, ◌/◌, ◌%◌, ◌<◌, ◌≤◌, None, ◌++◌, ◌∷◌, [], length, slice_get, option_to_list, Some, IfOk, IfErr, OnOk, OnErr, false, IsTrue, Err};
 ghost use Rattle.edge_model.specs.Causes.{HasCause, Rose};
 ghost use Rattle.edge_model.specs.Images.{From, LeavesOnly};
 ghost use Rattle.edge_model.specs.OnlyRead.{OnlyRead};
@@ -7,6 +7,7 @@ ghost use Rattle.cipher_profile.specs.Profile.{IsListed};
 ghost use Rattle.db_format.specs.Count.{largest_database};
 ghost use Rattle.page_codec.specs.Page.{keys_of};
 ghost use Rattle.rollback_journal.specs.Recovery.{Keeps};
+ghost use Rattle.sqlcipher_tool.specs.Behind.{HasOnlyRead, IsRecovered};
 ghost use Rattle.sqlcipher_tool.specs.Answer.{first_of, Puts, PutsLine, PutsPart, IsAnswered, HasCauses};
 ghost use Rattle.pager.specs.File.{main_of, whole_pages};
 ghost use Rattle.sqlcipher_tool.specs.Holding.{disk_run};
@@ -58,7 +59,8 @@ pub fn tags<S: Sink, D: Disk>(
     ensures causes { HasCauses result (D.faults disk.old) (D.faults disk.new) (S.faults out.old) (S.faults out.new) }
     ensures keeps { IsTrue D.tells → LeavesOnly D.moment D.since disk.old disk.new (From (Keeps profile.page_size) (D.images disk.old)) }
     ensures unrecovered { IsTrue D.tells → IsUnrecovered result → D.reads disk.new ≡ D.reads disk.old }
-    ensures untouched { IsTrue D.tells → HasNoFile profile (D.reads disk.old) → result ≢ Status.DiskFault → IsUnwritten (disk_run D.reads D.images D.moment D.since disk.old disk.new) }
+    ensures recovered { IsTrue D.tells → HasOnlyRead false result → IsRecovered profile (disk_run D.reads D.images D.moment D.since disk.old disk.new) }
+    ensures untouched { IsTrue D.tells → HasNoFile profile (D.reads disk.old) → IsUnwritten (disk_run D.reads D.images D.moment D.since disk.old disk.new) }
 {
     match recover_main(alloc, disk, profile) {
         Ok(_) => tags_of_main(profile, secret, out, disk),

@@ -6,6 +6,7 @@ ghost use Rattle.edge_model.specs.Causes.{Rose};
 ghost use Rattle.cipher_profile.specs.declared.key_line.KeyError.{KeyError as KeyRefusal};
 ghost use Rattle.cipher_profile.specs.declared.keys.Secret.{Secret as Key};
 ghost use Rattle.sqlcipher_tool.specs.Answer.{IsEarly, Puts, PutsLine, HasDrawnCauses};
+ghost use Rattle.sqlcipher_tool.specs.Behind.{LeavesRecovered};
 ghost use Rattle.sqlcipher_tool.specs.Change.{command_of};
 ghost use Rattle.sqlcipher_tool.specs.Crash.{Keeps, Changes, GaveKeys, HasOwnDraws};
 ghost use Rattle.sqlcipher_tool.specs.Due.{due, key_answer, key_lines, word_refusal, asked_answers, keyed_answers, secret_answers};
@@ -16,7 +17,7 @@ ghost use Rattle.sqlcipher_tool.specs.Text.{usage_line};
 ghost use Rattle.sqlcipher_tool.specs.Untouched.{LeavesAlone, recovers_by};
 ghost use Rattle.sqlcipher_tool.specs.declared.command.Command.{Command as Asked};
 ghost use Rattle.sqlcipher_tool.specs.declared.status.Refusal.{Refusal as Refused};
-ghost use Rattle.sqlcipher_tool.specs.Words.{draws, form, texts, keys_taken, lacks_tags, layouts_differ, takes_memory, IsServed};
+ghost use Rattle.sqlcipher_tool.specs.Words.{draws, form, texts, keys_taken, lacks_tags, layouts_differ, takes_memory, writes_beside, IsServed};
 
 use crate::change::{Change, change_file};
 use crate::command::{Command, parse_words};
@@ -90,12 +91,16 @@ pub fn run<K: Source, S: Sink, E: Entropy, D: Disk>(
 
     // The disk, at every moment of the run and after every status.
     ensures unrecovered { IsTrue D.tells → IsUnrecovered result → D.reads disk.new ≡ D.reads disk.old }
+    ensures recovered { IsTrue D.tells → (command : Asked) → form (texts words.now) ≡ Some command
+        → LeavesRecovered result (draws command) (recovers_by command) (disk_run D.reads D.images D.moment D.since disk.old disk.new) }
     ensures untouched { IsTrue D.tells → (command : Asked) → form (texts words.now) ≡ Some command
-        → LeavesAlone result (recovers_by command) (disk_run D.reads D.images D.moment D.since disk.old disk.new) }
+        → LeavesAlone (recovers_by command) (disk_run D.reads D.images D.moment D.since disk.old disk.new) }
+    ensures fresh_gone { IsTrue D.tells → result ≡ Status.Done → (command : Asked) → form (texts words.now) ≡ Some command → writes_beside command ≡ true
+        → (D.reads disk.new).fresh ≡ None }
     ensures keeps { IsTrue D.tells → (command : Asked) → form (texts words.now) ≡ Some command
         → Keeps command (disk_run D.reads D.images D.moment D.since disk.old disk.new) }
     ensures changes { IsTrue D.tells → (command : Asked) → form (texts words.now) ≡ Some command
-        → Changes result command (GaveKeys K.tells (key_lines (keys_taken command) (K.left input.old))) (disk_run D.reads D.images D.moment D.since disk.old disk.new) }
+        → Changes result command (GaveKeys K.tells (key_lines (keys_taken command) (K.left input.old))) E.tells (drop (length (E.drawn entropy.old)) (E.drawn entropy.new)) (disk_run D.reads D.images D.moment D.since disk.old disk.new) }
 {
     match parse_words(words) {
         None => conclude(out, &usage_line(), Status::Usage),
@@ -138,10 +143,12 @@ fn serve<K: Source, S: Sink, E: Entropy, D: Disk>(
     ensures own_draws { IsTrue D.tells → IsTrue E.tells → result ≡ Status.Done
         → HasOwnDraws command (GaveKeys K.tells (key_lines (keys_taken command) (K.left input.old))) (main_of (D.reads disk.new)) (drop (length (E.drawn entropy.old)) (E.drawn entropy.new)) }
     ensures unrecovered { IsTrue D.tells → IsUnrecovered result → D.reads disk.new ≡ D.reads disk.old }
-    ensures untouched { IsTrue D.tells → LeavesAlone result (recovers_by command) (disk_run D.reads D.images D.moment D.since disk.old disk.new) }
+    ensures recovered { IsTrue D.tells → LeavesRecovered result (draws command) (recovers_by command) (disk_run D.reads D.images D.moment D.since disk.old disk.new) }
+    ensures untouched { IsTrue D.tells → LeavesAlone (recovers_by command) (disk_run D.reads D.images D.moment D.since disk.old disk.new) }
+    ensures fresh_gone { IsTrue D.tells → result ≡ Status.Done → writes_beside command ≡ true → (D.reads disk.new).fresh ≡ None }
     ensures keeps { IsTrue D.tells → Keeps command (disk_run D.reads D.images D.moment D.since disk.old disk.new) }
     ensures changes { IsTrue D.tells
-        → Changes result command (GaveKeys K.tells (key_lines (keys_taken command) (K.left input.old))) (disk_run D.reads D.images D.moment D.since disk.old disk.new) }
+        → Changes result command (GaveKeys K.tells (key_lines (keys_taken command) (K.left input.old))) E.tells (drop (length (E.drawn entropy.old)) (E.drawn entropy.new)) (disk_run D.reads D.images D.moment D.since disk.old disk.new) }
     ensures input_later { K.faults input.old ≤ K.faults input.new }
     ensures output_later { S.faults out.old ≤ S.faults out.new }
     ensures disk_later { D.faults disk.old ≤ D.faults disk.new }
@@ -201,10 +208,12 @@ fn serve_keyed<K: Source, S: Sink, E: Entropy, D: Disk>(
     ensures own_draws { IsTrue D.tells → IsTrue E.tells → result ≡ Status.Done
         → HasOwnDraws command (GaveKeys K.tells (key_lines 1 (K.left input.old))) (main_of (D.reads disk.new)) (drop (length (E.drawn entropy.old)) (E.drawn entropy.new)) }
     ensures unrecovered { IsTrue D.tells → IsUnrecovered result → D.reads disk.new ≡ D.reads disk.old }
-    ensures untouched { IsTrue D.tells → LeavesAlone result (recovers_by command) (disk_run D.reads D.images D.moment D.since disk.old disk.new) }
+    ensures recovered { IsTrue D.tells → LeavesRecovered result (draws command) (recovers_by command) (disk_run D.reads D.images D.moment D.since disk.old disk.new) }
+    ensures untouched { IsTrue D.tells → LeavesAlone (recovers_by command) (disk_run D.reads D.images D.moment D.since disk.old disk.new) }
+    ensures fresh_gone { IsTrue D.tells → result ≡ Status.Done → writes_beside command ≡ true → (D.reads disk.new).fresh ≡ None }
     ensures keeps { IsTrue D.tells → Keeps command (disk_run D.reads D.images D.moment D.since disk.old disk.new) }
     ensures changes { IsTrue D.tells
-        → Changes result command (GaveKeys K.tells (key_lines 1 (K.left input.old))) (disk_run D.reads D.images D.moment D.since disk.old disk.new) }
+        → Changes result command (GaveKeys K.tells (key_lines 1 (K.left input.old))) E.tells (drop (length (E.drawn entropy.old)) (E.drawn entropy.new)) (disk_run D.reads D.images D.moment D.since disk.old disk.new) }
     ensures entropy_later { E.faults entropy.old ≤ E.faults entropy.new }
     ensures input_later { K.faults input.old ≤ K.faults input.new }
     ensures output_later { S.faults out.old ≤ S.faults out.new }
@@ -238,10 +247,12 @@ fn carry_out<S: Sink, E: Entropy, D: Disk>(
     ensures own_draws { IsTrue D.tells → IsTrue E.tells → result ≡ Status.Done
         → HasOwnDraws command (λ secrets. secrets ≡ secret.now ∷ []) (main_of (D.reads disk.new)) (drop (length (E.drawn entropy.old)) (E.drawn entropy.new)) }
     ensures unrecovered { IsTrue D.tells → IsUnrecovered result → D.reads disk.new ≡ D.reads disk.old }
-    ensures untouched { IsTrue D.tells → LeavesAlone result (recovers_by command) (disk_run D.reads D.images D.moment D.since disk.old disk.new) }
+    ensures recovered { IsTrue D.tells → LeavesRecovered result (draws command) (recovers_by command) (disk_run D.reads D.images D.moment D.since disk.old disk.new) }
+    ensures untouched { IsTrue D.tells → LeavesAlone (recovers_by command) (disk_run D.reads D.images D.moment D.since disk.old disk.new) }
+    ensures fresh_gone { IsTrue D.tells → result ≡ Status.Done → writes_beside command ≡ true → (D.reads disk.new).fresh ≡ None }
     ensures keeps { IsTrue D.tells → Keeps command (disk_run D.reads D.images D.moment D.since disk.old disk.new) }
     ensures changes { IsTrue D.tells
-        → Changes result command (λ secrets. secrets ≡ secret.now ∷ []) (disk_run D.reads D.images D.moment D.since disk.old disk.new) }
+        → Changes result command (λ secrets. secrets ≡ secret.now ∷ []) E.tells (drop (length (E.drawn entropy.old)) (E.drawn entropy.new)) (disk_run D.reads D.images D.moment D.since disk.old disk.new) }
 {
     match command {
         Command::Tags(profile) => tags(alloc, profile, secret, out, disk),
@@ -302,10 +313,13 @@ fn serve_two_keys<K: Source, S: Sink, E: Entropy, D: Disk>(
     ensures own_draws { IsTrue D.tells → IsTrue E.tells → result ≡ Status.Done
         → HasOwnDraws (command_of change old new) (GaveKeys K.tells (key_lines 2 (K.left input.old))) (main_of (D.reads disk.new)) (drop (length (E.drawn entropy.old)) (E.drawn entropy.new)) }
     ensures unrecovered { IsTrue D.tells → IsUnrecovered result → D.reads disk.new ≡ D.reads disk.old }
-    ensures untouched { IsTrue D.tells → LeavesAlone result (recovers_by (command_of change old new)) (disk_run D.reads D.images D.moment D.since disk.old disk.new) }
+    ensures recovered { IsTrue D.tells
+        → LeavesRecovered result (draws (command_of change old new)) (recovers_by (command_of change old new)) (disk_run D.reads D.images D.moment D.since disk.old disk.new) }
+    ensures untouched { IsTrue D.tells → LeavesAlone (recovers_by (command_of change old new)) (disk_run D.reads D.images D.moment D.since disk.old disk.new) }
+    ensures fresh_gone { IsTrue D.tells → result ≡ Status.Done → writes_beside (command_of change old new) ≡ true → (D.reads disk.new).fresh ≡ None }
     ensures keeps { IsTrue D.tells → Keeps (command_of change old new) (disk_run D.reads D.images D.moment D.since disk.old disk.new) }
     ensures changes { IsTrue D.tells
-        → Changes result (command_of change old new) (GaveKeys K.tells (key_lines 2 (K.left input.old))) (disk_run D.reads D.images D.moment D.since disk.old disk.new) }
+        → Changes result (command_of change old new) (GaveKeys K.tells (key_lines 2 (K.left input.old))) E.tells (drop (length (E.drawn entropy.old)) (E.drawn entropy.new)) (disk_run D.reads D.images D.moment D.since disk.old disk.new) }
     ensures entropy_later { E.faults entropy.old ≤ E.faults entropy.new }
     ensures input_later { K.faults input.old ≤ K.faults input.new }
     ensures output_later { S.faults out.old ≤ S.faults out.new }

@@ -1,4 +1,4 @@
-use Rattle.std.proofs.Common.{◌≡◌, inl, ◌≤◌, ◌<◌, ℕ, List, length, refl, sym, ap, subst, ◌∙◌, arith, rules}
+use Rattle.std.proofs.Common.{◌≡◌, inl, ◌≤◌, ◌<◌, true, ℕ, List, drop, length, refl, sym, ap, subst, ◌∙◌, arith, rules}
 use Rattle.disk_side.specs.Published.{IsNew as IsAlone}
 use Rattle.edge_model.specs.Files.{Files, bytes_of}
 use Rattle.edge_model.specs.Images.{Each, From, LeavesOnly}
@@ -9,8 +9,9 @@ use Rattle.transaction.specs.Facts.{SameFresh}
 use Rattle.sqlcipher_tool.specs.Change.{KeepsOrCommits, change_answers, command_of}
 use Rattle.sqlcipher_tool.specs.Holding.{HoldsOnly, held_by}
 use Rattle.sqlcipher_tool.specs.Recovered.{recovered_main, recovery_of}
-use Rattle.sqlcipher_tool.specs.Renewal.{IsNew, Renewal}
+use Rattle.sqlcipher_tool.specs.Renewal.{IsNewDrawn, Renewal}
 use Rattle.sqlcipher_tool.proofs.Answered.{holds_on}
+use Rattle.sqlcipher_tool.proofs.Behind.{old_done, recovery_last}
 use Rattle.sqlcipher_tool.proofs.Changing.{after_old, as_run}
 use Rattle.sqlcipher_tool.proofs.Recoveries.{had_byte, journal_gone}
 use Rattle.sqlcipher_tool.proofs.SomeDue.{after_some, change_some}
@@ -36,8 +37,9 @@ returns-in-Ok-clause-changes g c = λ told start.
     let same : file ≡ main = sym (c.in-Ok.ensures.main told) in
     let begun : Each (d.images c.recover_main.new.disk) (HoldsOnly (held_by (keys_of profile secret main) main)) =
     subst (λ (l : List ℕ). Each (d.images c.recover_main.new.disk) (HoldsOnly (held_by (keys_of profile secret l) l))) same (at_exit g.met.D.Disk.counts_now first) in
+    let drawn = drop (length (g.E.Entropy.drawn c.args.entropy.now)) (g.E.Entropy.drawn c.change_main.new.entropy) in
     let renewal : Renewal = record { old_profile = profile; old_secret = secret; new_profile = c.args.new; new_secret = c.args.second.now } in
-    let next = subst (λ (l : List ℕ). KeepsOrCommits d.reads d.images d.moment d.since c.change_main.result (IsNew (command_of c.args.change profile c.args.new) renewal l)
+    let next = subst (λ (l : List ℕ). KeepsOrCommits d.reads d.images d.moment d.since c.change_main.result (IsNewDrawn (command_of c.args.change profile c.args.new) renewal g.E.Entropy.tells drawn l)
     (HoldsOnly (held_by (keys_of profile secret l) l)) (λ n. HoldsOnly (held_by (keys_of c.args.new c.args.second.now n) n)) c.recover_main.new.disk c.change_main.new.disk) (sym same)
     (c.change_main.ensures.safely told begun) in
     as_run d.reads d.images d.moment d.since g.met.D.Disk.counts_now g.met.D.Disk.only_now c.change_main.result
@@ -113,14 +115,28 @@ returns-in-Err-clause-own_draws g c = λ told drawing is.
     (λ same. (c.conclude_stop.ensures.disk same).0) (λ same. (c.conclude_stop.ensures.memory same).0)) is)
 
 pub returns-in-Ok-clause-untouched : goal.returns-in-Ok-clause-untouched
-returns-in-Ok-clause-untouched g c = λ told none ok.
+returns-in-Ok-clause-untouched g c = λ told none.
     let files = g.D.Disk.reads c.args.disk.now in
     let main = main_of (g.D.Disk.reads c.recover_main.new.disk) in
-    let unwritten = c.in-Ok.ensures.untouched told none in
+    let unwritten = c.recover_main.ensures.untouched told none in
     let same : main ≡ main_of files = ap (λ (f : Files). main_of f) unwritten.reads in
     let empty = ap (λ (l : List ℕ). length l) same ∙ has_no_byte c.args.old files c.in-Ok.field-0 (c.in-Ok.ensures.recovery told) none in
     unwritten_read g.met.D.Disk.counts_now (c.recover_main.ensures.keeps told).later unwritten
     (c.change_main.ensures.unopened told (empty_unopened c.args.old c.args.first.now main empty))
 
-pub returns-in-Err-clause-untouched : goal.returns-in-Err-clause-untouched
-returns-in-Err-clause-untouched g c = λ told none ok. c.in-Err.ensures.unwritten told (λ is. ok (c.conclude_stop.ensures.disk is).0)
+pub returns-in-Err-clause-fresh_gone : goal.returns-in-Err-clause-fresh_gone
+returns-in-Err-clause-fresh_gone g c = λ told is beside.
+    absurd (last_not_done c.in-Err.stop c.conclude_stop.result (stop_last c.in-Err.stop c.conclude_stop.result c.conclude_stop.ensures.status
+    (λ same. (c.conclude_stop.ensures.disk same).0) (λ same. (c.conclude_stop.ensures.memory same).0)) is)
+
+pub returns-in-Ok-clause-recovered : goal.returns-in-Ok-clause-recovered
+returns-in-Ok-clause-recovered g c = λ told has byte image now.
+    let files = g.D.Disk.reads c.args.disk.now in
+    let from = c.change_main.ensures.stays told has image now in
+    old_done c.args.old.page_size (bytes_of files.main) (bytes_of files.journal) from.0 image from.2 (c.in-Ok.ensures.done told byte from.0 from.1)
+
+pub returns-in-Err-clause-recovered : goal.returns-in-Err-clause-recovered
+returns-in-Err-clause-recovered g c = λ told has.
+    absurd (recovery_last true c.in-Err.stop c.conclude_stop.result c.in-Err.ensures.of_recovery
+    (stop_last c.in-Err.stop c.conclude_stop.result c.conclude_stop.ensures.status
+    (λ same. (c.conclude_stop.ensures.disk same).0) (λ same. (c.conclude_stop.ensures.memory same).0)) has)

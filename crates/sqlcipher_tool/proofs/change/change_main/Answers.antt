@@ -1,17 +1,22 @@
-use Rattle.std.proofs.Common.{◌≡◌, ⊎_elim, inl, inr, ℕ, List, Result, Err, refl, sym, ap, subst, ◌∙◌, rules}
+use Rattle.std.proofs.Common.{◌≡◌, ⊎_elim, inl, inr, ℕ, List, drop, length, Result, Err, refl, sym, ap, subst, ◌∙◌, rules}
 use Rattle.cipher_profile.specs.declared.keys.Secret.{Secret}
 use Rattle.cipher_profile.specs.declared.profile.Profile.{Profile}
 use Rattle.page_codec.specs.Page.{keys_of}
 use Rattle.pager.specs.File.{main_of}
+use Rattle.std.specs.Prelude.{IfErr, IsTrue}
+use Rattle.disk_side.specs.OnlyFresh.{IsOld}
+use Rattle.edge_model.specs.Images.{Each}
 use Rattle.sqlcipher_tool.specs.Answer.{done}
+use Rattle.sqlcipher_tool.specs.Behind.{IsRefusedChange}
 use Rattle.sqlcipher_tool.specs.Change.{KeepsOrCommits, change_answer, change_answers, change_status, command_of}
 use Rattle.sqlcipher_tool.specs.Holding.{HoldsOnly, held_by}
-use Rattle.sqlcipher_tool.specs.Renewal.{IsNew, Renewal}
+use Rattle.sqlcipher_tool.specs.Renewal.{IsNewDrawn, Renewal}
 use Rattle.sqlcipher_tool.specs.declared.opening.ChangeError.{ChangeError}
 use Rattle.sqlcipher_tool.specs.declared.opening.ChangeError.TheVariants.{Stopped, EntropyFault as EntropyFails}
 use Rattle.sqlcipher_tool.specs.declared.opening.Stop.{Stop}
 use Rattle.sqlcipher_tool.specs.declared.status.Status.TheVariants.{Done, EntropyFault}
 use Rattle.sqlcipher_tool.proofs.Answered.{printed_among}
+use Rattle.sqlcipher_tool.proofs.Behind.{done_last, refusal_last}
 use Rattle.sqlcipher_tool.proofs.Changing.{printed}
 use Rattle.sqlcipher_tool.proofs.Changed.{causes_printed, causes_stopped, causes_undrawn, last_not_done, late_stop, silent_one, stop_last}
 use Rattle.sqlcipher_tool.proofs.SomeDue.{change_some}
@@ -40,7 +45,7 @@ returns-in-Ok-clause-safely g c = λ told start.
     let d = g.D.Disk in
     let file = main_of (d.reads c.args.disk.now) in
     let renewal = renewal_of c.args.old c.args.first.now c.args.new c.args.second.now in
-    let was = subst (λ (r : Outcome). KeepsOrCommits d.reads d.images d.moment d.since (change_status r) (IsNew (command_of c.args.change c.args.old c.args.new) renewal file)
+    let was = subst (λ (r : Outcome). KeepsOrCommits d.reads d.images d.moment d.since (change_status r) (IsNewDrawn (command_of c.args.change c.args.old c.args.new) renewal g.E.Entropy.tells (drop (length (g.E.Entropy.drawn c.args.entropy.now)) (g.E.Entropy.drawn c.change_opened.new.entropy)) file)
     (HoldsOnly (held_by (keys_of c.args.old c.args.first.now file) file)) (λ n. HoldsOnly (held_by (keys_of c.args.new c.args.second.now n) n)) c.args.disk.now c.change_opened.new.disk) c.in-Ok.is (c.change_opened.ensures.safely told start) in
     printed d.reads d.images d.moment d.since g.met.D.Disk.counts_now g.met.D.Disk.only_now Done c.conclude.result
     (⊎_elim (λ same. inl same) (λ out. inr (out, tt)) c.conclude.ensures.status) was
@@ -81,7 +86,7 @@ returns-in-Err-Stopped-clause-safely g c = λ told start.
     let is = subst (λ (s : Stop). c.change_opened.result ≡ Err (Stopped s)) (sym c.in-Err-Stopped.stop-is) found in
     let file = main_of (d.reads c.args.disk.now) in
     let renewal = renewal_of c.args.old c.args.first.now c.args.new c.args.second.now in
-    let was = subst (λ (r : Outcome). KeepsOrCommits d.reads d.images d.moment d.since (change_status r) (IsNew (command_of c.args.change c.args.old c.args.new) renewal file)
+    let was = subst (λ (r : Outcome). KeepsOrCommits d.reads d.images d.moment d.since (change_status r) (IsNewDrawn (command_of c.args.change c.args.old c.args.new) renewal g.E.Entropy.tells (drop (length (g.E.Entropy.drawn c.args.entropy.now)) (g.E.Entropy.drawn c.change_opened.new.entropy)) file)
     (HoldsOnly (held_by (keys_of c.args.old c.args.first.now file) file)) (λ n. HoldsOnly (held_by (keys_of c.args.new c.args.second.now n) n)) c.args.disk.now c.change_opened.new.disk) is (c.change_opened.ensures.safely told start) in
     printed d.reads d.images d.moment d.since g.met.D.Disk.counts_now g.met.D.Disk.only_now _ c.conclude_stop.result
     (stop_last _ c.conclude_stop.result c.conclude_stop.ensures.status (λ same. (c.conclude_stop.ensures.disk same).0) (λ same. (c.conclude_stop.ensures.memory same).0)) was
@@ -113,7 +118,7 @@ returns-in-Err-EntropyFault-clause-safely g c = λ told start.
     let is : c.change_opened.result ≡ Err EntropyFails = search rules in
     let file = main_of (d.reads c.args.disk.now) in
     let renewal = renewal_of c.args.old c.args.first.now c.args.new c.args.second.now in
-    subst (λ (r : Outcome). KeepsOrCommits d.reads d.images d.moment d.since (change_status r) (IsNew (command_of c.args.change c.args.old c.args.new) renewal file)
+    subst (λ (r : Outcome). KeepsOrCommits d.reads d.images d.moment d.since (change_status r) (IsNewDrawn (command_of c.args.change c.args.old c.args.new) renewal g.E.Entropy.tells (drop (length (g.E.Entropy.drawn c.args.entropy.now)) (g.E.Entropy.drawn c.change_opened.new.entropy)) file)
     (HoldsOnly (held_by (keys_of c.args.old c.args.first.now file) file)) (λ n. HoldsOnly (held_by (keys_of c.args.new c.args.second.now n) n)) c.args.disk.now c.change_opened.new.disk) is (c.change_opened.ensures.safely told start)
 
 pub returns-in-Err-EntropyFault-clause-fresh : goal.returns-in-Err-EntropyFault-clause-fresh
@@ -133,3 +138,26 @@ returns-in-Err-Stopped-clause-unopened g c = λ told err. c.change_opened.ensure
 
 pub returns-in-Err-EntropyFault-clause-unopened : goal.returns-in-Err-EntropyFault-clause-unopened
 returns-in-Err-EntropyFault-clause-unopened g c = λ told err. c.change_opened.ensures.unopened told err
+
+pub returns-in-Ok-clause-fresh_gone : goal.returns-in-Ok-clause-fresh_gone
+returns-in-Ok-clause-fresh_gone g c = λ told is beside. was_ok c.change_opened.result c.in-Ok.report c.in-Ok.is (c.change_opened.ensures.fresh_gone told beside)
+
+pub returns-in-Err-Stopped-clause-fresh_gone : goal.returns-in-Err-Stopped-clause-fresh_gone
+returns-in-Err-Stopped-clause-fresh_gone g c = λ told is beside.
+    absurd (last_not_done _ c.conclude_stop.result (stop_last _ c.conclude_stop.result c.conclude_stop.ensures.status
+    (λ same. (c.conclude_stop.ensures.disk same).0) (λ same. (c.conclude_stop.ensures.memory same).0)) is)
+
+pub returns-in-Ok-clause-stays : goal.returns-in-Ok-clause-stays
+returns-in-Ok-clause-stays g c = λ told has. absurd (done_last c.conclude.result c.conclude.ensures.status has)
+
+pub returns-in-Err-Stopped-clause-stays : goal.returns-in-Err-Stopped-clause-stays
+returns-in-Err-Stopped-clause-stays g c = λ told has.
+    let d = g.D.Disk in
+    let found : c.change_opened.result ≡ Err (Stopped c.in-Err-Stopped.stop) = search rules in
+    let is = subst (λ (s : Stop). c.change_opened.result ≡ Err (Stopped s)) (sym c.in-Err-Stopped.stop-is) found in
+    let stays = subst (λ (r : Outcome). IfErr r (λ e. IsRefusedChange e → IsTrue d.tells → Each (d.images c.change_opened.new.disk) (IsOld (d.images c.args.disk.now)))) is c.change_opened.ensures.stays in
+    stays (refusal_last _ c.conclude_stop.result
+    (stop_last _ c.conclude_stop.result c.conclude_stop.ensures.status (λ same. (c.conclude_stop.ensures.disk same).0) (λ same. (c.conclude_stop.ensures.memory same).0)) has) told
+
+pub returns-in-Err-EntropyFault-clause-stays : goal.returns-in-Err-EntropyFault-clause-stays
+returns-in-Err-EntropyFault-clause-stays g c = λ told has. absurd has

@@ -1,4 +1,4 @@
-use Rattle.std.proofs.Common.{◌≡◌, ℕ, true, length, drop, sym, ap, subst, ◌∙◌}
+use Rattle.std.proofs.Common.{◌≡◌, ℕ, true, false, length, drop, refl, sym, ap, subst, ◌∙◌}
 use Rattle.std.specs.List.{Contains}
 use Rattle.std.specs.Prelude.{OnOk, IsTrue}
 use Rattle.cipher_profile.specs.declared.keys.Secret.{Secret}
@@ -7,7 +7,7 @@ use Rattle.page_codec.specs.Page.{keys_of}
 use Rattle.pager.specs.File.{main_of}
 use Rattle.sqlcipher_tool.specs.Change.{IsChangeBetween, KeepsOrCommits, change_answers, change_status, command_of, is_in_place}
 use Rattle.sqlcipher_tool.specs.Holding.{HoldsOnly, held_by}
-use Rattle.sqlcipher_tool.specs.Renewal.{AreDrawn, IsNew, Renewal}
+use Rattle.sqlcipher_tool.specs.Renewal.{AreDrawn, IsNewDrawn, Renewal}
 use Rattle.sqlcipher_tool.specs.declared.change.Change.{Change}
 use Rattle.sqlcipher_tool.specs.declared.change.Change.TheVariants.{Stamp as StampOf, Rekey as RekeyOf, Migrate as MigrateOf}
 use Rattle.sqlcipher_tool.specs.declared.command.Field.{Field}
@@ -37,11 +37,13 @@ pub returns-in-Stamp-clause-safely : goal.returns-in-Stamp-clause-safely
 returns-in-Stamp-clause-safely g c = λ told start.
     let d = g.D.Disk in
     let file = main_of (d.reads c.args.disk.now) in
+    let tells = g.E.Entropy.tells in
+    let drawn = drop (length (g.E.Entropy.drawn c.args.entropy.now)) (g.E.Entropy.drawn c.stamp_file.new.entropy) in
     let old = c.args.old in
     let first = c.args.first.now in
     let both = between c.args.change c.in-Stamp.field c.in-Stamp.value (record { old_profile = old; old_secret = first; new_profile = c.args.new; new_secret = c.args.second.now }) c.in-Stamp.is c.requires.between in
     as_stamp (λ ch new second. KeepsOrCommits d.reads d.images d.moment d.since (change_status c.stamp_file.result)
-    (IsNew (command_of ch old new) (record { old_profile = old; old_secret = first; new_profile = new; new_secret = second }) file)
+    (IsNewDrawn (command_of ch old new) (record { old_profile = old; old_secret = first; new_profile = new; new_secret = second }) tells drawn file)
     (HoldsOnly (held_by (keys_of old first file) file)) (λ n. HoldsOnly (held_by (keys_of new second n) n)) c.args.disk.now c.stamp_file.new.disk)
     c.args.change c.in-Stamp.field c.in-Stamp.value old c.args.new first c.args.second.now c.in-Stamp.is both (c.stamp_file.ensures.safely told start)
 
@@ -77,8 +79,10 @@ pub returns-in-Rekey-clause-safely : goal.returns-in-Rekey-clause-safely
 returns-in-Rekey-clause-safely g c = λ told start.
     let d = g.D.Disk in
     let file = main_of (d.reads c.args.disk.now) in
+    let tells = g.E.Entropy.tells in
+    let drawn = drop (length (g.E.Entropy.drawn c.args.entropy.now)) (g.E.Entropy.drawn c.rekey_file.new.entropy) in
     let renewal : Renewal = record { old_profile = c.args.old; old_secret = c.args.first.now; new_profile = c.args.new; new_secret = c.args.second.now } in
-    subst (λ (ch : Change). KeepsOrCommits d.reads d.images d.moment d.since (change_status c.rekey_file.result) (IsNew (command_of ch c.args.old c.args.new) renewal file)
+    subst (λ (ch : Change). KeepsOrCommits d.reads d.images d.moment d.since (change_status c.rekey_file.result) (IsNewDrawn (command_of ch c.args.old c.args.new) renewal tells drawn file)
     (HoldsOnly (held_by (keys_of c.args.old c.args.first.now file) file)) (λ n. HoldsOnly (held_by (keys_of c.args.new c.args.second.now n) n)) c.args.disk.now c.rekey_file.new.disk)
     (sym c.in-Rekey.is) (c.rekey_file.ensures.safely told start)
 
@@ -109,8 +113,10 @@ pub returns-in-Migrate-clause-safely : goal.returns-in-Migrate-clause-safely
 returns-in-Migrate-clause-safely g c = λ told start.
     let d = g.D.Disk in
     let file = main_of (d.reads c.args.disk.now) in
+    let tells = g.E.Entropy.tells in
+    let drawn = drop (length (g.E.Entropy.drawn c.args.entropy.now)) (g.E.Entropy.drawn c.migrate_file.new.entropy) in
     let renewal : Renewal = record { old_profile = c.args.old; old_secret = c.args.first.now; new_profile = c.args.new; new_secret = c.args.second.now } in
-    subst (λ (ch : Change). KeepsOrCommits d.reads d.images d.moment d.since (change_status c.migrate_file.result) (IsNew (command_of ch c.args.old c.args.new) renewal file)
+    subst (λ (ch : Change). KeepsOrCommits d.reads d.images d.moment d.since (change_status c.migrate_file.result) (IsNewDrawn (command_of ch c.args.old c.args.new) renewal tells drawn file)
     (HoldsOnly (held_by (keys_of c.args.old c.args.first.now file) file)) (λ n. HoldsOnly (held_by (keys_of c.args.new c.args.second.now n) n)) c.args.disk.now c.migrate_file.new.disk)
     (sym c.in-Migrate.is) (c.migrate_file.ensures.safely told start)
 
@@ -122,3 +128,16 @@ returns-in-Migrate-clause-own_draws g c =
     let renewal : Renewal = record { old_profile = c.args.old; old_secret = c.args.first.now; new_profile = c.args.new; new_secret = c.args.second.now } in
     subst (λ (ch : Change). OnOk c.migrate_file.result (IsTrue d.tells → IsTrue g.E.Entropy.tells → AreDrawn (command_of ch c.args.old c.args.new) renewal main drawn))
     (sym c.in-Migrate.is) c.migrate_file.ensures.own_draws
+
+-- a change in place writes nothing beside
+none_beside : (change kind : Change) → change ≡ kind → is_in_place kind ≡ true → is_in_place change ≡ false → ⊥
+none_beside change kind is in_place beside = let none = sym in_place ∙ (sym (ap is_in_place is) ∙ beside) in cc
+
+pub returns-in-Stamp-clause-fresh_gone : goal.returns-in-Stamp-clause-fresh_gone
+returns-in-Stamp-clause-fresh_gone g c = λ told beside. absurd (none_beside c.args.change (StampOf c.in-Stamp.field c.in-Stamp.value) c.in-Stamp.is refl beside)
+
+pub returns-in-Rekey-clause-fresh_gone : goal.returns-in-Rekey-clause-fresh_gone
+returns-in-Rekey-clause-fresh_gone g c = λ told beside. absurd (none_beside c.args.change RekeyOf c.in-Rekey.is refl beside)
+
+pub returns-in-Migrate-clause-fresh_gone : goal.returns-in-Migrate-clause-fresh_gone
+returns-in-Migrate-clause-fresh_gone g c = λ told beside. c.migrate_file.ensures.fresh_gone told

@@ -1,4 +1,4 @@
-use Rattle.std.proofs.Common.{◌≡◌, ⊎_elim, inl, inr, sym, ap, subst}
+use Rattle.std.proofs.Common.{◌≡◌, ⊎_elim, inl, inr, false, sym, ap, subst}
 use Rattle.sqlcipher_tool.specs.Answer.{Answer, IsAnswered, IsFault, Puts}
 use Rattle.edge_model.specs.Files.{bytes_of}
 use Rattle.sqlcipher_tool.specs.Header.{header_answer}
@@ -7,6 +7,8 @@ use Rattle.sqlcipher_tool.proofs.Recoveries.{had_byte, header_recovered, journal
 use Rattle.sqlcipher_tool.specs.declared.status.Status.TheVariants.{OutputFault}
 use Rattle.sqlcipher_tool.specs.Recovered.{recovered_main, recovery_of}
 use Rattle.sqlcipher_tool.proofs.Conclusions.{recovery_status, recovery_text}
+use Rattle.sqlcipher_tool.proofs.Behind.{recovery_last}
+use Rattle.sqlcipher_tool.proofs.Changed.{stop_last}
 use Rattle.sqlcipher_tool.proofs.LeftAlone.{unwritten_read}
 use Rattle.sqlcipher_tool.proofs.header.header.Goals as goal
 
@@ -64,8 +66,14 @@ header_of_main-requires-clause-recovered g c = λ told byte image now.
     (c.in-Ok.ensures.done told (had_byte c.args.profile files (main_of (g.D.Disk.reads c.recover_main.new.disk)) (c.in-Ok.ensures.main told) byte) image now)
 
 pub returns-in-Ok-clause-untouched : goal.returns-in-Ok-clause-untouched
-returns-in-Ok-clause-untouched g c = λ told none ok.
-    unwritten_read g.met.D.Disk.counts_now (c.recover_main.ensures.keeps told).later (c.in-Ok.ensures.untouched told none) (c.header_of_main.ensures.only_read told)
+returns-in-Ok-clause-untouched g c = λ told none.
+    unwritten_read g.met.D.Disk.counts_now (c.recover_main.ensures.keeps told).later (c.recover_main.ensures.untouched told none) (c.header_of_main.ensures.only_read told)
 
-pub returns-in-Err-clause-untouched : goal.returns-in-Err-clause-untouched
-returns-in-Err-clause-untouched g c = λ told none ok. c.in-Err.ensures.unwritten told (λ is. ok (c.conclude_stop.ensures.disk is).0)
+pub returns-in-Ok-clause-recovered : goal.returns-in-Ok-clause-recovered
+returns-in-Ok-clause-recovered g c = λ told has byte image now. c.in-Ok.ensures.done told byte image ((c.header_of_main.ensures.only_read told).same_images.no_more image now)
+
+pub returns-in-Err-clause-recovered : goal.returns-in-Err-clause-recovered
+returns-in-Err-clause-recovered g c = λ told has.
+    absurd (recovery_last false c.in-Err.stop c.conclude_stop.result c.in-Err.ensures.of_recovery
+    (stop_last c.in-Err.stop c.conclude_stop.result c.conclude_stop.ensures.status
+    (λ same. (c.conclude_stop.ensures.disk same).0) (λ same. (c.conclude_stop.ensures.memory same).0)) has)

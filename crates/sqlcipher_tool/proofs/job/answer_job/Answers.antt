@@ -1,4 +1,4 @@
-use Rattle.std.proofs.Common.{ap}
+use Rattle.std.proofs.Common.{ap, false}
 use Rattle.pager.specs.File.{main_of}
 use Rattle.pager.specs.Pages.{opened_pages}
 use Rattle.page_codec.specs.Page.{keys_of}
@@ -9,6 +9,8 @@ use Rattle.sqlcipher_tool.proofs.SomeDue.{after_some, job_some, opened_some}
 use Rattle.sqlcipher_tool.proofs.Recoveries.{read_after}
 use Rattle.sqlcipher_tool.proofs.Verified.{stop_one}
 use Rattle.sqlcipher_tool.proofs.VerifiedFile.{refused_due, job_recovered}
+use Rattle.sqlcipher_tool.proofs.Behind.{recovery_last}
+use Rattle.sqlcipher_tool.proofs.Changed.{stop_last}
 use Rattle.sqlcipher_tool.proofs.LeftAlone.{unwritten_read}
 use Rattle.sqlcipher_tool.proofs.job.answer_job.Goals as goal
 
@@ -38,8 +40,14 @@ returns-in-Err-clause-answer g c = λ told.
     (λ is. let starved = c.conclude_stop.ensures.memory is in (starved.0, ap g.S.Sink.taken starved.1))
 
 pub returns-in-Ok-clause-untouched : goal.returns-in-Ok-clause-untouched
-returns-in-Ok-clause-untouched g c = λ told none ok.
-    unwritten_read g.met.D.Disk.counts_now (c.recover_main.ensures.keeps told).later (c.in-Ok.ensures.untouched told none) (c.job_on_main.ensures.only_read told)
+returns-in-Ok-clause-untouched g c = λ told none.
+    unwritten_read g.met.D.Disk.counts_now (c.recover_main.ensures.keeps told).later (c.recover_main.ensures.untouched told none) (c.job_on_main.ensures.only_read told)
 
-pub returns-in-Err-clause-untouched : goal.returns-in-Err-clause-untouched
-returns-in-Err-clause-untouched g c = λ told none ok. c.in-Err.ensures.unwritten told (λ is. ok (c.conclude_stop.ensures.disk is).0)
+pub returns-in-Ok-clause-recovered : goal.returns-in-Ok-clause-recovered
+returns-in-Ok-clause-recovered g c = λ told has byte image now. c.in-Ok.ensures.done told byte image ((c.job_on_main.ensures.only_read told).same_images.no_more image now)
+
+pub returns-in-Err-clause-recovered : goal.returns-in-Err-clause-recovered
+returns-in-Err-clause-recovered g c = λ told has.
+    absurd (recovery_last false c.in-Err.stop c.conclude_stop.result c.in-Err.ensures.of_recovery
+    (stop_last c.in-Err.stop c.conclude_stop.result c.conclude_stop.ensures.status
+    (λ same. (c.conclude_stop.ensures.disk same).0) (λ same. (c.conclude_stop.ensures.memory same).0)) has)

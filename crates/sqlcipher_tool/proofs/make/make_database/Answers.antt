@@ -1,12 +1,15 @@
-use Rattle.std.proofs.Common.{◌≡◌, inr, ℕ, List, Ok, Err, sym, ap, subst, ◌∙◌}
+use Rattle.std.proofs.Common.{◌≡◌, inr, ℕ, IsTrue, List, drop, length, Ok, Err, sym, ap, subst, ◌∙◌}
 use Rattle.edge_model.specs.Files.{Files}
 use Rattle.pager.specs.File.{main_of}
+use Rattle.fresh_file.specs.Draws.{HasOwnDraws}
 use Rattle.make_job.specs.Made.{IsMade}
+use Rattle.page_codec.specs.Page.{keys_of}
 use Rattle.sqlcipher_tool.specs.Change.{IsLateChange, KeepsOrCommits, change_answer, change_status}
 use Rattle.sqlcipher_tool.specs.Crash.{HasNoMain}
+use Rattle.sqlcipher_tool.specs.Renewal.{WithDraws}
 use Rattle.disk_side.specs.Published.{IsNew}
 use Rattle.sqlcipher_tool.specs.declared.opening.ChangeError.{ChangeError}
-use Rattle.sqlcipher_tool.proofs.Making.{made_due, made_there, make_disk, make_entropy, make_late, same_journal, stands_some, unmade_due, unmade_there}
+use Rattle.sqlcipher_tool.proofs.Making.{made_due, made_there, make_disk, make_entropy, make_late, place_with, same_journal, stands_some, unmade_due, unmade_there}
 use Rattle.sqlcipher_tool.proofs.make.make_database.Goals as goal
 
 abbrev failed : ChangeError → Rattle.std.specs.Prelude.Result (List ℕ) ChangeError
@@ -29,7 +32,10 @@ returns-in-Ok-clause-made g c = λ told.
 pub returns-in-Ok-clause-safely : goal.returns-in-Ok-clause-safely
 returns-in-Ok-clause-safely g c = λ told free.
     let d = g.D.Disk in
-    inr (made_there d.reads d.images d.moment d.since g.met.D.Disk.counts_now g.met.D.Disk.only_now free (c.in-Ok.ensures.made told))
+    let n = g.E.Entropy in
+    let own : List ℕ → Type 0 = λ file. IsTrue n.tells → HasOwnDraws (keys_of c.args.profile c.args.secret.now file) file (drop (length (n.drawn c.args.entropy.now)) (n.drawn c.make.new.entropy)) in
+    inr (made_there d.reads d.images d.moment d.since g.met.D.Disk.counts_now g.met.D.Disk.only_now free
+    (place_with own (c.in-Ok.ensures.made told) (λ drawing. c.in-Ok.ensures.own_draws told drawing)))
 
 pub returns-in-Ok-clause-only_read : goal.returns-in-Ok-clause-only_read
 returns-in-Ok-clause-only_read g c = λ told there.
@@ -45,7 +51,9 @@ returns-in-Err-clause-told g c = λ told answer is.
 pub returns-in-Err-clause-safely : goal.returns-in-Err-clause-safely
 returns-in-Err-clause-safely g c = λ told free.
     let d = g.D.Disk in
-    subst (λ (e : ChangeError). KeepsOrCommits d.reads d.images d.moment d.since (change_status (Err e)) (IsMade c.args.profile c.args.secret.now c.args.rows) HasNoMain IsNew c.args.disk.now c.make.new.disk)
+    let n = g.E.Entropy in
+    let own : List ℕ → Type 0 = λ file. HasOwnDraws (keys_of c.args.profile c.args.secret.now file) file (drop (length (n.drawn c.args.entropy.now)) (n.drawn c.make.new.entropy)) in
+    subst (λ (e : ChangeError). KeepsOrCommits d.reads d.images d.moment d.since (change_status (Err e)) (WithDraws (IsMade c.args.profile c.args.secret.now c.args.rows) n.tells own) HasNoMain IsNew c.args.disk.now c.make.new.disk)
     (sym c.make_error.ensures)
     (unmade_there d.reads d.images d.moment d.since g.met.D.Disk.counts_now g.met.D.Disk.only_now free c.in-Err.error (λ other. c.in-Err.ensures.only_old other told) (c.make.ensures.any_moment told))
 
@@ -80,3 +88,6 @@ pub returns-in-Err-clause-undrawn : goal.returns-in-Err-clause-undrawn
 returns-in-Err-clause-undrawn g c = λ told there.
     let way = stands_some (g.D.Disk.reads c.args.disk.now) there in
     (c.make.ensures.stopped way.0 told way.1).2
+
+pub returns-in-Ok-clause-fresh_gone : goal.returns-in-Ok-clause-fresh_gone
+returns-in-Ok-clause-fresh_gone g c = λ told. ap (λ (files : Files). files.fresh) (c.in-Ok.ensures.made told).reads_so

@@ -1,10 +1,13 @@
-use Rattle.std.proofs.Common.{◌≡◌, ⊎_elim, inl, inr, ℕ, List, Result, Err, refl, sym, ap, subst, ◌∙◌, rules}
+use Rattle.std.proofs.Common.{◌≡◌, ⊎_elim, inl, inr, ℕ, List, drop, length, Result, Err, refl, sym, ap, subst, ◌∙◌, rules}
 use Rattle.disk_side.specs.Published.{IsNew}
+use Rattle.fresh_file.specs.Draws.{HasOwnDraws}
 use Rattle.make_job.specs.Made.{IsMade}
+use Rattle.page_codec.specs.Page.{keys_of}
 use Rattle.sqlcipher_tool.specs.Answer.{done}
 use Rattle.sqlcipher_tool.specs.Change.{KeepsOrCommits, change_answer, change_status}
 use Rattle.sqlcipher_tool.specs.Crash.{HasNoMain}
 use Rattle.sqlcipher_tool.specs.Make.{make_answers}
+use Rattle.sqlcipher_tool.specs.Renewal.{WithDraws}
 use Rattle.sqlcipher_tool.specs.declared.opening.ChangeError.{ChangeError}
 use Rattle.sqlcipher_tool.specs.declared.opening.ChangeError.TheVariants.{Stopped, EntropyFault as EntropyFails}
 use Rattle.sqlcipher_tool.specs.declared.opening.Stop.{Stop}
@@ -37,10 +40,11 @@ returns-in-Ok-clause-causes g c =
 pub returns-in-Ok-clause-changes : goal.returns-in-Ok-clause-changes
 returns-in-Ok-clause-changes g c = λ told.
     let d = g.D.Disk in
+    let own : List ℕ → Type 0 = λ file. HasOwnDraws (keys_of c.args.profile c.args.secret.now file) file (drop (length (g.E.Entropy.drawn c.args.entropy.now)) (g.E.Entropy.drawn c.make_database.new.entropy)) in
     record {
       made = λ is. was_ok c.make_database.result c.in-Ok.report c.in-Ok.is c.make_database.ensures.made told;
       safely = λ free.
-          let was = subst (λ (r : Outcome). KeepsOrCommits d.reads d.images d.moment d.since (change_status r) (IsMade c.args.profile c.args.secret.now c.args.rows) HasNoMain IsNew c.args.disk.now c.make_database.new.disk)
+          let was = subst (λ (r : Outcome). KeepsOrCommits d.reads d.images d.moment d.since (change_status r) (WithDraws (IsMade c.args.profile c.args.secret.now c.args.rows) g.E.Entropy.tells own) HasNoMain IsNew c.args.disk.now c.make_database.new.disk)
           c.in-Ok.is (c.make_database.ensures.safely told free) in
           as_run d.reads d.images d.moment d.since g.met.D.Disk.counts_now g.met.D.Disk.only_now c.conclude.result
           (printed d.reads d.images d.moment d.since g.met.D.Disk.counts_now g.met.D.Disk.only_now Done c.conclude.result
@@ -83,13 +87,14 @@ returns-in-Err-Stopped-clause-causes g c =
 pub returns-in-Err-Stopped-clause-changes : goal.returns-in-Err-Stopped-clause-changes
 returns-in-Err-Stopped-clause-changes g c = λ told.
     let d = g.D.Disk in
+    let own : List ℕ → Type 0 = λ file. HasOwnDraws (keys_of c.args.profile c.args.secret.now file) file (drop (length (g.E.Entropy.drawn c.args.entropy.now)) (g.E.Entropy.drawn c.make_database.new.entropy)) in
     let found : c.make_database.result ≡ Err (Stopped c.in-Err-Stopped.stop) = search rules in
     let is = subst (λ (s : Stop). c.make_database.result ≡ Err (Stopped s)) (sym c.in-Err-Stopped.stop-is) found in
     let last = stop_last _ c.conclude_stop.result c.conclude_stop.ensures.status (λ same. (c.conclude_stop.ensures.disk same).0) (λ same. (c.conclude_stop.ensures.memory same).0) in
     record {
       made = λ done. absurd (last_not_done _ c.conclude_stop.result last done);
       safely = λ free.
-          let was = subst (λ (r : Outcome). KeepsOrCommits d.reads d.images d.moment d.since (change_status r) (IsMade c.args.profile c.args.secret.now c.args.rows) HasNoMain IsNew c.args.disk.now c.make_database.new.disk)
+          let was = subst (λ (r : Outcome). KeepsOrCommits d.reads d.images d.moment d.since (change_status r) (WithDraws (IsMade c.args.profile c.args.secret.now c.args.rows) g.E.Entropy.tells own) HasNoMain IsNew c.args.disk.now c.make_database.new.disk)
           is (c.make_database.ensures.safely told free) in
           as_run d.reads d.images d.moment d.since g.met.D.Disk.counts_now g.met.D.Disk.only_now c.conclude_stop.result
           (printed d.reads d.images d.moment d.since g.met.D.Disk.counts_now g.met.D.Disk.only_now _ c.conclude_stop.result last was);
@@ -122,11 +127,12 @@ returns-in-Err-EntropyFault-clause-causes g c =
 pub returns-in-Err-EntropyFault-clause-changes : goal.returns-in-Err-EntropyFault-clause-changes
 returns-in-Err-EntropyFault-clause-changes g c = λ told.
     let d = g.D.Disk in
+    let own : List ℕ → Type 0 = λ file. HasOwnDraws (keys_of c.args.profile c.args.secret.now file) file (drop (length (g.E.Entropy.drawn c.args.entropy.now)) (g.E.Entropy.drawn c.make_database.new.entropy)) in
     let is : c.make_database.result ≡ Err EntropyFails = search rules in
     record {
       made = λ done. absurd (entropy_not_done done);
       safely = λ free. as_run d.reads d.images d.moment d.since g.met.D.Disk.counts_now g.met.D.Disk.only_now EntropyFault
-          (subst (λ (r : Outcome). KeepsOrCommits d.reads d.images d.moment d.since (change_status r) (IsMade c.args.profile c.args.secret.now c.args.rows) HasNoMain IsNew c.args.disk.now c.make_database.new.disk)
+          (subst (λ (r : Outcome). KeepsOrCommits d.reads d.images d.moment d.since (change_status r) (WithDraws (IsMade c.args.profile c.args.secret.now c.args.rows) g.E.Entropy.tells own) HasNoMain IsNew c.args.disk.now c.make_database.new.disk)
           is (c.make_database.ensures.safely told free));
     }
 
@@ -153,3 +159,11 @@ returns-in-Err-EntropyFault-clause-journal g c = c.make_database.ensures.journal
 
 pub returns-in-Err-EntropyFault-clause-undrawn : goal.returns-in-Err-EntropyFault-clause-undrawn
 returns-in-Err-EntropyFault-clause-undrawn g c = c.make_database.ensures.undrawn
+
+pub returns-in-Ok-clause-fresh_gone : goal.returns-in-Ok-clause-fresh_gone
+returns-in-Ok-clause-fresh_gone g c = λ told is. was_ok c.make_database.result c.in-Ok.report c.in-Ok.is (c.make_database.ensures.fresh_gone told)
+
+pub returns-in-Err-Stopped-clause-fresh_gone : goal.returns-in-Err-Stopped-clause-fresh_gone
+returns-in-Err-Stopped-clause-fresh_gone g c = λ told is.
+    absurd (last_not_done _ c.conclude_stop.result (stop_last _ c.conclude_stop.result c.conclude_stop.ensures.status
+    (λ same. (c.conclude_stop.ensures.disk same).0) (λ same. (c.conclude_stop.ensures.memory same).0)) is)

@@ -1,8 +1,9 @@
-use Rattle.std.proofs.Common.{◌≡◌, inl, ℕ, List, Result, sym, ap, subst, ◌∙◌, arith, rules}
+use Rattle.std.proofs.Common.{◌≡◌, inl, ℕ, List, drop, length, Result, sym, ap, subst, ◌∙◌, arith, rules}
 use Rattle.std.specs.List.{Contains}
 use Rattle.edge_model.specs.Causes.{Rose}
 use Rattle.edge_model.specs.Files.{Files}
 use Rattle.edge_model.specs.Images.{LeavesOnly}
+use Rattle.fresh_file.specs.Draws.{HasOwnDraws}
 use Rattle.disk_side.specs.Published.{IsNew as IsAlone}
 use Rattle.page_codec.specs.Page.{FileKeys, keys_of}
 use Rattle.pager.specs.File.{main_of}
@@ -14,8 +15,10 @@ use Rattle.sqlcipher_tool.specs.Change.{KeepsOrCommits, change_status}
 use Rattle.sqlcipher_tool.specs.Holding.{HoldsOnly, held_by}
 use Rattle.sqlcipher_tool.specs.Migrate.{IsMigratedSo, migrate_due}
 use Rattle.sqlcipher_tool.specs.Opening.{opened_with}
-use Rattle.sqlcipher_tool.specs.Renewal.{pages_under}
+use Rattle.sqlcipher_tool.specs.Renewal.{WithDraws, pages_under}
 use Rattle.sqlcipher_tool.specs.Verify.{opened_answers}
+use Rattle.sqlcipher_tool.specs.Behind.{IsRefusedChange}
+use Rattle.sqlcipher_tool.proofs.Behind.{after_read, read_stays}
 use Rattle.sqlcipher_tool.proofs.Changing.{after_old, read_only, stop_not_done}
 use Rattle.sqlcipher_tool.proofs.OpenedParts.{open_parts}
 use Rattle.sqlcipher_tool.proofs.VerifiedFile.{unopened_due}
@@ -77,16 +80,22 @@ returns-clause-safely g c = λ told start.
     let keys = keys_of c.args.old c.args.first.now file in
     let status = change_status c.migrate_pages-disk.result.2 in
     let end = c.migrate_pages-disk.result.0.now in
+    let n = g.E.Entropy in
+    let after = n.drawn c.migrate_pages-disk.result.1.now in
+    let drawn_by : List ℕ → List ℕ → Type 0 = λ before m. HasOwnDraws (keys_of c.args.new c.args.second.now m) m (drop (length before) after) in
     let codec : p.codec ≡ keys = c.into_pager-pager.ensures.file.0 ∙ c.in-Ok.ensures.codec told in
     let same : main_of (d.reads p.disk.now) ≡ file = ap (λ (x : _). main_of (d.reads x)) made ∙ ap (λ (files : Files). main_of files) read.stays in
-    let one = subst (λ (k : FileKeys). KeepsOrCommits d.reads d.images d.moment d.since status (λ n. IsMigratedSo k (keys_of c.args.new c.args.second.now n) (main_of (d.reads p.disk.now)) n)
-    (HoldsOnly (held_by k (main_of (d.reads p.disk.now)))) (λ n. HoldsOnly (held_by (keys_of c.args.new c.args.second.now n) n)) p.disk.now end) codec (c.migrate_pages-disk.ensures.safely told) in
-    let two = subst (λ (l : List ℕ). KeepsOrCommits d.reads d.images d.moment d.since status (λ n. IsMigratedSo keys (keys_of c.args.new c.args.second.now n) l n)
-    (HoldsOnly (held_by keys l)) (λ n. HoldsOnly (held_by (keys_of c.args.new c.args.second.now n) n)) p.disk.now end) same one in
+    let one = subst (λ (k : FileKeys). KeepsOrCommits d.reads d.images d.moment d.since status (WithDraws (λ m. IsMigratedSo k (keys_of c.args.new c.args.second.now m) (main_of (d.reads p.disk.now)) m) n.tells (drawn_by (n.drawn p.entropy.now)))
+    (HoldsOnly (held_by k (main_of (d.reads p.disk.now)))) (λ m. HoldsOnly (held_by (keys_of c.args.new c.args.second.now m) m)) p.disk.now end) codec (c.migrate_pages-disk.ensures.safely told) in
+    let two = subst (λ (l : List ℕ). KeepsOrCommits d.reads d.images d.moment d.since status (WithDraws (λ m. IsMigratedSo keys (keys_of c.args.new c.args.second.now m) l m) n.tells (drawn_by (n.drawn p.entropy.now)))
+    (HoldsOnly (held_by keys l)) (λ m. HoldsOnly (held_by (keys_of c.args.new c.args.second.now m) m)) p.disk.now end) same one in
+    let three = subst (λ (x : _). KeepsOrCommits d.reads d.images d.moment d.since status (WithDraws (λ m. IsMigratedSo keys (keys_of c.args.new c.args.second.now m) file m) n.tells (drawn_by (n.drawn x)))
+    (HoldsOnly (held_by keys file)) (λ m. HoldsOnly (held_by (keys_of c.args.new c.args.second.now m) m)) p.disk.now end) c.into_pager-pager.ensures.entropy.1 two in
     let first : LeavesOnly d.moment d.since c.args.disk.now p.disk.now (HoldsOnly (held_by keys file)) =
     rw made (read_only d.reads d.images d.moment d.since g.met.D.Disk.counts_now g.met.D.Disk.only_now start read) in
     let last : c.disk-1.given.0 ≡ end = search rules in
-    rw last (after_old d.reads d.images d.moment d.since g.met.D.Disk.counts_now g.met.D.Disk.only_now status first two)
+    let drawn_last : c.entropy-1.given.0 ≡ c.migrate_pages-disk.result.1.now = search rules in
+    rw (last, drawn_last) (after_old d.reads d.images d.moment d.since g.met.D.Disk.counts_now g.met.D.Disk.only_now status first three)
 
 pub returns-clause-own_draws : goal.returns-clause-own_draws
 returns-clause-own_draws g c =
@@ -115,3 +124,19 @@ returns-in-Err-clause-unopened g c = λ told err. c.open_main.ensures.only_read 
 
 pub returns-clause-unopened : goal.returns-clause-unopened
 returns-clause-unopened g c = λ told err. is_opened _ _ (c.in-Ok.ensures.opens told) err
+
+pub returns-clause-fresh_gone : goal.returns-clause-fresh_gone
+returns-clause-fresh_gone g c =
+    let last : c.disk-1.given.0 ≡ c.migrate_pages-disk.result.0.now = search rules in
+    rw last c.migrate_pages-disk.ensures.fresh_gone
+
+pub returns-in-Err-clause-stays : goal.returns-in-Err-clause-stays
+returns-in-Err-clause-stays g c = λ refused told. read_stays (c.open_main.ensures.only_read told)
+
+pub returns-clause-stays : goal.returns-clause-stays
+returns-clause-stays g c =
+    let d = g.D.Disk in
+    let made = c.into_pager-pager.ensures.disk.1 in
+    let last : c.disk-1.given.0 ≡ c.migrate_pages-disk.result.0.now = search rules in
+    rw last (after_read IsRefusedChange (d.images c.migrate_pages-disk.result.0.now) c.migrate_pages-disk.result.2
+    (λ told image now. (c.open_main.ensures.only_read told).same_images.no_more image (subst (λ (x : _). d.images x image) made now)) c.migrate_pages-disk.ensures.stays)

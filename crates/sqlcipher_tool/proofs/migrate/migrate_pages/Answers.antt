@@ -1,8 +1,9 @@
-use Rattle.std.proofs.Common.{◌≡◌, inr, ◌*◌, ◌≤◌, ℕ, List, length, IsTrue, Some, Ok, Err, sym, ap, subst, ◌∙◌, rules}
+use Rattle.std.proofs.Common.{◌≡◌, inr, ◌*◌, ◌≤◌, ℕ, List, drop, length, IsTrue, Some, Ok, Err, sym, ap, subst, ◌∙◌, rules}
 use Rattle.cipher_profile.specs.Profile.{IsListed}
 use Rattle.cipher_profile.specs.declared.profile.Profile.{Profile}
 use Rattle.disk_side.specs.Place.{LeavesOld}
 use Rattle.edge_model.specs.Files.{Files}
+use Rattle.fresh_file.specs.Draws.{HasOwnDraws}
 use Rattle.migrate_job.specs.Migrated.{IsMigrated}
 use Rattle.migrate_job.specs.Stops.{IsShown}
 use Rattle.migrate_job.specs.declared.error.MigrateError.TheVariants.{DiskFault as DiskFails}
@@ -15,9 +16,13 @@ use Rattle.sqlcipher_tool.specs.Answer.{done}
 use Rattle.sqlcipher_tool.specs.Change.{IsLateChange, KeepsOrCommits, change_answer, change_status}
 use Rattle.sqlcipher_tool.specs.Holding.{HoldsOnly, held_by}
 use Rattle.sqlcipher_tool.specs.Migrate.{IsMigratedSo}
-use Rattle.sqlcipher_tool.specs.Renewal.{pages_under}
+use Rattle.sqlcipher_tool.specs.Renewal.{WithDraws, pages_under}
 use Rattle.sqlcipher_tool.specs.declared.opening.ChangeError.{ChangeError}
+use Rattle.edge_model.specs.Moments.{at_exit}
+use Rattle.sqlcipher_tool.specs.Behind.{IsRefusedChange}
+use Rattle.sqlcipher_tool.proofs.Behind.{migrate_undisturbed}
 use Rattle.sqlcipher_tool.proofs.Changing.{said_so}
+use Rattle.sqlcipher_tool.proofs.Making.{place_with}
 use Rattle.sqlcipher_tool.proofs.MigratedFile.{migrated_so}
 use Rattle.sqlcipher_tool.proofs.Migrating.{migrate_late, migrated_count, migrated_due, migrated_there, stopped_migrate, unmigrated_due, was_done}
 use Rattle.sqlcipher_tool.proofs.Stamping.{was_ok}
@@ -57,10 +62,12 @@ returns-in-Ok-clause-safely g c = λ told.
     let file = main_of (d.reads p.disk.now) in
     let opened : Opened = record { header = p.header; count = p.count } in
     let end = c.migrate-disk.result.0.now in
+    let own : List ℕ → Type 0 = λ n. HasOwnDraws (keys_of c.args.profile c.args.secret.now n) n (drop (length (g.E.Entropy.drawn p.entropy.now)) (g.E.Entropy.drawn c.migrate-disk.result.1.now)) in
     let there = was_ok c.migrate-disk.result.2 c.in-Ok.pages c.in-Ok.is c.migrate-disk.ensures.migrated told in
     said_so d.reads d.images d.moment d.since g.met.D.Disk.counts_now g.met.D.Disk.only_now (change_status (Ok c.migrated_report.result))
-    (λ n is. migrated_so p.codec (keys_of c.args.profile c.args.secret.now n) file n opened (c.requires.opened told) is) (λ n is image has. has)
-    (inr (migrated_there d.reads d.images d.moment d.since g.met.D.Disk.counts_now g.met.D.Disk.only_now p.codec file c.args.profile c.args.secret.now p.disk.now end (c.requires.alone told) there))
+    (λ n is. (migrated_so p.codec (keys_of c.args.profile c.args.secret.now n) file n opened (c.requires.opened told) is.0, is.1)) (λ n is image has. has)
+    (inr (migrated_there d.reads d.images d.moment d.since g.met.D.Disk.counts_now g.met.D.Disk.only_now p.codec file c.args.profile c.args.secret.now p.disk.now end (c.requires.alone told)
+    (place_with (λ n. IsTrue g.E.Entropy.tells → own n) there (λ drawing. was_ok c.migrate-disk.result.2 c.in-Ok.pages c.in-Ok.is c.migrate-disk.ensures.own_draws told drawing))))
 
 pub returns-in-Ok-clause-own_draws : goal.returns-in-Ok-clause-own_draws
 returns-in-Ok-clause-own_draws g c = λ told drawing. was_ok c.migrate-disk.result.2 c.in-Ok.pages c.in-Ok.is c.migrate-disk.ensures.own_draws told drawing
@@ -82,15 +89,29 @@ returns-in-Err-clause-safely g c = λ told.
     let p = c.args.pager in
     let file = main_of (d.reads p.disk.now) in
     let opened : Opened = record { header = p.header; count = p.count } in
+    let own : List ℕ → Type 0 = λ n. HasOwnDraws (keys_of c.args.profile c.args.secret.now n) n (drop (length (g.E.Entropy.drawn p.entropy.now)) (g.E.Entropy.drawn c.migrate-disk.result.1.now)) in
     let end = c.migrate-disk.result.0.now in
     subst (λ (error : ChangeError). KeepsOrCommits d.reads d.images d.moment d.since (change_status (Err error))
-    (λ n. IsMigratedSo p.codec (keys_of c.args.profile c.args.secret.now n) file n) (HoldsOnly (held_by p.codec file))
+    (WithDraws (λ n. IsMigratedSo p.codec (keys_of c.args.profile c.args.secret.now n) file n) g.E.Entropy.tells own) (HoldsOnly (held_by p.codec file))
     (λ n. HoldsOnly (held_by (keys_of c.args.profile c.args.secret.now n) n)) p.disk.now end) (sym c.migrate_error.ensures)
     (said_so d.reads d.images d.moment d.since g.met.D.Disk.counts_now g.met.D.Disk.only_now _
-    (λ n is. migrated_so p.codec (keys_of c.args.profile c.args.secret.now n) file n opened (c.requires.opened told) is) (λ n is image has. has)
+    (λ n is. (migrated_so p.codec (keys_of c.args.profile c.args.secret.now n) file n opened (c.requires.opened told) is.0, is.1)) (λ n is image has. has)
     (stopped_migrate d.reads d.images d.moment d.since g.met.D.Disk.counts_now g.met.D.Disk.only_now p.codec file c.args.profile c.args.secret.now p.disk.now end (c.requires.alone told) c.in-Err.error
     (λ other. err_at (λ e. (e ≡ DiskFails → ⊥) → IsTrue d.tells → LeavesOld d.reads d.images d.moment d.since p.disk.now end) c.migrate-disk.result.2 c.in-Err.error c.in-Err.is c.migrate-disk.ensures.only_old other told)
     (c.migrate-disk.ensures.any_moment told)))
 
 pub returns-in-Err-clause-late : goal.returns-in-Err-clause-late
 returns-in-Err-clause-late g c = subst (λ (error : ChangeError). IsLateChange error) (sym c.migrate_error.ensures) (migrate_late c.in-Err.error)
+
+pub returns-in-Ok-clause-fresh_gone : goal.returns-in-Ok-clause-fresh_gone
+returns-in-Ok-clause-fresh_gone g c = λ told.
+    ap (λ (files : Files). files.fresh) (was_ok c.migrate-disk.result.2 c.in-Ok.pages c.in-Ok.is c.migrate-disk.ensures.migrated told).reads_so
+
+pub returns-in-Err-clause-stays : goal.returns-in-Err-clause-stays
+returns-in-Err-clause-stays g c = λ refused told.
+    let d = g.D.Disk in
+    let p = c.args.pager in
+    let end = c.migrate-disk.result.0.now in
+    let other = migrate_undisturbed c.in-Err.error (subst IsRefusedChange c.migrate_error.ensures refused) in
+    at_exit g.met.D.Disk.counts_now (err_at (λ e. (e ≡ DiskFails → ⊥) → IsTrue d.tells → LeavesOld d.reads d.images d.moment d.since p.disk.now end)
+    c.migrate-disk.result.2 c.in-Err.error c.in-Err.is c.migrate-disk.ensures.only_old other told).any_moment

@@ -1,7 +1,17 @@
-use Rattle.sqlcipher_tool.proofs.LeftAlone.{did_nothing}
+use Rattle.sqlcipher_tool.proofs.LeftAlone.{left_idle}
 use Rattle.sqlcipher_tool.proofs.recovery.recover_main.Goals as goal
 
 pub returns-in-Ok-clause-untouched : goal.returns-in-Ok-clause-untouched
-returns-in-Ok-clause-untouched g c = λ told none.
-    let nothing = did_nothing c.args.profile (g.D.Disk.reads c.args.disk.now) c.recover.result c.in-Ok.recovery c.in-Ok.is (c.recover.ensures.answer told) none in
-    record { reads = c.recover.ensures.unchanged told nothing; no_more = λ image ever. (c.recover.ensures.only_synced told nothing).each image ever }
+returns-in-Ok-clause-untouched g c = λ told none. left_idle g.D.Disk.reads g.D.Disk.images c.args.profile (c.recover.ensures.idle_same told) (c.recover.ensures.idle told) none
+
+pub returns-in-Err-JournalPageSize-clause-untouched : goal.returns-in-Err-JournalPageSize-clause-untouched
+returns-in-Err-JournalPageSize-clause-untouched g c = λ told none. left_idle g.D.Disk.reads g.D.Disk.images c.args.profile (c.recover.ensures.idle_same told) (c.recover.ensures.idle told) none
+
+pub returns-in-Err-SuperJournal-clause-untouched : goal.returns-in-Err-SuperJournal-clause-untouched
+returns-in-Err-SuperJournal-clause-untouched g c = λ told none. left_idle g.D.Disk.reads g.D.Disk.images c.args.profile (c.recover.ensures.idle_same told) (c.recover.ensures.idle told) none
+
+pub returns-in-Err-DiskFault-clause-untouched : goal.returns-in-Err-DiskFault-clause-untouched
+returns-in-Err-DiskFault-clause-untouched g c = λ told none. left_idle g.D.Disk.reads g.D.Disk.images c.args.profile (c.recover.ensures.idle_same told) (c.recover.ensures.idle told) none
+
+pub returns-in-Err-OutOfMemory-clause-untouched : goal.returns-in-Err-OutOfMemory-clause-untouched
+returns-in-Err-OutOfMemory-clause-untouched g c = λ told none. left_idle g.D.Disk.reads g.D.Disk.images c.args.profile (c.recover.ensures.idle_same told) (c.recover.ensures.idle told) none

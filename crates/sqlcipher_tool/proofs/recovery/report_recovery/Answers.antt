@@ -1,7 +1,7 @@
 use Rattle.std.proofs.Common.{ap}
 use Rattle.sqlcipher_tool.specs.Recovered.{recovery_answer, recovery_of}
+use Rattle.sqlcipher_tool.proofs.Behind.{outcome_done}
 use Rattle.sqlcipher_tool.proofs.Conclusions.{outcome_text}
-use Rattle.sqlcipher_tool.proofs.LeftAlone.{either_way}
 use Rattle.sqlcipher_tool.proofs.recovery.report_recovery.Goals as goal
 
 pub returns-clause-text : goal.returns-clause-text
@@ -14,7 +14,8 @@ returns-clause-text g c = λ printed told.
     (λ is. let failed = c.conclude_outcome.ensures.disk is in (failed.0, ap g.S.Sink.taken failed.1))
     (λ is. let starved = c.conclude_outcome.ensures.memory is in (starved.0, ap g.S.Sink.taken starved.1))
 
-pub returns-clause-untouched : goal.returns-clause-untouched
-returns-clause-untouched g c = λ told none ok.
-    either_way c.describe_recovery-outcome.result told none (λ is. ok (c.conclude_outcome.ensures.disk is).0)
-    c.describe_recovery-outcome.ensures.untouched c.describe_recovery-outcome.ensures.unwritten
+pub returns-clause-recovered : goal.returns-clause-recovered
+returns-clause-recovered g c = λ told has byte.
+    outcome_done c.describe_recovery-outcome.result c.conclude_outcome.result c.describe_recovery-outcome.ensures.of_recovery c.conclude_outcome.ensures.status
+    (λ is. (c.conclude_outcome.ensures.disk is).0) (λ is. (c.conclude_outcome.ensures.memory is).0)
+    c.describe_recovery-outcome.ensures.done has told byte

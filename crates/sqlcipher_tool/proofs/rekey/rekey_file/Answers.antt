@@ -20,8 +20,10 @@ use Rattle.rekey_job.specs.Draws.{FileDraws}
 use Rattle.sqlcipher_tool.specs.Holding.{HoldsOnly, held_by}
 use Rattle.sqlcipher_tool.specs.Opening.{opened_with}
 use Rattle.sqlcipher_tool.specs.Rekey.{rekey_due}
-use Rattle.sqlcipher_tool.specs.Renewal.{IsRekeyedSo}
+use Rattle.sqlcipher_tool.specs.Renewal.{IsRekeyedSo, WithDraws, pages_of}
 use Rattle.sqlcipher_tool.specs.Verify.{opened_answers}
+use Rattle.sqlcipher_tool.specs.Behind.{IsRefusedChange}
+use Rattle.sqlcipher_tool.proofs.Behind.{after_read, read_stays}
 use Rattle.sqlcipher_tool.proofs.Changing.{after_old, read_fresh, read_only, said_so, stop_not_done}
 use Rattle.sqlcipher_tool.proofs.OpenedParts.{open_parts}
 use Rattle.sqlcipher_tool.proofs.RekeyedFile.{rekeyed_so}
@@ -97,23 +99,33 @@ returns-clause-safely g c = λ told start.
     let opened = open_parts keys file _ _ (c.in-Ok.ensures.opens told) in
     let status = change_status c.rekey_pages-disk.result.2 in
     let end = c.rekey_pages-disk.result.0.now in
+    let n = g.E.Entropy in
+    let after = n.drawn c.rekey_pages-disk.result.1.now in
+    let own : List ℕ → Type 0 = λ m. FileDraws write m (is_number p.count) 0 (drop (length (n.drawn p.entropy.now)) after) in
+    let drawn = drop (length (n.drawn c.args.entropy.now)) after in
     let codec : p.codec ≡ keys = c.into_pager-pager.ensures.file.0 ∙ c.in-Ok.ensures.codec told in
     let same : main_of (d.reads p.disk.now) ≡ file = ap (λ (x : _). main_of (d.reads x)) made ∙ ap (λ (files : Files). main_of files) read.stays in
-    let one = subst (λ (k : FileKeys). KeepsOrCommits d.reads d.images d.moment d.since status (IsRekeyed k write p.count (main_of (d.reads p.disk.now)))
-    (HoldsOnly (held_by k (main_of (d.reads p.disk.now)))) (λ n. HoldsOnly (held_by write n)) p.disk.now end) codec (c.rekey_pages-disk.ensures.safely told) in
-    let two = subst (λ (l : List ℕ). KeepsOrCommits d.reads d.images d.moment d.since status (IsRekeyed keys write p.count l)
-    (HoldsOnly (held_by keys l)) (λ n. HoldsOnly (held_by write n)) p.disk.now end) same one in
+    let one = subst (λ (k : FileKeys). KeepsOrCommits d.reads d.images d.moment d.since status (WithDraws (IsRekeyed k write p.count (main_of (d.reads p.disk.now))) n.tells own)
+    (HoldsOnly (held_by k (main_of (d.reads p.disk.now)))) (λ m. HoldsOnly (held_by write m)) p.disk.now end) codec (c.rekey_pages-disk.ensures.safely told) in
+    let two = subst (λ (l : List ℕ). KeepsOrCommits d.reads d.images d.moment d.since status (WithDraws (IsRekeyed keys write p.count l) n.tells own)
+    (HoldsOnly (held_by keys l)) (λ m. HoldsOnly (held_by write m)) p.disk.now end) same one in
     let salt = c.salt.ensures ∙ ap (λ (k : FileKeys). k.salt) (c.codec.ensures ∙ codec) in
-    let is_key : (n : List ℕ) → salt_of n ≡ salt_of file → write ≡ keys_of c.args.new c.args.second.now n = λ n same_salt. c.codec_of_salt-write.ensures.keys n (salt ∙ sym same_salt) in
-    let three = said_so d.reads d.images d.moment d.since g.met.D.Disk.counts_now g.met.D.Disk.only_now {R = λ n. HoldsOnly (held_by (keys_of c.args.new c.args.second.now n) n)}
-    {is_other = λ n. IsRekeyedSo keys (keys_of c.args.new c.args.second.now n) file n} status
-    (λ n is. rekeyed_so keys (keys_of c.args.new c.args.second.now n) p.count file n c.requires.listed.0 c.requires.listed.1 c.requires.layout.0 c.requires.layout.1
-    opened.fit (subst (λ (k : FileKeys). IsRekeyed keys k p.count file n) (is_key n is.salt) is))
-    (λ n is image holds. subst (λ (k : FileKeys). HoldsOnly (held_by k n) image) (is_key n is.salt) holds) two in
+    let is_key : (m : List ℕ) → salt_of m ≡ salt_of file → write ≡ keys_of c.args.new c.args.second.now m = λ m same_salt. c.codec_of_salt-write.ensures.keys m (salt ∙ sym same_salt) in
+    let three = said_so d.reads d.images d.moment d.since g.met.D.Disk.counts_now g.met.D.Disk.only_now {R = λ m. HoldsOnly (held_by (keys_of c.args.new c.args.second.now m) m)}
+    {is_other = WithDraws (λ m. IsRekeyedSo keys (keys_of c.args.new c.args.second.now m) file m) n.tells
+    (λ m. FileDraws (keys_of c.args.new c.args.second.now m) m (is_number (pages_of (keys_of c.args.new c.args.second.now m) m)) 0 drawn)} status
+    (λ m is. (
+      rekeyed_so keys (keys_of c.args.new c.args.second.now m) p.count file m c.requires.listed.0 c.requires.listed.1 c.requires.layout.0 c.requires.layout.1
+          opened.fit (subst (λ (k : FileKeys). IsRekeyed keys k p.count file m) (is_key m is.0.salt) is.0),
+      λ drawing. rekeyed_draws keys write p.count file m drawn c.args.new c.args.second.now is.0 (is_key m is.0.salt)
+          (subst (λ (x : _). FileDraws write m (is_number p.count) 0 (drop (length (n.drawn x)) after)) c.into_pager-pager.ensures.entropy.1 (is.1 drawing)),
+    ))
+    (λ m is image holds. subst (λ (k : FileKeys). HoldsOnly (held_by k m) image) (is_key m is.0.salt) holds) two in
     let first : LeavesOnly d.moment d.since c.args.disk.now p.disk.now (HoldsOnly (held_by keys file)) =
     rw made (read_only d.reads d.images d.moment d.since g.met.D.Disk.counts_now g.met.D.Disk.only_now start read) in
     let last : c.disk-1.given.0 ≡ end = search rules in
-    rw last (after_old d.reads d.images d.moment d.since g.met.D.Disk.counts_now g.met.D.Disk.only_now status first three)
+    let drawn_last : c.entropy-1.given.0 ≡ c.rekey_pages-disk.result.1.now = search rules in
+    rw (last, drawn_last) (after_old d.reads d.images d.moment d.since g.met.D.Disk.counts_now g.met.D.Disk.only_now status first three)
 
 pub returns-clause-fresh : goal.returns-clause-fresh
 returns-clause-fresh g c = λ told.
@@ -176,3 +188,14 @@ returns-in-Err-clause-unopened g c = λ told err. c.open_main.ensures.only_read 
 
 pub returns-clause-unopened : goal.returns-clause-unopened
 returns-clause-unopened g c = λ told err. is_opened _ _ (c.in-Ok.ensures.opens told) err
+
+pub returns-in-Err-clause-stays : goal.returns-in-Err-clause-stays
+returns-in-Err-clause-stays g c = λ refused told. read_stays (c.open_main.ensures.only_read told)
+
+pub returns-clause-stays : goal.returns-clause-stays
+returns-clause-stays g c =
+    let d = g.D.Disk in
+    let made = c.into_pager-pager.ensures.disk.1 in
+    let last : c.disk-1.given.0 ≡ c.rekey_pages-disk.result.0.now = search rules in
+    rw last (after_read IsRefusedChange (d.images c.rekey_pages-disk.result.0.now) c.rekey_pages-disk.result.2
+    (λ told image now. (c.open_main.ensures.only_read told).same_images.no_more image (subst (λ (x : _). d.images x image) made now)) c.rekey_pages-disk.ensures.stays)

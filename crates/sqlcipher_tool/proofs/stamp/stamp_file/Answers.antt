@@ -1,4 +1,4 @@
-use Rattle.std.proofs.Common.{◌≡◌, ⊎_elim, inl, ◌≤◌, ℕ, List, Ok, IsTrue, refl, sym, ap, subst, ◌∙◌, arith, rules}
+use Rattle.std.proofs.Common.{◌≡◌, ⊎_elim, inl, ◌≤◌, ◌==◌, ℕ, List, drop, length, Ok, IsTrue, refl, sym, ap, subst, ◌∙◌, arith, rules}
 use Rattle.disk_side.specs.Published.{IsNew as IsAlone}
 use Rattle.edge_model.specs.Files.{Files}
 use Rattle.edge_model.specs.Images.{From, LeavesOnly}
@@ -13,8 +13,11 @@ use Rattle.sqlcipher_tool.specs.Answer.{done}
 use Rattle.sqlcipher_tool.specs.Change.{KeepsOrCommits, change_answer, change_status}
 use Rattle.sqlcipher_tool.specs.Holding.{HoldsOnly, held_by}
 use Rattle.sqlcipher_tool.specs.Opening.{opened_with}
+use Rattle.rekey_job.specs.Draws.{FileDraws}
+use Rattle.sqlcipher_tool.specs.Renewal.{WithDraws}
 use Rattle.sqlcipher_tool.specs.Stamp.{IsStamped, stamped_answer}
 use Rattle.sqlcipher_tool.specs.Text.{stamped_report}
+use Rattle.sqlcipher_tool.proofs.Behind.{read_stays, unrefused}
 use Rattle.sqlcipher_tool.proofs.Changing.{after_old, read_fresh, read_only, said_so, stop_not_done}
 use Rattle.sqlcipher_tool.proofs.OpenedParts.{open_parts, opened_same}
 use Rattle.sqlcipher_tool.proofs.Databases.{told_base}
@@ -109,18 +112,29 @@ returns-clause-safely g c = λ told start.
     let keys = keys_of profile secret file in
     let status = change_status c.stamp_pages-disk.result.2 in
     let end = c.stamp_pages-disk.result.0.now in
+    let n = g.E.Entropy in
+    let after = n.drawn c.stamp_pages-disk.result.1.now in
+    let own : FileKeys → List ℕ → Type 0 = λ k m. FileDraws k m (λ i. i == 1) 0 (drop (length (n.drawn p.entropy.now)) after) in
+    let drawn = drop (length (n.drawn c.args.entropy.now)) after in
     let codec : p.codec ≡ keys = c.into_pager-pager.ensures.file.0 ∙ c.in-Ok.ensures.codec told in
     let same : main_of (d.reads p.disk.now) ≡ file = ap (λ (x : _). main_of (d.reads x)) made ∙ ap (λ (files : Files). main_of files) read.stays in
-    let one = subst (λ (k : FileKeys). KeepsOrCommits d.reads d.images d.moment d.since status (IsStamped k c.args.field c.args.value (main_of (d.reads p.disk.now)))
-    (HoldsOnly (held_by k (main_of (d.reads p.disk.now)))) (λ n. HoldsOnly (held_by k n)) p.disk.now end) codec (c.stamp_pages-disk.ensures.safely told) in
-    let two = subst (λ (l : List ℕ). KeepsOrCommits d.reads d.images d.moment d.since status (IsStamped keys c.args.field c.args.value l)
-    (HoldsOnly (held_by keys l)) (λ n. HoldsOnly (held_by keys n)) p.disk.now end) same one in
-    let three = said_so d.reads d.images d.moment d.since g.met.D.Disk.counts_now g.met.D.Disk.only_now {R = λ n. HoldsOnly (held_by (keys_of profile secret n) n)} {is_other = IsStamped keys c.args.field c.args.value file}
-    status (λ n is. is) (λ n is image holds. subst (λ (k : FileKeys). HoldsOnly (held_by k n) image) (sym (same_keys profile secret n file is.salt)) holds) two in
+    let one = subst (λ (k : FileKeys). KeepsOrCommits d.reads d.images d.moment d.since status (WithDraws (IsStamped k c.args.field c.args.value (main_of (d.reads p.disk.now))) n.tells (own k))
+    (HoldsOnly (held_by k (main_of (d.reads p.disk.now)))) (λ m. HoldsOnly (held_by k m)) p.disk.now end) codec (c.stamp_pages-disk.ensures.safely told) in
+    let two = subst (λ (l : List ℕ). KeepsOrCommits d.reads d.images d.moment d.since status (WithDraws (IsStamped keys c.args.field c.args.value l) n.tells (own keys))
+    (HoldsOnly (held_by keys l)) (λ m. HoldsOnly (held_by keys m)) p.disk.now end) same one in
+    let three = said_so d.reads d.images d.moment d.since g.met.D.Disk.counts_now g.met.D.Disk.only_now {R = λ m. HoldsOnly (held_by (keys_of profile secret m) m)}
+    {is_other = WithDraws (IsStamped keys c.args.field c.args.value file) n.tells (λ m. FileDraws (keys_of profile secret m) m (λ i. i == 1) 0 drawn)} status
+    (λ m is. (
+      is.0,
+      λ drawing. subst (λ (k : FileKeys). FileDraws k m (λ i. i == 1) 0 drawn) (sym (same_keys profile secret m file is.0.salt))
+          (subst (λ (x : _). FileDraws keys m (λ i. i == 1) 0 (drop (length (n.drawn x)) after)) c.into_pager-pager.ensures.entropy.1 (is.1 drawing)),
+    ))
+    (λ m is image holds. subst (λ (k : FileKeys). HoldsOnly (held_by k m) image) (sym (same_keys profile secret m file is.0.salt)) holds) two in
     let first : LeavesOnly d.moment d.since c.args.disk.now p.disk.now (HoldsOnly (held_by keys file)) =
     rw made (read_only d.reads d.images d.moment d.since g.met.D.Disk.counts_now g.met.D.Disk.only_now start read) in
     let last : c.disk-1.given.0 ≡ end = search rules in
-    rw last (after_old d.reads d.images d.moment d.since g.met.D.Disk.counts_now g.met.D.Disk.only_now status first three)
+    let drawn_last : c.entropy-1.given.0 ≡ c.stamp_pages-disk.result.1.now = search rules in
+    rw (last, drawn_last) (after_old d.reads d.images d.moment d.since g.met.D.Disk.counts_now g.met.D.Disk.only_now status first three)
 
 pub returns-clause-fresh : goal.returns-clause-fresh
 returns-clause-fresh g c = λ told.
@@ -138,3 +152,9 @@ returns-in-Err-clause-unopened g c = λ told err. c.open_to_change.ensures.only_
 
 pub returns-clause-unopened : goal.returns-clause-unopened
 returns-clause-unopened g c = λ told err. is_opened _ _ (c.in-Ok.ensures.opens told) err
+
+pub returns-in-Err-clause-stays : goal.returns-in-Err-clause-stays
+returns-in-Err-clause-stays g c = λ refused told. read_stays (c.open_to_change.ensures.only_read told)
+
+pub returns-clause-stays : goal.returns-clause-stays
+returns-clause-stays g c = unrefused _ c.stamp_pages-disk.result.2 stamped_report c.stamp_pages-disk.ensures.told

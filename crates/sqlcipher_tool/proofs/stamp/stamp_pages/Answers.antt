@@ -12,10 +12,14 @@ use Rattle.transaction.specs.declared.committing.CommitFault.TheVariants.{Entrop
 use Rattle.transaction.specs.Commit.{LeavesChanged}
 use Rattle.transaction.specs.Database.{HoldsOld}
 use Rattle.transaction.specs.Facts.{SameFresh}
-use Rattle.sqlcipher_tool.specs.Change.{change_status}
+use Rattle.sqlcipher_tool.specs.Change.{KeepsOrCommits, change_status}
+use Rattle.sqlcipher_tool.specs.Holding.{HoldsOnly, held_by}
+use Rattle.sqlcipher_tool.specs.Renewal.{WithDraws}
+use Rattle.sqlcipher_tool.specs.Stamp.{IsStamped}
+use Rattle.sqlcipher_tool.specs.declared.command.Field.{Field}
 use Rattle.rekey_job.specs.Draws.{FileDraws}
 use Rattle.sqlcipher_tool.specs.declared.opening.ChangeError.{ChangeError}
-use Rattle.sqlcipher_tool.specs.declared.status.Status.TheVariants.{Done, OutOfMemory, EntropyFault}
+use Rattle.sqlcipher_tool.specs.declared.status.Status.TheVariants.{Done, DiskFault, OutOfMemory, EntropyFault}
 use Rattle.sqlcipher_tool.proofs.Stamping.{SeesFirst, begun, done, draws, failed, page_faults, page_is, page_late, sees_first, unbegun, unended, unwritten, was_ok, differ, layout_same}
 use Rattle.sqlcipher_tool.proofs.stamp.stamp_pages.Goals as goal
 use Rattle.sqlcipher_tool.proofs.Changing.{error_not_done}
@@ -25,6 +29,10 @@ memory_not_done is = cc
 
 entropy_not_done : EntropyFault ≡ Done → ⊥
 entropy_not_done is = cc
+
+-- a stamped file, sealed with bytes that were drawn behind the first
+abbrev IsNewBy : FileKeys → Field → ℕ → List ℕ → Bool → List ℕ → List ℕ → List ℕ → Type 0
+IsNewBy keys field value file tells after before = WithDraws (IsStamped keys field value file) tells (λ main. FileDraws keys main (λ m. m == 1) 0 (drop (length before) after))
 
 -- the conditions, by their places: base, base_is, sizes, drawn, write, listed, salt, opened, alone
 pub begin-requires : goal.begin-requires
@@ -81,11 +89,11 @@ returns-in-Err-write_fields-clause-told g c = λ told.
     let e = c.in-Ok.ensures in
     let file = main_of (d.reads p.disk.now) in
     let main = sym (same_main (d.reads t.disk.now)) ∙ ap (λ (x : _). main_of (d.reads x)) e.disk.1 in
-    let sees : SeesFirst p.codec file (seen_pages t.read t.write (read_main (d.reads t.disk.now)) t.count t.recorded t.changed.held) =
-    sees_first p.codec t.read t.write file (read_main (d.reads t.disk.now)) p.header p.count t.count t.recorded t.changed.held e.file.0 main e.file.2 e.unchanged.0 (e.untouched 1) p.some (r.1.1.1.1.1.1.1.0 told) in
+    let sees : SeesFirst p.codec file (seen_pages t.read t.write (read_main (d.reads t.disk.now)) t.count t.written t.changed.held) =
+    sees_first p.codec t.read t.write file (read_main (d.reads t.disk.now)) p.header p.count t.count t.written t.changed.held e.file.0 main e.file.2 e.unchanged.0 (e.untouched 1) p.some (r.1.1.1.1.1.1.1.0 told) in
     let n = g.E.Entropy in
     let txn = c.write_fields.new.txn in
-    inl (page_faults d.tells (seen_pages t.read t.write (read_main (d.reads t.disk.now)) t.count t.recorded t.changed.held)
+    inl (page_faults d.tells (seen_pages t.read t.write (read_main (d.reads t.disk.now)) t.count t.written t.changed.held)
     (d.faults t.disk.now) (d.faults txn.disk.now) (n.faults t.entropy.now) (n.faults txn.entropy.now) c.in-Err-write_fields.error c.page_error.result c.in-Err-write_fields.ensures.refused c.page_error.ensures told sees.accepted)
 
 pub returns-in-Err-write_fields-clause-safely : goal.returns-in-Err-write_fields-clause-safely
@@ -127,25 +135,27 @@ returns-in-Ok-done-clause-safely g c = λ told.
     let e = c.in-Ok.ensures in
     let file = main_of (d.reads p.disk.now) in
     let main = sym (same_main (d.reads t.disk.now)) ∙ ap (λ (x : _). main_of (d.reads x)) e.disk.1 in
-    let sees : SeesFirst p.codec file (seen_pages t.read t.write (read_main (d.reads t.disk.now)) t.count t.recorded t.changed.held) =
-    sees_first p.codec t.read t.write file (read_main (d.reads t.disk.now)) p.header p.count t.count t.recorded t.changed.held e.file.0 main e.file.2 e.unchanged.0 (e.untouched 1) p.some (r.1.1.1.1.1.1.1.0 told) in
+    let sees : SeesFirst p.codec file (seen_pages t.read t.write (read_main (d.reads t.disk.now)) t.count t.written t.changed.held) =
+    sees_first p.codec t.read t.write file (read_main (d.reads t.disk.now)) p.header p.count t.count t.written t.changed.held e.file.0 main e.file.2 e.unchanged.0 (e.untouched 1) p.some (r.1.1.1.1.1.1.1.0 told) in
     let txn = c.write_fields.new.txn in
     let keys : txn.write ≡ p.codec = c.write_fields.ensures.file.1 ∙ (e.file.1 ∙ r.1.1.1.1.0) in
-    let touched = is_touched txn.recorded txn.changed.held in
-    let seen = (seen_pages txn.read txn.write (read_main (d.reads txn.disk.now)) txn.count txn.recorded txn.changed.held).page in
+    let touched = is_touched txn.written txn.changed.held in
+    let seen = (seen_pages txn.read txn.write (read_main (d.reads txn.disk.now)) txn.count txn.written txn.changed.held).page in
     let stamped = c.in_default.ensures in
     let page = stamped.stamped told ∙ page_is p.codec file _ p.header c.header.result.now p.count c.pages-pages.result _ c.args.field c.args.value (r.1.1.1.1.1.1.1.0 told) sees.page c.header.ensures refl c.pages-pages.ensures in
     let one : (m : ℕ) → is_number p.count m ≡ true → touched m ≡ (m == 1) = λ m num.
-    stamped.touched m (subst (λ (k : ℕ). is_number k m ≡ true) (sym e.file.2) num) ∙ one_alone m (is_touched t.recorded t.changed.held m) (e.untouched m) in
+    stamped.touched m (subst (λ (k : ℕ). is_number k m ≡ true) (sym e.file.2) num) ∙ one_alone m (is_touched t.written t.changed.held m) (e.untouched m) in
     let run = subst (λ (x : _). LeavesOnly d.moment d.since x txn.disk.now (HoldsOld g.start.base)) e.disk.1 (c.write_fields.ensures.any_moment told) in
     let end = c.end-disk.result.0.now in
     let now = read_main (d.reads end) in
     let after = g.E.Entropy.drawn c.end-disk.result.1.now in
     let has = subst (λ (k : FileKeys). HasNewPages g.start k touched seen g.E.Entropy.tells after now) keys (was_ok c.end-disk.result.2 c.in-Ok-done.field-0 c.in-Ok-done.is c.end-disk.ensures.changed told) in
-    inr (done d.reads d.images d.moment d.since g.met.D.Disk.counts_now g.met.D.Disk.only_now p.codec file p.header p.count (r.1.1.1.1.1.1.1.0 told) p.some
+    subst (λ (l : List ℕ). KeepsOrCommits d.reads d.images d.moment d.since Done (IsNewBy p.codec c.args.field c.args.value file g.E.Entropy.tells after l)
+    (HoldsOnly (held_by p.codec file)) (λ m. HoldsOnly (held_by p.codec m)) p.disk.now end) r.1.1.1.0
+    (inr (done d.reads d.images d.moment d.since g.met.D.Disk.counts_now g.met.D.Disk.only_now p.codec file p.header p.count (r.1.1.1.1.1.1.1.0 told) p.some
     g.start (r.0 told) p.disk.now txn.disk.now end (r.1.1.1.1.1.1.1.1 told) run c.args.field c.args.value (r.1.1.1.1.1.1.0 told) r.1.1.1.1.1.0 touched seen g.E.Entropy.tells after page one has
     (was_ok c.end-disk.result.2 c.in-Ok-done.field-0 c.in-Ok-done.is c.end-disk.ensures.new told)
-    (was_ok c.end-disk.result.2 c.in-Ok-done.field-0 c.in-Ok-done.is c.end-disk.ensures.one_new told))
+    (was_ok c.end-disk.result.2 c.in-Ok-done.field-0 c.in-Ok-done.is c.end-disk.ensures.one_new told)))
 
 pub returns-in-Ok-done-clause-own_draws : goal.returns-in-Ok-done-clause-own_draws
 returns-in-Ok-done-clause-own_draws g c = λ told drawing.
@@ -156,16 +166,16 @@ returns-in-Ok-done-clause-own_draws g c = λ told drawing.
     let e = c.in-Ok.ensures in
     let file = main_of (d.reads p.disk.now) in
     let main = sym (same_main (d.reads t.disk.now)) ∙ ap (λ (x : _). main_of (d.reads x)) e.disk.1 in
-    let sees : SeesFirst p.codec file (seen_pages t.read t.write (read_main (d.reads t.disk.now)) t.count t.recorded t.changed.held) =
-    sees_first p.codec t.read t.write file (read_main (d.reads t.disk.now)) p.header p.count t.count t.recorded t.changed.held e.file.0 main e.file.2 e.unchanged.0 (e.untouched 1) p.some (r.1.1.1.1.1.1.1.0 told) in
+    let sees : SeesFirst p.codec file (seen_pages t.read t.write (read_main (d.reads t.disk.now)) t.count t.written t.changed.held) =
+    sees_first p.codec t.read t.write file (read_main (d.reads t.disk.now)) p.header p.count t.count t.written t.changed.held e.file.0 main e.file.2 e.unchanged.0 (e.untouched 1) p.some (r.1.1.1.1.1.1.1.0 told) in
     let txn = c.write_fields.new.txn in
     let keys : txn.write ≡ p.codec = c.write_fields.ensures.file.1 ∙ (e.file.1 ∙ r.1.1.1.1.0) in
-    let touched = is_touched txn.recorded txn.changed.held in
-    let seen = (seen_pages txn.read txn.write (read_main (d.reads txn.disk.now)) txn.count txn.recorded txn.changed.held).page in
+    let touched = is_touched txn.written txn.changed.held in
+    let seen = (seen_pages txn.read txn.write (read_main (d.reads txn.disk.now)) txn.count txn.written txn.changed.held).page in
     let stamped = c.in_default.ensures in
     let page = stamped.stamped told ∙ page_is p.codec file _ p.header c.header.result.now p.count c.pages-pages.result _ c.args.field c.args.value (r.1.1.1.1.1.1.1.0 told) sees.page c.header.ensures refl c.pages-pages.ensures in
     let one : (m : ℕ) → is_number p.count m ≡ true → touched m ≡ (m == 1) = λ m num.
-    stamped.touched m (subst (λ (k : ℕ). is_number k m ≡ true) (sym e.file.2) num) ∙ one_alone m (is_touched t.recorded t.changed.held m) (e.untouched m) in
+    stamped.touched m (subst (λ (k : ℕ). is_number k m ≡ true) (sym e.file.2) num) ∙ one_alone m (is_touched t.written t.changed.held m) (e.untouched m) in
     let run = subst (λ (x : _). LeavesOnly d.moment d.since x txn.disk.now (HoldsOld g.start.base)) e.disk.1 (c.write_fields.ensures.any_moment told) in
     let end = c.end-disk.result.0.now in
     let now = read_main (d.reads end) in
@@ -184,23 +194,25 @@ returns-in-Err-DiskFault-clause-safely g c = λ told.
     let e = c.in-Ok.ensures in
     let file = main_of (d.reads p.disk.now) in
     let main = sym (same_main (d.reads t.disk.now)) ∙ ap (λ (x : _). main_of (d.reads x)) e.disk.1 in
-    let sees : SeesFirst p.codec file (seen_pages t.read t.write (read_main (d.reads t.disk.now)) t.count t.recorded t.changed.held) =
-    sees_first p.codec t.read t.write file (read_main (d.reads t.disk.now)) p.header p.count t.count t.recorded t.changed.held e.file.0 main e.file.2 e.unchanged.0 (e.untouched 1) p.some (r.1.1.1.1.1.1.1.0 told) in
+    let sees : SeesFirst p.codec file (seen_pages t.read t.write (read_main (d.reads t.disk.now)) t.count t.written t.changed.held) =
+    sees_first p.codec t.read t.write file (read_main (d.reads t.disk.now)) p.header p.count t.count t.written t.changed.held e.file.0 main e.file.2 e.unchanged.0 (e.untouched 1) p.some (r.1.1.1.1.1.1.1.0 told) in
     let txn = c.write_fields.new.txn in
     let keys : txn.write ≡ p.codec = c.write_fields.ensures.file.1 ∙ (e.file.1 ∙ r.1.1.1.1.0) in
-    let touched = is_touched txn.recorded txn.changed.held in
-    let seen = (seen_pages txn.read txn.write (read_main (d.reads txn.disk.now)) txn.count txn.recorded txn.changed.held).page in
+    let touched = is_touched txn.written txn.changed.held in
+    let seen = (seen_pages txn.read txn.write (read_main (d.reads txn.disk.now)) txn.count txn.written txn.changed.held).page in
     let stamped = c.in_default.ensures in
     let page = stamped.stamped told ∙ page_is p.codec file _ p.header c.header.result.now p.count c.pages-pages.result _ c.args.field c.args.value (r.1.1.1.1.1.1.1.0 told) sees.page c.header.ensures refl c.pages-pages.ensures in
     let one : (m : ℕ) → is_number p.count m ≡ true → touched m ≡ (m == 1) = λ m num.
-    stamped.touched m (subst (λ (k : ℕ). is_number k m ≡ true) (sym e.file.2) num) ∙ one_alone m (is_touched t.recorded t.changed.held m) (e.untouched m) in
+    stamped.touched m (subst (λ (k : ℕ). is_number k m ≡ true) (sym e.file.2) num) ∙ one_alone m (is_touched t.written t.changed.held m) (e.untouched m) in
     let run = subst (λ (x : _). LeavesOnly d.moment d.since x txn.disk.now (HoldsOld g.start.base)) e.disk.1 (c.write_fields.ensures.any_moment told) in
     let end = c.end-disk.result.0.now in
     let now = read_main (d.reads end) in
     let after = g.E.Entropy.drawn c.end-disk.result.1.now in
     let next = subst (λ (k : FileKeys). LeavesChanged d.moment d.since g.start.base (HasNewPages g.start k touched seen g.E.Entropy.tells after) txn.disk.now end) keys (c.end-disk.ensures.any_moment told) in
-    failed d.reads d.images d.moment d.since g.met.D.Disk.counts_now g.met.D.Disk.only_now p.codec file p.header p.count (r.1.1.1.1.1.1.1.0 told) p.some
-    g.start (r.0 told) p.disk.now txn.disk.now end (r.1.1.1.1.1.1.1.1 told) run c.args.field c.args.value (r.1.1.1.1.1.1.0 told) r.1.1.1.1.1.0 touched seen g.E.Entropy.tells after page one next
+    subst (λ (l : List ℕ). KeepsOrCommits d.reads d.images d.moment d.since DiskFault (IsNewBy p.codec c.args.field c.args.value file g.E.Entropy.tells after l)
+    (HoldsOnly (held_by p.codec file)) (λ m. HoldsOnly (held_by p.codec m)) p.disk.now end) r.1.1.1.0
+    (failed d.reads d.images d.moment d.since g.met.D.Disk.counts_now g.met.D.Disk.only_now p.codec file p.header p.count (r.1.1.1.1.1.1.1.0 told) p.some
+    g.start (r.0 told) p.disk.now txn.disk.now end (r.1.1.1.1.1.1.1.1 told) run c.args.field c.args.value (r.1.1.1.1.1.1.0 told) r.1.1.1.1.1.0 touched seen g.E.Entropy.tells after page one next)
 
 pub returns-in-Err-EntropyFault-clause-safely : goal.returns-in-Err-EntropyFault-clause-safely
 returns-in-Err-EntropyFault-clause-safely g c = λ told.

@@ -69,8 +69,8 @@ returns-in_err-write_number-2-clause-refused g c =
     let before = c.write_number.new.txn in
     let after = c.write_number-2.new.txn in
     let is : c.from_residual-in_err-write_number-2.result ≡ Err c.in_err-write_number-2.field-0.0 = search rules in
-    rw is (refused_later d.tells (seen_pages first.read first.write (read_main (d.reads first.disk.now)) first.count first.recorded first.changed.held)
-    (seen_pages before.read before.write (read_main (d.reads before.disk.now)) before.count before.recorded before.changed.held)
+    rw is (refused_later d.tells (seen_pages first.read first.write (read_main (d.reads first.disk.now)) first.count first.written first.changed.held)
+    (seen_pages before.read before.write (read_main (d.reads before.disk.now)) before.count before.written before.changed.held)
     (d.faults first.disk.now) (d.faults before.disk.now) (d.faults after.disk.now) (n.faults first.entropy.now) (n.faults before.entropy.now) (n.faults after.entropy.now) c.in_err-write_number-2.field-0.0
     c.write_number.ensures.file.2 c.in_ok-write_number.ensures.accepted c.write_number.ensures.later.0 c.write_number.ensures.later.1 c.in_err-write_number-2.ensures.refused)
 
@@ -82,8 +82,8 @@ returns-in_err-write_number-3-clause-refused g c =
     let before = c.write_number-2.new.txn in
     let after = c.write_number-3.new.txn in
     let is : c.from_residual-in_err-write_number-3.result ≡ Err c.in_err-write_number-3.field-0.0 = search rules in
-    rw is (refused_later d.tells (seen_pages first.read first.write (read_main (d.reads first.disk.now)) first.count first.recorded first.changed.held)
-    (seen_pages before.read before.write (read_main (d.reads before.disk.now)) before.count before.recorded before.changed.held)
+    rw is (refused_later d.tells (seen_pages first.read first.write (read_main (d.reads first.disk.now)) first.count first.written first.changed.held)
+    (seen_pages before.read before.write (read_main (d.reads before.disk.now)) before.count before.written before.changed.held)
     (d.faults first.disk.now) (d.faults before.disk.now) (d.faults after.disk.now) (n.faults first.entropy.now) (n.faults before.entropy.now) (n.faults after.entropy.now) c.in_err-write_number-3.field-0.0
     (c.write_number-2.ensures.file.2 ∙ c.write_number.ensures.file.2) c.in_ok-write_number-2.ensures.accepted
     (omega (arith, c.write_number.ensures.later.0, c.write_number-2.ensures.later.0)) (omega (arith, c.write_number.ensures.later.1, c.write_number-2.ensures.later.1)) c.in_err-write_number-3.ensures.refused)
@@ -96,8 +96,8 @@ returns-in_err-write_number-4-clause-refused g c =
     let before = c.write_number-3.new.txn in
     let after = c.write_number-4.new.txn in
     let is : c.from_residual-in_err-write_number-4.result ≡ Err c.in_err-write_number-4.field-0.0 = search rules in
-    rw is (refused_later d.tells (seen_pages first.read first.write (read_main (d.reads first.disk.now)) first.count first.recorded first.changed.held)
-    (seen_pages before.read before.write (read_main (d.reads before.disk.now)) before.count before.recorded before.changed.held)
+    rw is (refused_later d.tells (seen_pages first.read first.write (read_main (d.reads first.disk.now)) first.count first.written first.changed.held)
+    (seen_pages before.read before.write (read_main (d.reads before.disk.now)) before.count before.written before.changed.held)
     (d.faults first.disk.now) (d.faults before.disk.now) (d.faults after.disk.now) (n.faults first.entropy.now) (n.faults before.entropy.now) (n.faults after.entropy.now) c.in_err-write_number-4.field-0.0
     (c.write_number-3.ensures.file.2 ∙ (c.write_number-2.ensures.file.2 ∙ c.write_number.ensures.file.2)) c.in_ok-write_number-3.ensures.accepted
     (omega (arith, c.write_number.ensures.later.0, c.write_number-2.ensures.later.0, c.write_number-3.ensures.later.0)) (omega (arith, c.write_number.ensures.later.1, c.write_number-2.ensures.later.1, c.write_number-3.ensures.later.1)) c.in_err-write_number-4.ensures.refused)

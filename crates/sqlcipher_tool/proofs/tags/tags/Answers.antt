@@ -1,9 +1,11 @@
-use Rattle.std.proofs.Common.{◌≡◌, ⊎_elim, inl, inr, sym, ap, subst}
+use Rattle.std.proofs.Common.{◌≡◌, ⊎_elim, inl, inr, false, sym, ap, subst}
 use Rattle.sqlcipher_tool.specs.Answer.{IsFault}
 use Rattle.sqlcipher_tool.specs.Tags.{tags_answer}
 use Rattle.sqlcipher_tool.specs.declared.status.Status.TheVariants.{OutputFault}
 use Rattle.sqlcipher_tool.specs.Recovered.{recovered_main, recovery_of}
 use Rattle.sqlcipher_tool.proofs.Conclusions.{recovery_status, recovery_text}
+use Rattle.sqlcipher_tool.proofs.Behind.{recovery_last}
+use Rattle.sqlcipher_tool.proofs.Changed.{stop_last}
 use Rattle.sqlcipher_tool.proofs.LeftAlone.{unwritten_read}
 use Rattle.pager.specs.File.{main_of}
 use Rattle.sqlcipher_tool.proofs.Recoveries.{read_after, tags_recovered}
@@ -31,11 +33,8 @@ returns-in-Err-clause-text g c = λ printed told.
     (λ is. let starved = c.conclude_stop.ensures.memory is in (starved.0, ap g.S.Sink.taken starved.1))
 
 pub returns-in-Ok-clause-untouched : goal.returns-in-Ok-clause-untouched
-returns-in-Ok-clause-untouched g c = λ told none ok.
-    unwritten_read g.met.D.Disk.counts_now (c.recover_main.ensures.keeps told).later (c.in-Ok.ensures.untouched told none) (c.tags_of_main.ensures.only_read told)
-
-pub returns-in-Err-clause-untouched : goal.returns-in-Err-clause-untouched
-returns-in-Err-clause-untouched g c = λ told none ok. c.in-Err.ensures.unwritten told (λ is. ok (c.conclude_stop.ensures.disk is).0)
+returns-in-Ok-clause-untouched g c = λ told none.
+    unwritten_read g.met.D.Disk.counts_now (c.recover_main.ensures.keeps told).later (c.recover_main.ensures.untouched told none) (c.tags_of_main.ensures.only_read told)
 
 pub returns-in-Ok-clause-keeps : goal.returns-in-Ok-clause-keeps
 returns-in-Ok-clause-keeps g c = λ told.
@@ -45,3 +44,12 @@ pub returns-in-Ok-clause-unrecovered : goal.returns-in-Ok-clause-unrecovered
 returns-in-Ok-clause-unrecovered g c = λ told is.
     absurd (tags_recovered c.args.profile c.args.secret.now (main_of (g.D.Disk.reads c.recover_main.new.disk)) c.tags_of_main.result
     (c.tags_of_main.ensures.status told) is)
+
+pub returns-in-Ok-clause-recovered : goal.returns-in-Ok-clause-recovered
+returns-in-Ok-clause-recovered g c = λ told has byte image now. c.in-Ok.ensures.done told byte image ((c.tags_of_main.ensures.only_read told).same_images.no_more image now)
+
+pub returns-in-Err-clause-recovered : goal.returns-in-Err-clause-recovered
+returns-in-Err-clause-recovered g c = λ told has.
+    absurd (recovery_last false c.in-Err.stop c.conclude_stop.result c.in-Err.ensures.of_recovery
+    (stop_last c.in-Err.stop c.conclude_stop.result c.conclude_stop.ensures.status
+    (λ same. (c.conclude_stop.ensures.disk same).0) (λ same. (c.conclude_stop.ensures.memory same).0)) has)

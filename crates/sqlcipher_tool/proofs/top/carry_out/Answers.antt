@@ -5,7 +5,8 @@ use Rattle.sqlcipher_tool.specs.Crash.{IsDrawnFor, IsSafely, Keeps, MakesWith}
 use Rattle.sqlcipher_tool.specs.Renewal.{same_key}
 use Rattle.sqlcipher_tool.specs.Words.{draws}
 use Rattle.sqlcipher_tool.specs.declared.command.Command.TheVariants.{Tags, Header, Verify, Export, Probe, Stamp, Make}
-use Rattle.sqlcipher_tool.proofs.Asked.{causes_as, changes_as, draws_as, no_draws, undrawn}
+use Rattle.sqlcipher_tool.proofs.Asked.{causes_as, changes_as, draws_as, no_draws, none_beside, undrawn}
+use Rattle.sqlcipher_tool.specs.Behind.{LeavesRecovered}
 use Rattle.sqlcipher_tool.specs.Due.{secret_answers}
 use Rattle.sqlcipher_tool.specs.Header.{header_answer}
 use Rattle.sqlcipher_tool.specs.Holding.{disk_run}
@@ -90,7 +91,7 @@ returns-in-Tags-clause-own_draws g c = λ told drawing done. no_draws c.args.com
 pub returns-in-Tags-clause-changes : goal.returns-in-Tags-clause-changes
 returns-in-Tags-clause-changes g c = λ told.
     let run = disk_run g.D.Disk.reads g.D.Disk.images g.D.Disk.moment g.D.Disk.since c.args.disk.now c.tags.new.disk in
-    changes_as c.tags.result c.args.command (Tags c.in-Tags.profile) (λ secrets. secrets ≡ c.args.secret.now ∷ []) run c.in-Tags.is tt
+    changes_as c.tags.result c.args.command (Tags c.in-Tags.profile) (λ secrets. secrets ≡ c.args.secret.now ∷ []) g.E.Entropy.tells (drop (length (g.E.Entropy.drawn c.args.entropy.now)) (g.E.Entropy.drawn c.args.entropy.now)) run c.in-Tags.is tt
 
 pub returns-in-Header-clause-causes : goal.returns-in-Header-clause-causes
 returns-in-Header-clause-causes g c = undrawn c.header.result (draws c.args.command) _ _ _ _ (g.E.Entropy.faults c.args.entropy.now) (g.E.Entropy.faults c.header.new.entropy) c.header.ensures.causes (ap g.E.Entropy.faults c.header.ensures.draws)
@@ -102,7 +103,7 @@ returns-in-Header-clause-own_draws g c = λ told drawing done. no_draws c.args.c
 pub returns-in-Header-clause-changes : goal.returns-in-Header-clause-changes
 returns-in-Header-clause-changes g c = λ told.
     let run = disk_run g.D.Disk.reads g.D.Disk.images g.D.Disk.moment g.D.Disk.since c.args.disk.now c.header.new.disk in
-    changes_as c.header.result c.args.command (Header c.in-Header.profile) (λ secrets. secrets ≡ c.args.secret.now ∷ []) run c.in-Header.is tt
+    changes_as c.header.result c.args.command (Header c.in-Header.profile) (λ secrets. secrets ≡ c.args.secret.now ∷ []) g.E.Entropy.tells (drop (length (g.E.Entropy.drawn c.args.entropy.now)) (g.E.Entropy.drawn c.header.new.entropy)) run c.in-Header.is tt
 
 pub returns-in-Verify-clause-causes : goal.returns-in-Verify-clause-causes
 returns-in-Verify-clause-causes g c = undrawn c.answer_job.result (draws c.args.command) _ _ _ _ (g.E.Entropy.faults c.args.entropy.now) (g.E.Entropy.faults c.answer_job.new.entropy) c.answer_job.ensures.causes (ap g.E.Entropy.faults c.answer_job.ensures.draws)
@@ -114,7 +115,7 @@ returns-in-Verify-clause-own_draws g c = λ told drawing done. no_draws c.args.c
 pub returns-in-Verify-clause-changes : goal.returns-in-Verify-clause-changes
 returns-in-Verify-clause-changes g c = λ told.
     let run = disk_run g.D.Disk.reads g.D.Disk.images g.D.Disk.moment g.D.Disk.since c.args.disk.now c.answer_job.new.disk in
-    changes_as c.answer_job.result c.args.command (Verify c.in-Verify.profile) (λ secrets. secrets ≡ c.args.secret.now ∷ []) run c.in-Verify.is tt
+    changes_as c.answer_job.result c.args.command (Verify c.in-Verify.profile) (λ secrets. secrets ≡ c.args.secret.now ∷ []) g.E.Entropy.tells (drop (length (g.E.Entropy.drawn c.args.entropy.now)) (g.E.Entropy.drawn c.answer_job.new.entropy)) run c.in-Verify.is tt
 
 pub returns-in-Export-clause-causes : goal.returns-in-Export-clause-causes
 returns-in-Export-clause-causes g c = undrawn c.answer_job-in-Export.result (draws c.args.command) _ _ _ _ (g.E.Entropy.faults c.args.entropy.now) (g.E.Entropy.faults c.answer_job-in-Export.new.entropy) c.answer_job-in-Export.ensures.causes (ap g.E.Entropy.faults c.answer_job-in-Export.ensures.draws)
@@ -126,7 +127,7 @@ returns-in-Export-clause-own_draws g c = λ told drawing done. no_draws c.args.c
 pub returns-in-Export-clause-changes : goal.returns-in-Export-clause-changes
 returns-in-Export-clause-changes g c = λ told.
     let run = disk_run g.D.Disk.reads g.D.Disk.images g.D.Disk.moment g.D.Disk.since c.args.disk.now c.answer_job-in-Export.new.disk in
-    changes_as c.answer_job-in-Export.result c.args.command (Export c.in-Export.profile) (λ secrets. secrets ≡ c.args.secret.now ∷ []) run c.in-Export.is tt
+    changes_as c.answer_job-in-Export.result c.args.command (Export c.in-Export.profile) (λ secrets. secrets ≡ c.args.secret.now ∷ []) g.E.Entropy.tells (drop (length (g.E.Entropy.drawn c.args.entropy.now)) (g.E.Entropy.drawn c.answer_job-in-Export.new.entropy)) run c.in-Export.is tt
 
 pub returns-in-Probe-clause-causes : goal.returns-in-Probe-clause-causes
 returns-in-Probe-clause-causes g c = undrawn c.probe.result (draws c.args.command) _ _ _ _ (g.E.Entropy.faults c.args.entropy.now) (g.E.Entropy.faults c.args.entropy.now) c.probe.ensures.causes refl
@@ -138,7 +139,7 @@ returns-in-Probe-clause-own_draws g c = λ told drawing done. no_draws c.args.co
 pub returns-in-Probe-clause-changes : goal.returns-in-Probe-clause-changes
 returns-in-Probe-clause-changes g c = λ told.
     let run = disk_run g.D.Disk.reads g.D.Disk.images g.D.Disk.moment g.D.Disk.since c.args.disk.now c.probe.new.disk in
-    changes_as c.probe.result c.args.command (Probe) (λ secrets. secrets ≡ c.args.secret.now ∷ []) run c.in-Probe.is tt
+    changes_as c.probe.result c.args.command (Probe) (λ secrets. secrets ≡ c.args.secret.now ∷ []) g.E.Entropy.tells (drop (length (g.E.Entropy.drawn c.args.entropy.now)) (g.E.Entropy.drawn c.args.entropy.now)) run c.in-Probe.is tt
 
 pub returns-in-Stamp-clause-answer : goal.returns-in-Stamp-clause-answer
 returns-in-Stamp-clause-answer g c = λ told.
@@ -163,9 +164,11 @@ returns-in-Stamp-clause-keeps g c = λ told. subst (λ (command : Asked). Keeps 
 pub returns-in-Stamp-clause-changes : goal.returns-in-Stamp-clause-changes
 returns-in-Stamp-clause-changes g c = λ told.
     let run = disk_run g.D.Disk.reads g.D.Disk.images g.D.Disk.moment g.D.Disk.since c.args.disk.now c.change_file.new.disk in
+    let tells = g.E.Entropy.tells in
+    let drawn = drop (length (g.E.Entropy.drawn c.args.entropy.now)) (g.E.Entropy.drawn c.change_file.new.entropy) in
     let command = Stamp c.in-Stamp.profile c.in-Stamp.field c.in-Stamp.value in
-    changes_as c.change_file.result c.args.command command (λ secrets. secrets ≡ c.args.secret.now ∷ []) run c.in-Stamp.is
-    (λ secrets gave. subst (λ (l : List Secret). IsSafely c.change_file.result command run (same_key c.in-Stamp.profile l)) (sym gave) (c.change_file.ensures.changes told))
+    changes_as c.change_file.result c.args.command command (λ secrets. secrets ≡ c.args.secret.now ∷ []) tells drawn run c.in-Stamp.is
+    (λ secrets gave. subst (λ (l : List Secret). IsSafely c.change_file.result command tells drawn run (same_key c.in-Stamp.profile l)) (sym gave) (c.change_file.ensures.changes told))
 
 pub returns-in-Make-clause-answer : goal.returns-in-Make-clause-answer
 returns-in-Make-clause-answer g c = λ told.
@@ -195,41 +198,99 @@ returns-in-Make-clause-keeps g c = λ told.
 pub returns-in-Make-clause-changes : goal.returns-in-Make-clause-changes
 returns-in-Make-clause-changes g c = λ told.
     let run = disk_run g.D.Disk.reads g.D.Disk.images g.D.Disk.moment g.D.Disk.since c.args.disk.now c.make_file.new.disk in
+    let tells = g.E.Entropy.tells in
+    let drawn = drop (length (g.E.Entropy.drawn c.args.entropy.now)) (g.E.Entropy.drawn c.make_file.new.entropy) in
     let command = Make c.in-Make.profile c.in-Make.rows in
-    changes_as c.make_file.result c.args.command command (λ secrets. secrets ≡ c.args.secret.now ∷ []) run c.in-Make.is
-    (λ secrets gave. subst (λ (l : List Secret). MakesWith c.make_file.result c.in-Make.profile c.in-Make.rows run l) (sym gave) (c.make_file.ensures.changes told))
+    changes_as c.make_file.result c.args.command command (λ secrets. secrets ≡ c.args.secret.now ∷ []) tells drawn run c.in-Make.is
+    (λ secrets gave. subst (λ (l : List Secret). MakesWith c.make_file.result c.in-Make.profile c.in-Make.rows tells drawn run l) (sym gave) (c.make_file.ensures.changes told))
 
 pub returns-in-Tags-clause-untouched : goal.returns-in-Tags-clause-untouched
 returns-in-Tags-clause-untouched g c = λ told.
     let run = disk_run g.D.Disk.reads g.D.Disk.images g.D.Disk.moment g.D.Disk.since c.args.disk.now c.tags.new.disk in
-    subst (λ (command : Asked). LeavesAlone c.tags.result (recovers_by command) run) (sym c.in-Tags.is) (c.tags.ensures.untouched told)
+    subst (λ (command : Asked). LeavesAlone (recovers_by command) run) (sym c.in-Tags.is) (c.tags.ensures.untouched told)
 
 pub returns-in-Header-clause-untouched : goal.returns-in-Header-clause-untouched
 returns-in-Header-clause-untouched g c = λ told.
     let run = disk_run g.D.Disk.reads g.D.Disk.images g.D.Disk.moment g.D.Disk.since c.args.disk.now c.header.new.disk in
-    subst (λ (command : Asked). LeavesAlone c.header.result (recovers_by command) run) (sym c.in-Header.is) (c.header.ensures.untouched told)
+    subst (λ (command : Asked). LeavesAlone (recovers_by command) run) (sym c.in-Header.is) (c.header.ensures.untouched told)
 
 pub returns-in-Verify-clause-untouched : goal.returns-in-Verify-clause-untouched
 returns-in-Verify-clause-untouched g c = λ told.
     let run = disk_run g.D.Disk.reads g.D.Disk.images g.D.Disk.moment g.D.Disk.since c.args.disk.now c.answer_job.new.disk in
-    subst (λ (command : Asked). LeavesAlone c.answer_job.result (recovers_by command) run) (sym c.in-Verify.is) (c.answer_job.ensures.untouched told)
+    subst (λ (command : Asked). LeavesAlone (recovers_by command) run) (sym c.in-Verify.is) (c.answer_job.ensures.untouched told)
 
 pub returns-in-Export-clause-untouched : goal.returns-in-Export-clause-untouched
 returns-in-Export-clause-untouched g c = λ told.
     let run = disk_run g.D.Disk.reads g.D.Disk.images g.D.Disk.moment g.D.Disk.since c.args.disk.now c.answer_job-in-Export.new.disk in
-    subst (λ (command : Asked). LeavesAlone c.answer_job-in-Export.result (recovers_by command) run) (sym c.in-Export.is) (c.answer_job-in-Export.ensures.untouched told)
+    subst (λ (command : Asked). LeavesAlone (recovers_by command) run) (sym c.in-Export.is) (c.answer_job-in-Export.ensures.untouched told)
 
 pub returns-in-Stamp-clause-untouched : goal.returns-in-Stamp-clause-untouched
 returns-in-Stamp-clause-untouched g c = λ told.
     let run = disk_run g.D.Disk.reads g.D.Disk.images g.D.Disk.moment g.D.Disk.since c.args.disk.now c.change_file.new.disk in
-    subst (λ (command : Asked). LeavesAlone c.change_file.result (recovers_by command) run) (sym c.in-Stamp.is) (c.change_file.ensures.untouched told)
+    subst (λ (command : Asked). LeavesAlone (recovers_by command) run) (sym c.in-Stamp.is) (c.change_file.ensures.untouched told)
 
 pub returns-in-Probe-clause-untouched : goal.returns-in-Probe-clause-untouched
 returns-in-Probe-clause-untouched g c = λ told.
     let run = disk_run g.D.Disk.reads g.D.Disk.images g.D.Disk.moment g.D.Disk.since c.args.disk.now c.probe.new.disk in
-    subst (λ (command : Asked). LeavesAlone c.probe.result (recovers_by command) run) (sym c.in-Probe.is) tt
+    subst (λ (command : Asked). LeavesAlone (recovers_by command) run) (sym c.in-Probe.is) tt
 
 pub returns-in-Make-clause-untouched : goal.returns-in-Make-clause-untouched
 returns-in-Make-clause-untouched g c = λ told.
     let run = disk_run g.D.Disk.reads g.D.Disk.images g.D.Disk.moment g.D.Disk.since c.args.disk.now c.make_file.new.disk in
-    subst (λ (command : Asked). LeavesAlone c.make_file.result (recovers_by command) run) (sym c.in-Make.is) tt
+    subst (λ (command : Asked). LeavesAlone (recovers_by command) run) (sym c.in-Make.is) tt
+
+pub returns-in-Tags-clause-fresh_gone : goal.returns-in-Tags-clause-fresh_gone
+returns-in-Tags-clause-fresh_gone g c = λ told done beside. absurd (none_beside c.args.command (Tags c.in-Tags.profile) c.in-Tags.is refl beside)
+
+pub returns-in-Header-clause-fresh_gone : goal.returns-in-Header-clause-fresh_gone
+returns-in-Header-clause-fresh_gone g c = λ told done beside. absurd (none_beside c.args.command (Header c.in-Header.profile) c.in-Header.is refl beside)
+
+pub returns-in-Verify-clause-fresh_gone : goal.returns-in-Verify-clause-fresh_gone
+returns-in-Verify-clause-fresh_gone g c = λ told done beside. absurd (none_beside c.args.command (Verify c.in-Verify.profile) c.in-Verify.is refl beside)
+
+pub returns-in-Export-clause-fresh_gone : goal.returns-in-Export-clause-fresh_gone
+returns-in-Export-clause-fresh_gone g c = λ told done beside. absurd (none_beside c.args.command (Export c.in-Export.profile) c.in-Export.is refl beside)
+
+pub returns-in-Probe-clause-fresh_gone : goal.returns-in-Probe-clause-fresh_gone
+returns-in-Probe-clause-fresh_gone g c = λ told done beside. absurd (none_beside c.args.command Probe c.in-Probe.is refl beside)
+
+pub returns-in-Stamp-clause-fresh_gone : goal.returns-in-Stamp-clause-fresh_gone
+returns-in-Stamp-clause-fresh_gone g c = λ told done beside. absurd (none_beside c.args.command (Stamp c.in-Stamp.profile c.in-Stamp.field c.in-Stamp.value) c.in-Stamp.is refl beside)
+
+pub returns-in-Make-clause-fresh_gone : goal.returns-in-Make-clause-fresh_gone
+returns-in-Make-clause-fresh_gone g c = λ told done beside. c.make_file.ensures.fresh_gone told done
+
+pub returns-in-Tags-clause-recovered : goal.returns-in-Tags-clause-recovered
+returns-in-Tags-clause-recovered g c = λ told.
+    let run = disk_run g.D.Disk.reads g.D.Disk.images g.D.Disk.moment g.D.Disk.since c.args.disk.now c.tags.new.disk in
+    subst (λ (command : Asked). LeavesRecovered c.tags.result (draws command) (recovers_by command) run) (sym c.in-Tags.is) (c.tags.ensures.recovered told)
+
+pub returns-in-Header-clause-recovered : goal.returns-in-Header-clause-recovered
+returns-in-Header-clause-recovered g c = λ told.
+    let run = disk_run g.D.Disk.reads g.D.Disk.images g.D.Disk.moment g.D.Disk.since c.args.disk.now c.header.new.disk in
+    subst (λ (command : Asked). LeavesRecovered c.header.result (draws command) (recovers_by command) run) (sym c.in-Header.is) (c.header.ensures.recovered told)
+
+pub returns-in-Verify-clause-recovered : goal.returns-in-Verify-clause-recovered
+returns-in-Verify-clause-recovered g c = λ told.
+    let run = disk_run g.D.Disk.reads g.D.Disk.images g.D.Disk.moment g.D.Disk.since c.args.disk.now c.answer_job.new.disk in
+    subst (λ (command : Asked). LeavesRecovered c.answer_job.result (draws command) (recovers_by command) run) (sym c.in-Verify.is) (c.answer_job.ensures.recovered told)
+
+pub returns-in-Export-clause-recovered : goal.returns-in-Export-clause-recovered
+returns-in-Export-clause-recovered g c = λ told.
+    let run = disk_run g.D.Disk.reads g.D.Disk.images g.D.Disk.moment g.D.Disk.since c.args.disk.now c.answer_job-in-Export.new.disk in
+    subst (λ (command : Asked). LeavesRecovered c.answer_job-in-Export.result (draws command) (recovers_by command) run) (sym c.in-Export.is) (c.answer_job-in-Export.ensures.recovered told)
+
+pub returns-in-Stamp-clause-recovered : goal.returns-in-Stamp-clause-recovered
+returns-in-Stamp-clause-recovered g c = λ told.
+    let run = disk_run g.D.Disk.reads g.D.Disk.images g.D.Disk.moment g.D.Disk.since c.args.disk.now c.change_file.new.disk in
+    subst (λ (command : Asked). LeavesRecovered c.change_file.result (draws command) (recovers_by command) run) (sym c.in-Stamp.is) (c.change_file.ensures.recovered told)
+
+pub returns-in-Probe-clause-recovered : goal.returns-in-Probe-clause-recovered
+returns-in-Probe-clause-recovered g c = λ told.
+    let run = disk_run g.D.Disk.reads g.D.Disk.images g.D.Disk.moment g.D.Disk.since c.args.disk.now c.probe.new.disk in
+    subst (λ (command : Asked). LeavesRecovered c.probe.result (draws command) (recovers_by command) run) (sym c.in-Probe.is) tt
+
+pub returns-in-Make-clause-recovered : goal.returns-in-Make-clause-recovered
+returns-in-Make-clause-recovered g c = λ told.
+    let run = disk_run g.D.Disk.reads g.D.Disk.images g.D.Disk.moment g.D.Disk.since c.args.disk.now c.make_file.new.disk in
+    subst (λ (command : Asked). LeavesRecovered c.make_file.result (draws command) (recovers_by command) run) (sym c.in-Make.is) tt

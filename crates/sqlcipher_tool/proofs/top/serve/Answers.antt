@@ -6,14 +6,16 @@ use Rattle.sqlcipher_tool.specs.Holding.{disk_run}
 use Rattle.sqlcipher_tool.specs.Answer.{refused}
 use Rattle.sqlcipher_tool.specs.Promises.{AnswersOne}
 use Rattle.sqlcipher_tool.specs.Recovered.{recovery_answer, recovery_of}
-use Rattle.sqlcipher_tool.specs.Words.{keys_taken, layouts_differ}
-use Rattle.sqlcipher_tool.specs.declared.command.Command.TheVariants.{Recover}
-use Rattle.sqlcipher_tool.proofs.Asked.{changes_as, no_draws, none_refused, refusal_not_done, takes_one, takes_some, unchanged_changes, unchanged_keeps}
+use Rattle.sqlcipher_tool.specs.Behind.{LeavesRecovered}
+use Rattle.sqlcipher_tool.specs.Words.{draws, keys_taken, layouts_differ}
+use Rattle.sqlcipher_tool.specs.declared.command.Command.TheVariants.{Recover, Rekey}
+use Rattle.sqlcipher_tool.proofs.Asked.{changes_as, no_draws, none_beside, none_refused, refusal_not_done, takes_one, takes_some, unchanged_changes, unchanged_keeps}
 use Rattle.sqlcipher_tool.specs.declared.command.Command.{Command as Asked}
 use Rattle.sqlcipher_tool.specs.declared.status.Refusal.{Refusal as Refused}
 use Rattle.sqlcipher_tool.proofs.Answered.{answers_one, keeps_held, printed_one}
 use Rattle.sqlcipher_tool.proofs.Conclusions.{no_part}
 use Rattle.sqlcipher_tool.specs.Untouched.{LeavesAlone, recovers_by}
+use Rattle.sqlcipher_tool.proofs.Behind.{unread, word_last}
 use Rattle.sqlcipher_tool.proofs.LeftAlone.{left_alone, unmoved}
 use Rattle.sqlcipher_tool.proofs.top.serve.Goals as goal
 
@@ -52,7 +54,7 @@ pub returns-in-Recover-clause-changes : goal.returns-in-Recover-clause-changes
 returns-in-Recover-clause-changes g c = λ told.
     let run = disk_run g.D.Disk.reads g.D.Disk.images g.D.Disk.moment g.D.Disk.since c.args.disk.now c.report_recovery.new.disk in
     changes_as c.report_recovery.result c.args.command (Recover c.in-Recover.profile)
-    (λ secrets. GaveKeys g.K.Source.tells (key_lines (keys_taken c.args.command) (g.K.Source.left c.args.input.now)) secrets) run c.in-Recover.is (c.report_recovery.ensures.done told)
+    (λ secrets. GaveKeys g.K.Source.tells (key_lines (keys_taken c.args.command) (g.K.Source.left c.args.input.now)) secrets) g.E.Entropy.tells (drop (length (g.E.Entropy.drawn c.args.entropy.now)) (g.E.Entropy.drawn c.args.entropy.now)) run c.in-Recover.is tt
 
 pub returns-in-Recover-clause-own_draws : goal.returns-in-Recover-clause-own_draws
 returns-in-Recover-clause-own_draws g c = λ told drawing done. no_draws c.args.command (Recover c.in-Recover.profile) c.in-Recover.is (λ secrets. refl)
@@ -64,7 +66,7 @@ returns-in-Some-clause-keeps g c = λ told. unchanged_keeps g.D.Disk.reads g.D.D
 
 pub returns-in-Some-clause-changes : goal.returns-in-Some-clause-changes
 returns-in-Some-clause-changes g c = λ told. unchanged_changes g.D.Disk.reads g.D.Disk.images g.D.Disk.moment g.D.Disk.since g.met.D.Disk.only_now c.conclude_refusal.result c.args.command
-    (λ secrets. GaveKeys g.K.Source.tells (key_lines (keys_taken c.args.command) (g.K.Source.left c.args.input.now)) secrets) c.args.disk.now (refusal_not_done c.in-Some.refusal c.conclude_refusal.result c.conclude_refusal.ensures.status)
+    (λ secrets. GaveKeys g.K.Source.tells (key_lines (keys_taken c.args.command) (g.K.Source.left c.args.input.now)) secrets) g.E.Entropy.tells (drop (length (g.E.Entropy.drawn c.args.entropy.now)) (g.E.Entropy.drawn c.args.entropy.now)) c.args.disk.now (refusal_not_done c.in-Some.refusal c.conclude_refusal.result c.conclude_refusal.ensures.status)
 
 pub returns-in-Some-clause-own_draws : goal.returns-in-Some-clause-own_draws
 returns-in-Some-clause-own_draws g c = λ told drawing done. absurd (refusal_not_done c.in-Some.refusal c.conclude_refusal.result c.conclude_refusal.ensures.status done)
@@ -82,20 +84,20 @@ serve_two_keys-requires-clause-layout g c =
 pub returns-in-Recover-clause-untouched : goal.returns-in-Recover-clause-untouched
 returns-in-Recover-clause-untouched g c = λ told.
     let run = disk_run g.D.Disk.reads g.D.Disk.images g.D.Disk.moment g.D.Disk.since c.args.disk.now c.report_recovery.new.disk in
-    subst (λ (command : Asked). LeavesAlone c.report_recovery.result (recovers_by command) run) (sym c.in-Recover.is) (c.report_recovery.ensures.untouched told)
+    subst (λ (command : Asked). LeavesAlone (recovers_by command) run) (sym c.in-Recover.is) (c.report_recovery.ensures.untouched told)
 
 pub returns-in-Some-clause-untouched : goal.returns-in-Some-clause-untouched
-returns-in-Some-clause-untouched g c = λ told. left_alone c.conclude_refusal.result (recovers_by c.args.command) _ (unmoved g.D.Disk.reads g.D.Disk.images g.D.Disk.moment g.D.Disk.since g.met.D.Disk.only_now c.args.disk.now)
+returns-in-Some-clause-untouched g c = λ told. left_alone (recovers_by c.args.command) _ (unmoved g.D.Disk.reads g.D.Disk.images g.D.Disk.moment g.D.Disk.since g.met.D.Disk.only_now c.args.disk.now)
 
 pub returns-in-Rekey-clause-untouched : goal.returns-in-Rekey-clause-untouched
 returns-in-Rekey-clause-untouched g c = λ told.
     let run = disk_run g.D.Disk.reads g.D.Disk.images g.D.Disk.moment g.D.Disk.since c.args.disk.now c.serve_two_keys.new.disk in
-    subst (λ (command : Asked). LeavesAlone c.serve_two_keys.result (recovers_by command) run) (sym c.in-Rekey.is) (c.serve_two_keys.ensures.untouched told)
+    subst (λ (command : Asked). LeavesAlone (recovers_by command) run) (sym c.in-Rekey.is) (c.serve_two_keys.ensures.untouched told)
 
 pub returns-in-Migrate-clause-untouched : goal.returns-in-Migrate-clause-untouched
 returns-in-Migrate-clause-untouched g c = λ told.
     let run = disk_run g.D.Disk.reads g.D.Disk.images g.D.Disk.moment g.D.Disk.since c.args.disk.now c.serve_two_keys-in-Migrate.new.disk in
-    subst (λ (command : Asked). LeavesAlone c.serve_two_keys-in-Migrate.result (recovers_by command) run) (sym c.in-Migrate.is) (c.serve_two_keys-in-Migrate.ensures.untouched told)
+    subst (λ (command : Asked). LeavesAlone (recovers_by command) run) (sym c.in-Migrate.is) (c.serve_two_keys-in-Migrate.ensures.untouched told)
 
 pub returns-in-Tags-clause-untouched : goal.returns-in-Tags-clause-untouched
 returns-in-Tags-clause-untouched g c = c.serve_keyed.ensures.untouched
@@ -118,3 +120,42 @@ returns-in-Tags-clause-answer g c = λ keyed told.
     let was = c.serve_keyed.ensures.answer (keyed (takes_one c.args.command one)) told in
     subst (λ (o : Option Refused). AnswersOne (asked_answers o c.args.command left files last) status g.S.Sink.tells before after) (sym none)
     (subst (λ (n : ℕ). AnswersOne (keyed_answers c.args.command (key_lines n left) files last) status g.S.Sink.tells before after) (sym one) was)
+
+pub returns-in-Some-clause-fresh_gone : goal.returns-in-Some-clause-fresh_gone
+returns-in-Some-clause-fresh_gone g c = λ told done. absurd (refusal_not_done c.in-Some.refusal c.conclude_refusal.result c.conclude_refusal.ensures.status done)
+
+pub returns-in-Recover-clause-fresh_gone : goal.returns-in-Recover-clause-fresh_gone
+returns-in-Recover-clause-fresh_gone g c = λ told done beside. absurd (none_beside c.args.command (Recover c.in-Recover.profile) c.in-Recover.is refl beside)
+
+pub returns-in-Rekey-clause-fresh_gone : goal.returns-in-Rekey-clause-fresh_gone
+returns-in-Rekey-clause-fresh_gone g c = λ told done beside. absurd (none_beside c.args.command (Rekey c.in-Rekey.old c.in-Rekey.new) c.in-Rekey.is refl beside)
+
+pub returns-in-Migrate-clause-fresh_gone : goal.returns-in-Migrate-clause-fresh_gone
+returns-in-Migrate-clause-fresh_gone g c = λ told done beside. c.serve_two_keys-in-Migrate.ensures.fresh_gone told done refl
+
+pub returns-in-Tags-clause-fresh_gone : goal.returns-in-Tags-clause-fresh_gone
+returns-in-Tags-clause-fresh_gone g c = c.serve_keyed.ensures.fresh_gone
+
+pub returns-in-Some-clause-recovered : goal.returns-in-Some-clause-recovered
+returns-in-Some-clause-recovered g c = λ told.
+    let is : word_refusal c.args.command ≡ Some c.in-Some.refusal = search rules in
+    unread c.conclude_refusal.result (draws c.args.command) (recovers_by c.args.command) _
+    (word_last (draws c.args.command) c.args.command c.in-Some.refusal c.conclude_refusal.result is c.conclude_refusal.ensures.status)
+
+pub returns-in-Recover-clause-recovered : goal.returns-in-Recover-clause-recovered
+returns-in-Recover-clause-recovered g c = λ told.
+    let run = disk_run g.D.Disk.reads g.D.Disk.images g.D.Disk.moment g.D.Disk.since c.args.disk.now c.report_recovery.new.disk in
+    subst (λ (command : Asked). LeavesRecovered c.report_recovery.result (draws command) (recovers_by command) run) (sym c.in-Recover.is) (c.report_recovery.ensures.recovered told)
+
+pub returns-in-Rekey-clause-recovered : goal.returns-in-Rekey-clause-recovered
+returns-in-Rekey-clause-recovered g c = λ told.
+    let run = disk_run g.D.Disk.reads g.D.Disk.images g.D.Disk.moment g.D.Disk.since c.args.disk.now c.serve_two_keys.new.disk in
+    subst (λ (command : Asked). LeavesRecovered c.serve_two_keys.result (draws command) (recovers_by command) run) (sym c.in-Rekey.is) (c.serve_two_keys.ensures.recovered told)
+
+pub returns-in-Migrate-clause-recovered : goal.returns-in-Migrate-clause-recovered
+returns-in-Migrate-clause-recovered g c = λ told.
+    let run = disk_run g.D.Disk.reads g.D.Disk.images g.D.Disk.moment g.D.Disk.since c.args.disk.now c.serve_two_keys-in-Migrate.new.disk in
+    subst (λ (command : Asked). LeavesRecovered c.serve_two_keys-in-Migrate.result (draws command) (recovers_by command) run) (sym c.in-Migrate.is) (c.serve_two_keys-in-Migrate.ensures.recovered told)
+
+pub returns-in-Tags-clause-recovered : goal.returns-in-Tags-clause-recovered
+returns-in-Tags-clause-recovered g c = c.serve_keyed.ensures.recovered

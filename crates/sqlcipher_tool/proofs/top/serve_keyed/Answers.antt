@@ -10,6 +10,8 @@ use Rattle.sqlcipher_tool.specs.Holding.{disk_run}
 use Rattle.sqlcipher_tool.proofs.Answered.{key_early, key_not_done, key_one, one_line, takes_key, unless_fault}
 use Rattle.sqlcipher_tool.proofs.Asked.{changes_of, draws_of, same_secrets, unchanged_changes, unchanged_keeps}
 use Rattle.sqlcipher_tool.specs.Untouched.{recovers_by}
+use Rattle.sqlcipher_tool.specs.Words.{draws}
+use Rattle.sqlcipher_tool.proofs.Behind.{key_last, unread}
 use Rattle.sqlcipher_tool.proofs.LeftAlone.{left_alone, unmoved}
 use Rattle.sqlcipher_tool.proofs.top.serve_keyed.Goals as goal
 
@@ -20,8 +22,10 @@ returns-in-Ok-clause-memory_keys g c = λ starved told.
 pub returns-in-Ok-clause-changes : goal.returns-in-Ok-clause-changes
 returns-in-Ok-clause-changes g c = λ told.
     let run = disk_run g.D.Disk.reads g.D.Disk.images g.D.Disk.moment g.D.Disk.since c.args.disk.now c.carry_out.new.disk in
+    let tells = g.E.Entropy.tells in
+    let drawn = drop (length (g.E.Entropy.drawn c.args.entropy.now)) (g.E.Entropy.drawn c.carry_out.new.entropy) in
     let lines = key_lines 1 (g.K.Source.left c.args.input.now) in
-    changes_of c.carry_out.result c.args.command run (λ secrets. secrets ≡ c.in-Ok.secret ∷ []) (λ secrets. GaveKeys g.K.Source.tells lines secrets)
+    changes_of c.carry_out.result c.args.command tells drawn run (λ secrets. secrets ≡ c.in-Ok.secret ∷ []) (λ secrets. GaveKeys g.K.Source.tells lines secrets)
     (same_secrets g.K.Source.tells lines (c.in-Ok.secret ∷ []) (λ keyed. ap (λ (line : Result Secret KeyError). and_secrets line (Ok [])) (sym (c.in-Ok.ensures.told keyed))))
     (c.carry_out.ensures.changes told)
 
@@ -56,10 +60,18 @@ returns-in-Err-clause-keeps g c = λ told. unchanged_keeps g.D.Disk.reads g.D.Di
 
 pub returns-in-Err-clause-changes : goal.returns-in-Err-clause-changes
 returns-in-Err-clause-changes g c = λ told. unchanged_changes g.D.Disk.reads g.D.Disk.images g.D.Disk.moment g.D.Disk.since g.met.D.Disk.only_now c.conclude_key.result c.args.command
-    (λ secrets. GaveKeys g.K.Source.tells (key_lines 1 (g.K.Source.left c.args.input.now)) secrets) c.args.disk.now (key_not_done c.conclude_key.result c.conclude_key.ensures.others)
+    (λ secrets. GaveKeys g.K.Source.tells (key_lines 1 (g.K.Source.left c.args.input.now)) secrets) g.E.Entropy.tells (drop (length (g.E.Entropy.drawn c.args.entropy.now)) (g.E.Entropy.drawn c.args.entropy.now)) c.args.disk.now (key_not_done c.conclude_key.result c.conclude_key.ensures.others)
 
 pub returns-in-Err-clause-own_draws : goal.returns-in-Err-clause-own_draws
 returns-in-Err-clause-own_draws g c = λ told drawing done. absurd (key_not_done c.conclude_key.result c.conclude_key.ensures.others done)
 
 pub returns-in-Err-clause-untouched : goal.returns-in-Err-clause-untouched
-returns-in-Err-clause-untouched g c = λ told. left_alone c.conclude_key.result (recovers_by c.args.command) _ (unmoved g.D.Disk.reads g.D.Disk.images g.D.Disk.moment g.D.Disk.since g.met.D.Disk.only_now c.args.disk.now)
+returns-in-Err-clause-untouched g c = λ told. left_alone (recovers_by c.args.command) _ (unmoved g.D.Disk.reads g.D.Disk.images g.D.Disk.moment g.D.Disk.since g.met.D.Disk.only_now c.args.disk.now)
+
+pub returns-in-Err-clause-fresh_gone : goal.returns-in-Err-clause-fresh_gone
+returns-in-Err-clause-fresh_gone g c = λ told done. absurd (key_not_done c.conclude_key.result c.conclude_key.ensures.others done)
+
+pub returns-in-Err-clause-recovered : goal.returns-in-Err-clause-recovered
+returns-in-Err-clause-recovered g c = λ told.
+    unread c.conclude_key.result (draws c.args.command) (recovers_by c.args.command) _
+    (key_last (draws c.args.command) c.in-Err.error c.conclude_key.result c.conclude_key.ensures.refused (λ failed. (c.conclude_key.ensures.failed failed).0))

@@ -1,4 +1,4 @@
-use Rattle.std.proofs.Common.{◌≡◌, ◌≢◌, drop, length, ◌∷◌, [], Option, Result, Err, IsTrue, List, sym, ap, subst}
+use Rattle.std.proofs.Common.{◌≡◌, ◌≢◌, drop, length, ◌∷◌, [], Bool, true, Option, Result, Err, IsTrue, List, sym, ap, subst}
 use Rattle.cipher_profile.specs.declared.key_line.KeyError.{KeyError}
 use Rattle.cipher_profile.specs.declared.key_line.KeyError.TheVariants.{SourceFault}
 use Rattle.cipher_profile.specs.declared.keys.Secret.{Secret}
@@ -11,9 +11,12 @@ use Rattle.sqlcipher_tool.specs.Answer.{Answer}
 use Rattle.sqlcipher_tool.specs.Change.{command_of}
 use Rattle.sqlcipher_tool.specs.Renewal.{Renewal, two_keys}
 use Rattle.sqlcipher_tool.proofs.Answered.{key_early, key_not_done, key_one, takes_key, unless_fault}
-use Rattle.sqlcipher_tool.proofs.Asked.{changes_of, draws_of, same_secrets, two_answers, two_between, two_changes, two_keeps, two_renewal, unchanged_changes, unchanged_keeps}
+use Rattle.sqlcipher_tool.proofs.Asked.{changes_of, draws_of, same_secrets, two_answers, two_beside, two_between, two_changes, two_keeps, two_renewal, unchanged_changes, unchanged_keeps}
 use Rattle.cipher_profile.specs.declared.profile.Profile.{Profile}
 use Rattle.sqlcipher_tool.specs.Untouched.{LeavesAlone, recovers_by}
+use Rattle.sqlcipher_tool.specs.Behind.{LeavesRecovered}
+use Rattle.sqlcipher_tool.specs.Words.{draws}
+use Rattle.sqlcipher_tool.proofs.Behind.{change_draws, key_last, unread}
 use Rattle.sqlcipher_tool.proofs.LeftAlone.{change_recovers, left_alone, unmoved}
 use Rattle.sqlcipher_tool.proofs.top.serve_two_keys.Goals as goal
 
@@ -38,12 +41,14 @@ pub returns-in-Ok-clause-changes : goal.returns-in-Ok-clause-changes
 returns-in-Ok-clause-changes g c = λ told.
     let run = disk_run g.D.Disk.reads g.D.Disk.images g.D.Disk.moment g.D.Disk.since c.args.disk.now c.change_file.new.disk in
     let command = command_of c.args.change c.args.old c.args.new in
+    let tells = g.E.Entropy.tells in
+    let drawn = drop (length (g.E.Entropy.drawn c.args.entropy.now)) (g.E.Entropy.drawn c.change_file.new.entropy) in
     let lines = key_lines 2 (g.K.Source.left c.args.input.now) in
     let these = c.in-Ok.first ∷ c.in-Ok.second ∷ [] in
-    changes_of c.change_file.result command run (λ secrets. secrets ≡ these) (λ secrets. GaveKeys g.K.Source.tells lines secrets)
+    changes_of c.change_file.result command tells drawn run (λ secrets. secrets ≡ these) (λ secrets. GaveKeys g.K.Source.tells lines secrets)
     (same_secrets g.K.Source.tells lines these (λ keyed. sym (c.in-Ok.ensures.told keyed)))
-    (two_changes c.change_file.result c.args.change c.args.old c.args.new (λ secrets. secrets ≡ these) run c.requires.keyed
-    (λ secrets gave. subst (λ (l : List Secret). IsSafely c.change_file.result command run (two_keys c.args.old c.args.new l)) (sym gave) (c.change_file.ensures.changes told)))
+    (two_changes c.change_file.result c.args.change c.args.old c.args.new (λ secrets. secrets ≡ these) tells drawn run c.requires.keyed
+    (λ secrets gave. subst (λ (l : List Secret). IsSafely c.change_file.result command tells drawn run (two_keys c.args.old c.args.new l)) (sym gave) (c.change_file.ensures.changes told)))
 
 pub returns-in-Ok-clause-own_draws : goal.returns-in-Ok-clause-own_draws
 returns-in-Ok-clause-own_draws g c = λ told drawing done.
@@ -86,7 +91,7 @@ returns-in-Err-clause-keeps g c = λ told.
 
 pub returns-in-Err-clause-changes : goal.returns-in-Err-clause-changes
 returns-in-Err-clause-changes g c = λ told. unchanged_changes g.D.Disk.reads g.D.Disk.images g.D.Disk.moment g.D.Disk.since g.met.D.Disk.only_now c.conclude_key.result (command_of c.args.change c.args.old c.args.new)
-    (λ secrets. GaveKeys g.K.Source.tells (key_lines 2 (g.K.Source.left c.args.input.now)) secrets) c.args.disk.now (key_not_done c.conclude_key.result c.conclude_key.ensures.others)
+    (λ secrets. GaveKeys g.K.Source.tells (key_lines 2 (g.K.Source.left c.args.input.now)) secrets) g.E.Entropy.tells (drop (length (g.E.Entropy.drawn c.args.entropy.now)) (g.E.Entropy.drawn c.args.entropy.now)) c.args.disk.now (key_not_done c.conclude_key.result c.conclude_key.ensures.others)
 
 pub returns-in-Err-clause-own_draws : goal.returns-in-Err-clause-own_draws
 returns-in-Err-clause-own_draws g c = λ told drawing done. absurd (key_not_done c.conclude_key.result c.conclude_key.ensures.others done)
@@ -94,7 +99,26 @@ returns-in-Err-clause-own_draws g c = λ told drawing done. absurd (key_not_done
 pub returns-in-Ok-clause-untouched : goal.returns-in-Ok-clause-untouched
 returns-in-Ok-clause-untouched g c = λ told.
     let run = disk_run g.D.Disk.reads g.D.Disk.images g.D.Disk.moment g.D.Disk.since c.args.disk.now c.change_file.new.disk in
-    subst (λ (profile : Option Profile). LeavesAlone c.change_file.result profile run) (sym (change_recovers c.args.change c.args.old c.args.new)) (c.change_file.ensures.untouched told)
+    subst (λ (profile : Option Profile). LeavesAlone profile run) (sym (change_recovers c.args.change c.args.old c.args.new)) (c.change_file.ensures.untouched told)
 
 pub returns-in-Err-clause-untouched : goal.returns-in-Err-clause-untouched
-returns-in-Err-clause-untouched g c = λ told. left_alone c.conclude_key.result (recovers_by (command_of c.args.change c.args.old c.args.new)) _ (unmoved g.D.Disk.reads g.D.Disk.images g.D.Disk.moment g.D.Disk.since g.met.D.Disk.only_now c.args.disk.now)
+returns-in-Err-clause-untouched g c = λ told. left_alone (recovers_by (command_of c.args.change c.args.old c.args.new)) _ (unmoved g.D.Disk.reads g.D.Disk.images g.D.Disk.moment g.D.Disk.since g.met.D.Disk.only_now c.args.disk.now)
+
+pub returns-in-Ok-clause-fresh_gone : goal.returns-in-Ok-clause-fresh_gone
+returns-in-Ok-clause-fresh_gone g c = λ told done beside. c.change_file.ensures.fresh_gone told done (two_beside c.args.change c.args.old c.args.new beside)
+
+pub returns-in-Err-clause-fresh_gone : goal.returns-in-Err-clause-fresh_gone
+returns-in-Err-clause-fresh_gone g c = λ told done. absurd (key_not_done c.conclude_key.result c.conclude_key.ensures.others done)
+
+pub returns-in-Ok-clause-recovered : goal.returns-in-Ok-clause-recovered
+returns-in-Ok-clause-recovered g c = λ told.
+    let run = disk_run g.D.Disk.reads g.D.Disk.images g.D.Disk.moment g.D.Disk.since c.args.disk.now c.change_file.new.disk in
+    let command = command_of c.args.change c.args.old c.args.new in
+    subst (λ (b : Bool). LeavesRecovered c.change_file.result b (recovers_by command) run) (sym (change_draws c.args.change c.args.old c.args.new))
+    (subst (λ (profile : Option Profile). LeavesRecovered c.change_file.result true profile run) (sym (change_recovers c.args.change c.args.old c.args.new)) (c.change_file.ensures.recovered told))
+
+pub returns-in-Err-clause-recovered : goal.returns-in-Err-clause-recovered
+returns-in-Err-clause-recovered g c = λ told.
+    let command = command_of c.args.change c.args.old c.args.new in
+    unread c.conclude_key.result (draws command) (recovers_by command) _
+    (key_last (draws command) c.in-Err.error c.conclude_key.result c.conclude_key.ensures.refused (λ failed. (c.conclude_key.ensures.failed failed).0))

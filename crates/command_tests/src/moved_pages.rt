@@ -1,16 +1,8 @@
 // Two files of one key and one salt, as an older and a newer state of one file are. A whole page of the older one is put into the newer
 // one, at its own number and at number 2.
-use crate::served::{KEY, disk_with, file_in, serve};
-use edge_model::{MemDisk, Role};
+use crate::served::{KEY, made, told};
 use std::alloc::{AllocError, Global};
 use std::test::Fail;
-
-// The file that `make` makes in a profile. Every salt that is drawn is of zeros.
-fn made(alloc: Global, profile: &str, rows: &str) -> Result<Vec<u8>, AllocError> {
-    let mut disk = MemDisk::new(alloc);
-    serve(alloc, &["make", profile, rows], &[KEY], &mut disk)?;
-    file_in(alloc, &disk, Role::Main)
-}
 
 // The newer file with a page of this size of the older one, each numbered from 0.
 fn with_page(
@@ -29,12 +21,6 @@ fn with_page(
     Ok(file)
 }
 
-// What the command prints of this file.
-fn told(alloc: Global, word: &str, profile: &str, file: &[u8]) -> Result<Vec<u8>, AllocError> {
-    let mut disk = disk_with(alloc, file)?;
-    Ok(serve(alloc, &[word, profile], &[KEY], &mut disk)?.text)
-}
-
 #[test]
 fn an_older_page_is_accepted_at_its_number_alone_where_there_are_tags(
     rt: HostRuntime,
@@ -45,15 +31,15 @@ fn an_older_page_is_accepted_at_its_number_alone_where_there_are_tags(
         let newer = made(alloc, profile, "8")?;
         let old = older.as_slice();
         let new = newer.as_slice();
-        let whole = told(alloc, "tags", profile, new)?;
+        let whole = told(alloc, &["tags", profile], KEY, new)?;
         assert!(rt; whole.starts_with(b"tags hold: "), "{profile}");
         let last = (older.len() / size).saturating_sub(1);
         let back = with_page(alloc, new, old, size, last, last)?;
         assert!(rt; last > 1 && back.as_slice() != new, "{profile}");
-        let kept = told(alloc, "tags", profile, back.as_slice())?;
+        let kept = told(alloc, &["tags", profile], KEY, back.as_slice())?;
         assert_eq!(rt; kept.as_slice(), whole.as_slice(), "{profile}");
         let moved = with_page(alloc, new, old, size, last, 1)?;
-        let refused = told(alloc, "tags", profile, moved.as_slice())?;
+        let refused = told(alloc, &["tags", profile], KEY, moved.as_slice())?;
         assert_eq!(rt;
             refused.as_slice(),
             b"page 2: tag refused\n".as_slice(),
@@ -73,7 +59,7 @@ fn no_page_of_version_1_is_refused_by_a_tag(rt: HostRuntime) -> Result<(), Fail>
     for to in [last, 1] {
         let file = with_page(alloc, newer.as_slice(), older.as_slice(), 1024, last, to)?;
         assert!(rt; file.as_slice() != newer.as_slice(), "{to}");
-        let said = told(alloc, "verify", "1", file.as_slice())?;
+        let said = told(alloc, &["verify", "1"], KEY, file.as_slice())?;
         assert!(rt; !said.ends_with(b"refused\n") && !said.is_empty(), "{to}");
     }
     Ok(())

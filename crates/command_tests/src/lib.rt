@@ -1,0 +1,22 @@
+//! Runs of the whole tool over files in memory, which are tests alone: the rows of each command, and several commands on one file, where
+//! what one command leaves is looked at with the others.
+#![tactic(auto)]
+
+#[cfg(test)]
+mod exports;
+#[cfg(test)]
+mod moved_pages;
+#[cfg(test)]
+mod pages;
+#[cfg(test)]
+mod renewal;
+#[cfg(test)]
+mod rows;
+#[cfg(test)]
+mod scripts;
+#[cfg(test)]
+mod served;
+#[cfg(test)]
+mod stops;
+#[cfg(test)]
+mod tagged;

@@ -1,0 +1,107 @@
+// Files of empty table leaves, changed and sealed by page_codec, which its own tests compare with pages from outside.
+ghost use Rattle.cipher_profile.specs.Profile.{usable};
+ghost use Rattle.std.specs.Prelude.{◌≡◌, length};
+
+use cipher_profile::{Profile, derive, profile_of, read_key};
+use edge_model::MemSource;
+use page_codec::Codec;
+use std::alloc::Global;
+use std::process::Abort;
+use std::test::Fail;
+
+/// Bytes that are put into a plain page: the page, where, and what.
+pub type Change = (u32, usize, &'static [u8]);
+
+const MAGIC: &[u8; 16] = b"SQLite format 3\0";
+
+// Section 1.3: the header from byte 16 on, but for the size of a page and its reserve.
+const HEADER: [(usize, &[u8]); 7] = [
+    (18, &[1, 1]),
+    (21, &[64, 32, 32, 0, 0, 0, 1]),
+    (40, &[0, 0, 0, 1, 0, 0, 0, 4]),
+    (56, &[0, 0, 0, 1]),
+    (92, &[0, 0, 0, 1]),
+    (96, &[0, 0x2e, 0x76, 0x88]),
+    (0, MAGIC),
+];
+
+// Replaces the bytes from `at` on.
+fn put_bytes(bytes: &mut [u8], at: usize, new: &[u8]) {
+    for (to, from) in bytes.iter_mut().skip(at).zip(new.iter()) {
+        *to = *from;
+    }
+}
+
+// Plain page n of so many: an empty table leaf, behind the header on page 1, with these changes.
+fn lay(profile: &Profile, pages: u32, n: u32, changes: &[Change], plain: &mut [u8]) {
+    let start = if n == 1 { 100 } else { 0 };
+    let end = [(plain.len() / 256 % 256) as u8, (plain.len() % 256) as u8];
+    put_bytes(plain, start, &[13]);
+    put_bytes(plain, start + 5, &end);
+    if n == 1 {
+        for (at, bytes) in HEADER {
+            put_bytes(plain, at, bytes);
+        }
+        put_bytes(plain, 16, &[(profile.page_size / 256 % 256) as u8]);
+        put_bytes(plain, 20, &[(profile.reserve % 256) as u8]);
+        put_bytes(plain, 31, &[(pages % 256) as u8]);
+    }
+    for (page, at, bytes) in changes {
+        if *page == n {
+            put_bytes(plain, *at, bytes);
+        }
+    }
+}
+
+fn seal(rt: &impl Abort, codec: &Codec, n: u32, plain: &[u8], stored: &mut [u8])
+    requires plain_size { length plain.now ≡ usable codec.now.profile }
+    requires stored_size { length stored.old ≡ codec.now.profile.page_size }
+{
+    assert!(rt; n >= 1 && plain.len() >= 16);
+    assert!(rt; n != 1 || plain[..16] == MAGIC[..]);
+    let zeros = [0u8; 80];
+    codec.seal_page(n, plain, &zeros[..codec.profile().reserve as usize], stored);
+}
+
+// The codec of the profile under a key line, for a salt of zeros.
+fn codec_of(rt: &impl Abort, alloc: Global, word: &str, key: &[u8]) -> Result<Codec, Fail> {
+    let Some(profile) = profile_of(word) else {
+        panic!(rt; "no profile {word}");
+    };
+    let Ok(secret) = read_key(&mut MemSource::new(alloc, key, &[])?) else {
+        panic!(rt; "no key");
+    };
+    let keys = derive(&secret, &profile, &[0; 16]);
+    Ok(Codec::new(profile, keys, [0; 16]))
+}
+
+/// The file of so many pages of the profile under a key line, with these changes.
+pub fn sealed(
+    rt: &impl Abort,
+    alloc: Global,
+    word: &str,
+    key: &[u8],
+    pages: u32,
+    changes: &[Change],
+) -> Result<Vec<u8>, Fail> {
+    let codec = codec_of(rt, alloc, word, key)?;
+    let profile = *codec.profile();
+    let mut file = Vec::new(alloc);
+    for n in 1..=pages {
+        let mut plain = [0u8; 4096];
+        let plain = &mut plain[..profile.usable()];
+        let mut stored = [0u8; 4096];
+        let stored = &mut stored[..profile.page_size as usize];
+        lay(&profile, pages, n, changes, plain);
+        seal(rt, &codec, n, plain, stored);
+        file.extend_from_slice(stored)?;
+    }
+    Ok(file)
+}
+
+/// Turns the lowest bit of this byte.
+pub fn turn(file: &mut [u8], at: usize) {
+    if let Some(byte) = file.get_mut(at) {
+        *byte ^= 1;
+    }
+}

@@ -1,0 +1,249 @@
+// What a stop, a failure of one call and an end of the entropy leave of each command that writes: the old file or the new one, byte by
+// byte. By which key these open, and to what, is asked once.
+use crate::pages::sealed;
+use crate::served::{Given, KEY, OTHER_KEY, disk_with, file_in, made, recovered, serve, told};
+use edge_model::{ImagePick, MemDisk, Role};
+use sqlcipher_tool::Status;
+use std::alloc::{AllocError, Global};
+use std::process::Abort;
+use std::test::Fail;
+
+const STAMP: Given<'static> = Given {
+    words: &["stamp", "4", "user-version", "7"],
+    lines: &[KEY],
+    drawn: 80,
+};
+
+const REKEY: Given<'static> = Given {
+    words: &["rekey", "3", "3"],
+    lines: &[KEY, OTHER_KEY],
+    drawn: 4_800,
+};
+
+const MIGRATE: Given<'static> = Given {
+    words: &["migrate", "3", "4"],
+    lines: &[KEY, OTHER_KEY],
+    drawn: 4_000,
+};
+
+// More calls of the disk than a run here makes.
+const MOST_CALLS: u64 = 4_400;
+
+// A page of version 3 has so many bytes, and a page that is sealed draws so many.
+const SIZE: usize = 1_024;
+
+const RESERVE: usize = 48;
+
+// More than this many pages don't stand in memory.
+const FRAMES: usize = 64;
+
+// What this command is tried on: a disk, and the files of which one is left, as files of the profile.
+#[derive(Drop)]
+struct Trial {
+    given: Given<'static>,
+    start: MemDisk,
+    profile: &'static str,
+    old: Vec<u8>,
+    new: Vec<u8>,
+}
+
+// The trial of a command from this disk on, whose file is the old one once it is recovered.
+fn trial_from(
+    alloc: Global,
+    given: Given<'static>,
+    start: MemDisk,
+    profile: &'static str,
+    old: Vec<u8>,
+) -> Result<Trial, AllocError> {
+    let mut whole = start.image(ImagePick::Kept).map_err(|_| AllocError)?;
+    serve(alloc, &given, &mut whole)?;
+    let new = file_in(alloc, &whole, Role::Main)?;
+    Ok(Trial {
+        given,
+        start,
+        profile,
+        old,
+        new,
+    })
+}
+
+// The trial of a command on this file.
+fn trial_on(
+    alloc: Global,
+    given: Given<'static>,
+    profile: &'static str,
+    old: Vec<u8>,
+) -> Result<Trial, AllocError> {
+    let start = disk_with(alloc, old.as_slice())?;
+    trial_from(alloc, given, start, profile, old)
+}
+
+// A run that is stopped after so many calls, or whose next call alone fails: how it ends, and how many images are recovered to the old
+// file and how many to the new one.
+fn disturbed(
+    alloc: Global,
+    trial: &Trial,
+    calls: u64,
+    alone: bool,
+) -> Result<(Status, usize, usize), AllocError> {
+    let mut disk = trial.start.image(ImagePick::Kept).map_err(|_| AllocError)?;
+    if alone {
+        disk.fail_calls(&[calls.saturating_add(1)])
+            .map_err(|_| AllocError)?;
+    } else {
+        disk.stop_after(calls);
+    }
+    let status = serve(alloc, &trial.given, &mut disk)?.status;
+    let (olds, news) = recovered(alloc, &disk, trial.profile, &trial.old, &trial.new)?;
+    Ok((status, olds, news))
+}
+
+// Each such run leaves one of the two, where each eleventh call is tried, or each one. Answers the first number of calls that is no less
+// than the run's, and how many images had the new file before.
+fn each_leaves_one(
+    rt: &impl Abort,
+    alloc: Global,
+    trial: &Trial,
+    from: u64,
+    step: u64,
+    alone: bool,
+) -> Result<(u64, usize), Fail> {
+    let mut renewed = 0usize;
+    let mut calls = from;
+    for _ in 0..MOST_CALLS {
+        let (status, olds, news) = disturbed(alloc, trial, calls, alone)?;
+        assert_eq!(rt; olds.saturating_add(news), 3, "{calls}");
+        if status == Status::Done {
+            assert_eq!(rt; news, 3, "{calls}");
+            return Ok((calls, renewed));
+        }
+        assert_eq!(rt; status, Status::DiskFault, "{calls}");
+        renewed = renewed.saturating_add(news);
+        calls = calls.saturating_add(step);
+    }
+    panic!(rt; "the run is longer than so many calls");
+}
+
+#[test]
+fn a_stamp_leaves_the_old_file_or_the_stamped_one(rt: HostRuntime) -> Result<(), Fail> {
+    let alloc = rt.alloc();
+    let old = sealed(&rt, alloc, "4", KEY, 4, &[])?;
+    let stamp = trial_on(alloc, STAMP, "4", old)?;
+    for alone in [false, true] {
+        let (end, renewed) = each_leaves_one(&rt, alloc, &stamp, 0, 1, alone)?;
+        assert!(rt; end > 20 && renewed > 0, "{end}");
+    }
+    Ok(())
+}
+
+// A file of more pages than stand in memory, so that its pages are sealed in two batches. Only each eleventh call is tried, and each of
+// the last ones, with which the second batch is committed.
+fn a_rekey_leaves_one(rt: &impl Abort, alloc: Global, alone: bool) -> Result<(), Fail> {
+    let rekey = trial_on(alloc, REKEY, "3", made(alloc, "3", "30")?)?;
+    assert!(rt; rekey.old.len() / SIZE > FRAMES);
+    let (end, _) = each_leaves_one(rt, alloc, &rekey, 0, 11, alone)?;
+    assert!(rt; end > 300, "{end}");
+    let from = end.saturating_sub(30);
+    let (last, renewed) = each_leaves_one(rt, alloc, &rekey, from, 1, alone)?;
+    assert!(rt; last <= end && renewed > 0, "{last}");
+    Ok(())
+}
+
+#[test]
+fn a_stop_of_a_rekey_leaves_the_old_file_or_the_new_one(rt: HostRuntime) -> Result<(), Fail> {
+    a_rekey_leaves_one(&rt, rt.alloc(), false)
+}
+
+#[test]
+fn a_call_of_a_rekey_that_fails_alone_leaves_one_of_the_two(rt: HostRuntime) -> Result<(), Fail> {
+    a_rekey_leaves_one(&rt, rt.alloc(), true)
+}
+
+// What the first stop behind a write to the file leaves of a rekey: a file whose pages are no longer all of the old key, some of them
+// torn, beside a hot journal.
+fn half_rekeyed(alloc: Global, old: &[u8]) -> Result<MemDisk, AllocError> {
+    for calls in 0..MOST_CALLS {
+        let mut disk = disk_with(alloc, old)?;
+        disk.stop_after(calls);
+        serve(alloc, &REKEY, &mut disk)?;
+        let image = disk.image(ImagePick::Torn).map_err(|_| AllocError)?;
+        if image.bytes(Role::Main) != Some(old) && image.bytes(Role::Journal).is_some() {
+            return Ok(image);
+        }
+    }
+    Ok(MemDisk::new(alloc))
+}
+
+#[test]
+fn a_stop_of_a_migration_leaves_the_old_file_or_the_new_one(rt: HostRuntime) -> Result<(), Fail> {
+    let alloc = rt.alloc();
+    let old = made(alloc, "3", "7")?;
+    for half in [false, true] {
+        let start = if half {
+            half_rekeyed(alloc, old.as_slice())?
+        } else {
+            disk_with(alloc, old.as_slice())?
+        };
+        let migrate = trial_from(alloc, MIGRATE, start, "3", old.to_vec(alloc)?)?;
+        let (end, renewed) = each_leaves_one(&rt, alloc, &migrate, 0, 1, false)?;
+        assert!(rt; end > 40 && renewed > 0, "{end}");
+    }
+    Ok(())
+}
+
+// Such a migration recovers the file first. Without its journal it has none of the rows.
+#[test]
+fn a_half_rekeyed_file_is_migrated_with_its_old_rows(rt: HostRuntime) -> Result<(), Fail> {
+    let alloc = rt.alloc();
+    let old = made(alloc, "3", "7")?;
+    let mut disk = half_rekeyed(alloc, old.as_slice())?;
+    let half = file_in(alloc, &disk, Role::Main)?;
+    assert_eq!(rt; half.len(), old.len());
+    assert_eq!(rt; serve(alloc, &MIGRATE, &mut disk)?.status, Status::Done);
+    assert!(rt; disk.bytes(Role::Journal).is_none());
+    let new = file_in(alloc, &disk, Role::Main)?;
+    let before = told(alloc, &["export", "3"], KEY, old.as_slice())?;
+    let after = told(alloc, &["export", "4"], OTHER_KEY, new.as_slice())?;
+    assert!(rt; before.len() > 300);
+    assert_eq!(rt; before.as_slice(), after.as_slice());
+    for key in [KEY, OTHER_KEY] {
+        let without = told(alloc, &["export", "3"], key, half.as_slice())?;
+        assert!(rt; without.as_slice() != before.as_slice());
+    }
+    Ok(())
+}
+
+// A run for which only so many bytes are there to be drawn leaves this file.
+fn starves(
+    rt: &impl Abort,
+    alloc: Global,
+    given: &Given<'_>,
+    profile: &str,
+    old: &[u8],
+    drawn: usize,
+) -> Result<(), Fail> {
+    let mut disk = disk_with(alloc, old)?;
+    let less = Given {
+        words: given.words,
+        lines: given.lines,
+        drawn,
+    };
+    let status = serve(alloc, &less, &mut disk)?.status;
+    assert_eq!(rt; status, Status::EntropyFault, "{drawn}");
+    let (olds, _) = recovered(alloc, &disk, profile, old, &[])?;
+    assert_eq!(rt; olds, 3, "{drawn}");
+    Ok(())
+}
+
+#[test]
+fn an_entropy_that_ends_at_any_page_leaves_the_old_file(rt: HostRuntime) -> Result<(), Fail> {
+    let alloc = rt.alloc();
+    let stamped = sealed(&rt, alloc, "4", KEY, 4, &[])?;
+    starves(&rt, alloc, &STAMP, "4", stamped.as_slice(), 79)?;
+    let old = made(alloc, "3", "30")?;
+    for before in 0..old.len() / SIZE {
+        let drawn = before.saturating_mul(RESERVE).saturating_add(47);
+        starves(&rt, alloc, &REKEY, "3", old.as_slice(), drawn)?;
+    }
+    Ok(())
+}

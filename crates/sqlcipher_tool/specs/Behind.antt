@@ -1,0 +1,58 @@
+-- What a command that recovers Main first leaves, where behind the recovery it only read.
+use Rattle.std.specs.Prelude.{◌≡◌, ◌<◌, Bool, false, length, Option, Some, None}
+use Rattle.cipher_profile.specs.declared.profile.Profile.{Profile}
+use Rattle.edge_model.specs.Files.{bytes_of}
+use Rattle.edge_model.specs.Images.{Each}
+use Rattle.pager.specs.File.{main_of}
+use Rattle.rollback_journal.specs.Recovery.{IsDone}
+use Rattle.sqlcipher_tool.specs.Answer.{is_early}
+use Rattle.sqlcipher_tool.specs.Holding.{DiskRun}
+use Rattle.sqlcipher_tool.specs.Promises.{IsUnrecovered}
+use Rattle.sqlcipher_tool.specs.declared.opening.ChangeError.{ChangeError}
+use Rattle.sqlcipher_tool.specs.declared.opening.ChangeError.TheVariants.{Stopped, EntropyFault as EntropyFails}
+use Rattle.sqlcipher_tool.specs.declared.opening.Stop.{Stop}
+use Rattle.sqlcipher_tool.specs.declared.opening.Stop.TheVariants.{Refused as StopRefused, KeyRefused as StopKey, DiskFault as StopDisk, OutOfMemory as StopMemory}
+use Rattle.sqlcipher_tool.specs.declared.status.Status.{Status}
+use Rattle.sqlcipher_tool.specs.declared.status.Status.TheVariants.{Done, Usage, Refused, KeyRefused, DiskFault, OutputFault, InputFault, EntropyFault, OutOfMemory}
+
+-- The recovery was done, and behind it the disk was only read. A refusal of the key or of the recovered file says so, and Done of a
+-- command that draws nothing, as it seals no page.
+abbrev pub HasOnlyRead : Bool → Status → Type 0
+HasOnlyRead draws Done = draws ≡ false
+HasOnlyRead draws Usage = ⊥
+HasOnlyRead draws (Refused refusal) = (is_early refusal ≡ false) × (IsUnrecovered (Refused refusal) → ⊥)
+HasOnlyRead draws KeyRefused = Unit {0}
+HasOnlyRead draws DiskFault = ⊥
+HasOnlyRead draws OutputFault = ⊥
+HasOnlyRead draws InputFault = ⊥
+HasOnlyRead draws EntropyFault = ⊥
+HasOnlyRead draws OutOfMemory = ⊥
+
+-- where Main had a byte, every image has the recovered file as Main and no journal
+abbrev pub IsRecovered : Profile → DiskRun → Type 0
+IsRecovered profile run =
+    0 < length (main_of run.before) → Each run.at_exit (IsDone profile.page_size (bytes_of run.before.main) (bytes_of run.before.journal))
+
+-- so it is left by a command that recovers by this profile
+abbrev pub LeavesRecovered : Status → Bool → Option Profile → DiskRun → Type 0
+LeavesRecovered status draws None run = Unit {0}
+LeavesRecovered status draws (Some profile) run = HasOnlyRead draws status → IsRecovered profile run
+
+-- how a recovery stops a command
+abbrev pub IsOfRecovery : Stop → Type 0
+IsOfRecovery (StopRefused refusal) = IsUnrecovered (Refused refusal)
+IsOfRecovery StopKey = ⊥
+IsOfRecovery StopDisk = Unit {0}
+IsOfRecovery StopMemory = Unit {0}
+
+-- the file or the key was refused
+abbrev pub IsRefusal : Stop → Type 0
+IsRefusal (StopRefused refusal) = Unit {0}
+IsRefusal StopKey = Unit {0}
+IsRefusal StopDisk = ⊥
+IsRefusal StopMemory = ⊥
+
+-- and so of a file that is not changed
+abbrev pub IsRefusedChange : ChangeError → Type 0
+IsRefusedChange (Stopped stop) = IsRefusal stop
+IsRefusedChange EntropyFails = ⊥
