@@ -1,21 +1,14 @@
-// The line on standard error that says why, or what to do.
-use crate::failure::Shown;
-use crate::folder_disk::FolderDisk;
-use crate::line_form::LineForm;
-use crate::progress::Progress;
-use crate::streams::{DeviceEntropy, InputSource, OutputSink};
+// The lines on standard error that say why, or what to do.
+use crate::failure::{Conflict, Failure, Shown};
+use crate::folder::Folder;
+use crate::key_words::{explain_new_key, remark_on};
+use crate::streams::InputSource;
+use crate::usage::explain_usage;
 use sqlcipher_tool::{Refusal, Status};
 use std::fmt::Display;
 
-const USAGE: &str =
-    "these words are no command, or one of them is not UTF-8; --help lists the commands";
-
 /// Memory was refused.
 pub const OUT_OF_MEMORY: &str = "memory ran out";
-
-const WAL_MODE: &str =
-    "the file keeps a write-ahead log; on a copy of FILE and FILE-wal, `PRAGMA journal_mode = DELETE` in the \
-    program that wrote it puts the log's pages into the file";
 
 const JOURNAL_PAGE_SIZE: &str =
     "the journal beside the file has pages of another size: give the version that wrote it (4 has pages of 4096 bytes, \
@@ -26,47 +19,74 @@ const SUPER_JOURNAL: &str =
     nothing was written";
 
 const JOURNAL_THERE: &str =
-    "a journal is there; if its file is too, then on a copy of both `recover 4`, or else `recover 3`, plays it back or removes it";
+    "a journal is there; if its file is too, then on a copy of both `recover 4`, or else `recover 3`, plays it back or removes it, \
+    as every other command does first";
 
 const KEY_MISSING: &str =
-    "standard input ended before the last key line: `rekey` and `migrate` take two, the old key and the new one, and the others \
-    one";
+    "standard input ended before the last key line, or the file of the first key has no line feed at its end: `rekey` and \
+    `migrate` take two, the old key and the new one, and the others one";
+
+const KEY_EMPTY: &str = "a key line is empty";
+
+const KEY_TOO_LONG: &str = "a key line has at most 1,024 bytes";
 
 const KEY_WITH_SALT: &str =
     "the key line has a raw key and 32 digits of salt; the file begins with its salt, so give the first 64 digits alone, as x'..'";
+
+const LAYOUT_DIFFERS: &str =
+    "the pages of these two versions differ: `migrate` writes the database anew";
+
+const FILE_THERE: &str = "there is such a file already: `make` takes a new name";
 
 const SHORT: &str = "the file ends before its last page: it was cut, or it was not copied whole";
 
 const RAGGED: &str =
     "the file does not end with a page: it was cut, or something stands behind its pages";
 
-const AUTO_VACUUM: &str =
-    "the file has pointer-map pages; on a copy of it, `PRAGMA auto_vacuum = 0` and then `VACUUM` in the program that wrote it \
-    take them out";
+const DAMAGED: &str =
+    "the file is damaged, or its journal is missing: put the FILE-journal of the same moment beside it and give `recover`; \
+    else another copy is the way";
 
-const EITHER_KEY: &str =
-    "the database is whole, under the old key or under the new one: run `recover`, then try both";
+const TAGS_REFUSED: &str =
+    "a page that is not in use may never have been sealed: `verify` looks at those that are; where one of them is refused the file \
+    is damaged, or its journal is missing";
 
-const EITHER_NUMBER: &str =
-    "the database is whole, with the old number or with the new one: run `recover`, then `header`";
-
-const EITHER_FILE: &str = "there is no database, or the whole one: `verify` tells which";
+const OTHER_JOURNAL: &str =
+    "the journal may have been another file's, and its pages then stand in this one: a copy made before is the way back";
 
 const NOT_ENCRYPTED: &str = "the file begins with `SQLite format 3`: it is not encrypted";
 
-const BARE_KEY: &str =
-    "the key line is 64 hex digits and was taken as a passphrase; a raw key is written x'..'";
+const CHANGED_MEANWHILE: &str =
+    "another program wrote to the file meanwhile, so this answer is on no one state of it";
 
-const CARRIAGE_RETURN: &str =
-    "the key line ends in a carriage return, which was taken as part of the key";
+const BLIND: &str =
+    "other programs could not be looked for, since /proc/locks does not show the locks here";
 
-const SPACE: &str = "the key line ends in a space, which was taken as part of the key";
+/// How a run has ended.
+#[derive(Drop)]
+pub struct Ended<'r, 'f> {
+    pub status: Status,
+    /// FILE, as it was given.
+    pub path: &'r str,
+    /// The words after FILE.
+    pub words: &'r [&'r str],
+    /// What failed, at status 4 to 7.
+    pub failure: Option<Failure<'f>>,
+}
 
-const QUOTES: &str =
-    "the key line begins and ends with a quote, and both were taken as part of the key";
+impl<'r, 'f> Ended<'r, 'f> {
+    fn conflict(&self) -> Option<Conflict> {
+        self.failure?.conflict()
+    }
 
-const KEY_REFUSED: &str =
-    "the README's section \"When the key is refused\" lists what else it may be";
+    // The version in the words; 4 where there is none.
+    fn version(&self) -> &'r str {
+        match self.words {
+            [_, version, ..] => version,
+            _ => "4",
+        }
+    }
+}
 
 /// Writes one line. That standard error can't be written is no fault.
 pub fn say<D: Display + Drop>(rt: &HostRuntime, words: D) {
@@ -74,127 +94,326 @@ pub fn say<D: Display + Drop>(rt: &HostRuntime, words: D) {
 }
 
 /// Says what the status and the lines of the output leave open.
-pub fn explain(
-    rt: &HostRuntime,
-    status: Status,
-    path: &str,
-    words: &[&str],
-    input: &InputSource,
-    out: &OutputSink,
-    entropy: &DeviceEntropy,
-    disk: &mut FolderDisk,
-    progress: &Progress,
-) {
-    let failure = match status {
-        Status::DiskFault => disk.last,
-        Status::OutputFault => out.last,
-        Status::InputFault => input.last,
-        Status::EntropyFault => entropy.last,
-        _ => None,
-    };
-    if let Some(failure) = failure {
+pub fn explain(rt: &HostRuntime, run: &Ended, input: &InputSource, folder: &mut Folder) {
+    if let Some(failure) = run.failure {
         say(rt, failure);
     }
-    explain_file(rt, status, path, words, disk, progress);
-    let advice = match status {
-        Status::KeyRefused if disk.is_plain() => Some(NOT_ENCRYPTED),
-        Status::KeyRefused => Some(advice_on_form(&input.line).unwrap_or(KEY_REFUSED)),
-        _ => advice_on(status),
-    };
-    if let Some(words) = advice {
-        say(rt, words);
-    }
-    if status == Status::Done {
-        explain_new_key(rt, words, input);
+    explain_conflict(rt, run);
+    explain_others(rt, run, folder);
+    explain_playback(rt, run, folder);
+    explain_status(rt, run, input, folder);
+    explain_state(rt, run, folder);
+    explain_fresh(rt, run, folder);
+    if run.status == Status::Done {
+        explain_new_key(rt, run.words, input);
     }
 }
 
-// Says what is there, or may be, where the lines of the output can't.
-fn explain_file(
-    rt: &HostRuntime,
-    status: Status,
-    path: &str,
-    words: &[&str],
-    disk: &FolderDisk,
-    progress: &Progress,
-) {
-    let is_sought = status == Status::Done || status == Status::Refused(Refusal::Empty);
-    if is_sought && disk.lacks_main() {
-        say(rt, format_args!("{}: there is no such file", Shown(path)));
-    }
-    let is_open = status == Status::DiskFault || status == Status::OutputFault;
-    if let (true, Some(words)) = (is_open && progress.has_written(), advice_on_end(words)) {
-        say(rt, words);
-    }
-    if let Some(fresh) = disk.left_fresh() {
+// What to do about somebody else at the files.
+fn explain_conflict(rt: &HostRuntime, run: &Ended) {
+    let advice = match run.conflict() {
+        Some(Conflict::Log) => {
+            "open and close the database with the program that wrote it, or copy FILE and FILE-wal together and do so there; \
+            a log that is another file's has to be moved away"
+        }
+        Some(Conflict::InTheWay) => {
+            "`migrate` and `make` write their new file under this name: move away what is there, also where it is a whole database \
+            that a stop kept from taking its place"
+        }
+        _ => return,
+    };
+    say(rt, advice);
+}
+
+// Who else was seen, and where nobody could be.
+fn explain_others(rt: &HostRuntime, run: &Ended, folder: &Folder) {
+    if let Some(error) = folder.unlocked() {
         say(
             rt,
             format_args!(
-                "{}: it was not finished and is no part of the database; it may be removed",
-                Shown(fresh)
+                "{}: lock: {error}: another run of sqlcipher-tool could not be looked for",
+                Shown(folder.main_path())
+            ),
+        );
+    }
+    if folder.is_blind() {
+        say(rt, BLIND);
+    }
+    if run.words.first() == Some(&"probe") {
+        explain_probed(rt, folder);
+    }
+    let is_answered = run.failure.is_none() && run.status != Status::Usage;
+    if is_answered && folder.was_changed() {
+        say(rt, CHANGED_MEANWHILE);
+    }
+}
+
+// What `probe` saw beside the file, which every other command refuses.
+fn explain_probed(rt: &HostRuntime, folder: &Folder) {
+    if let Some(process) = folder.deeds.other {
+        let other = Failure::of(folder.main_path(), Conflict::OtherProgram { process });
+        say(rt, format_args!("{other}; every other command refuses it"));
+    }
+    if folder.deeds.has_log {
+        let log = Failure::of(folder.log_path(), Conflict::Log);
+        say(rt, format_args!("{log}; every other command refuses it"));
+    }
+}
+
+// What was done with a journal that was found.
+fn explain_playback(rt: &HostRuntime, run: &Ended, folder: &Folder) {
+    let deeds = folder.deeds;
+    let journal = Shown(folder.journal_path());
+    let laid = deeds.laid;
+    if laid > 0 && deeds.has_dropped {
+        say(
+            rt,
+            format_args!(
+                "{journal}: {laid} pages were played back from it into the file, and it was removed"
+            ),
+        );
+    } else if laid > 0 {
+        say(
+            rt,
+            format_args!(
+                "{journal}: {laid} pages were played back from it, and it still stands: keep it beside the file and give `recover {}`",
+                run.version()
+            ),
+        );
+    } else if deeds.has_dropped {
+        say(
+            rt,
+            format_args!("{journal}: it had nothing to play back, and it was removed"),
+        );
+    }
+    if laid > 0 && is_spoilt(run.status) {
+        say(rt, OTHER_JOURNAL);
+    }
+}
+
+// Whether what was found is not what a file has under its own key.
+fn is_spoilt(status: Status) -> bool {
+    matches!(
+        status,
+        Status::KeyRefused
+            | Status::Refused(
+                Refusal::PageTag { .. }
+                    | Refusal::Defect(_)
+                    | Refusal::HeaderFault { .. }
+                    | Refusal::Short { .. }
+                    | Refusal::Ragged { .. }
+            )
+    )
+}
+
+// What the status alone tells, and why the key may have been refused.
+fn explain_status(rt: &HostRuntime, run: &Ended, input: &InputSource, folder: &mut Folder) {
+    let is_sought = run.status == Status::Done || run.status == Status::Refused(Refusal::Empty);
+    if is_sought && folder.lacks_main() {
+        say(
+            rt,
+            format_args!("{}: there is no such file", Shown(run.path)),
+        );
+    }
+    match run.status {
+        Status::Usage => explain_usage(rt, run.words),
+        Status::OutOfMemory => say(rt, OUT_OF_MEMORY),
+        Status::KeyRefused => explain_key(rt, run, input, folder),
+        Status::Refused(refusal) => explain_refusal(rt, run, refusal, folder.deeds.laid > 0),
+        _ => {}
+    }
+}
+
+fn explain_key(rt: &HostRuntime, run: &Ended, input: &InputSource, folder: &mut Folder) {
+    if folder.is_plain() {
+        say(rt, NOT_ENCRYPTED);
+    } else if let Some(words) = remark_on(&input.line) {
+        say(rt, words);
+    } else if run.words.first() == Some(&"probe") {
+        say(
+            rt,
+            "the key fits under no version; an app may set its own rounds or page size. The README's section \"When the key is \
+            refused\" lists what else it may be",
+        );
+    } else {
+        let version = run.version();
+        let order = match run.words {
+            ["rekey" | "migrate", ..] => " The first line is the old key.",
+            _ => "",
+        };
+        say(
+            rt,
+            format_args!(
+                "the key does not fit under version {version}: `probe` finds the version.{order} The README's section \"When the key \
+                is refused\" lists what else it may be"
             ),
         );
     }
 }
 
-// A key that was set otherwise than it was meant opens the file to nobody who does not know that.
-fn explain_new_key(rt: &HostRuntime, words: &[&str], input: &InputSource) {
-    let form = match words {
-        ["rekey", ..] | ["migrate", ..] => advice_on_form(&input.second),
-        ["make", ..] => advice_on_form(&input.line),
-        _ => None,
+fn explain_refusal(rt: &HostRuntime, run: &Ended, refusal: Refusal, is_played: bool) {
+    let words = match refusal {
+        Refusal::KeyMissing => KEY_MISSING,
+        Refusal::KeyEmpty => KEY_EMPTY,
+        Refusal::KeyTooLong => KEY_TOO_LONG,
+        Refusal::KeyForm => KEY_WITH_SALT,
+        Refusal::LayoutDiffers => LAYOUT_DIFFERS,
+        Refusal::FileThere => FILE_THERE,
+        Refusal::JournalThere => JOURNAL_THERE,
+        Refusal::JournalPageSize { .. } => JOURNAL_PAGE_SIZE,
+        Refusal::SuperJournal => SUPER_JOURNAL,
+        Refusal::Short { .. } => SHORT,
+        Refusal::Ragged { .. } => RAGGED,
+        Refusal::WalMode | Refusal::AutoVacuum => return explain_mode(rt, run.version()),
+        // After a playback it was said already what it may be.
+        Refusal::PageTag { .. } | Refusal::Defect(_) if is_played => return,
+        Refusal::PageTag { .. } if run.words.first() == Some(&"tags") => TAGS_REFUSED,
+        Refusal::PageTag { .. } | Refusal::Defect(_) => DAMAGED,
+        _ => return,
     };
-    if let Some(words) = form {
-        say(rt, format_args!("of the new key: {words}"));
+    say(rt, words);
+}
+
+// A file that has a log's mode, or pointer-map pages, or both.
+fn explain_mode(rt: &HostRuntime, version: &str) {
+    say(
+        rt,
+        format_args!(
+            "a file in WAL mode or with auto-vacuum is not served: on a copy of FILE, with FILE-wal, give to `sqlcipher` 4: \
+            PRAGMA key = '..'; PRAGMA cipher_compatibility = {version}; PRAGMA journal_mode = DELETE; PRAGMA auto_vacuum = 0; VACUUM;"
+        ),
+    );
+}
+
+// What the files are where a fault leaves it open.
+fn explain_state(rt: &HostRuntime, run: &Ended, folder: &Folder) {
+    if !matches!(
+        run.status,
+        Status::DiskFault | Status::OutputFault | Status::EntropyFault
+    ) {
+        return;
+    }
+    let deeds = folder.deeds;
+    if deeds.has_changed && run.conflict() == Some(Conflict::JournalTaken) {
+        explain_taken(rt, run, folder);
+    } else if deeds.has_changed || deeds.has_renamed {
+        explain_either(rt, run, folder);
+    } else if run.status == Status::DiskFault {
+        explain_untouched(rt, run, folder);
     }
 }
 
-// What the file is where a fault leaves open whether the command was done.
-fn advice_on_end(words: &[&str]) -> Option<&'static str> {
-    match words {
-        ["rekey", ..] | ["migrate", ..] => Some(EITHER_KEY),
-        ["stamp", ..] => Some(EITHER_NUMBER),
-        ["make", ..] => Some(EITHER_FILE),
-        _ => None,
-    }
-}
-
-// What the status alone tells.
-fn advice_on(status: Status) -> Option<&'static str> {
-    match status {
-        Status::Usage => Some(USAGE),
-        Status::OutOfMemory => Some(OUT_OF_MEMORY),
-        Status::Refused(refusal) => advice_on_refusal(refusal),
-        _ => None,
-    }
-}
-
-fn advice_on_refusal(refusal: Refusal) -> Option<&'static str> {
-    match refusal {
-        Refusal::KeyMissing => Some(KEY_MISSING),
-        Refusal::KeyForm => Some(KEY_WITH_SALT),
-        Refusal::JournalThere => Some(JOURNAL_THERE),
-        Refusal::JournalPageSize { .. } => Some(JOURNAL_PAGE_SIZE),
-        Refusal::SuperJournal => Some(SUPER_JOURNAL),
-        Refusal::Short { .. } => Some(SHORT),
-        Refusal::Ragged { .. } => Some(RAGGED),
-        Refusal::WalMode => Some(WAL_MODE),
-        Refusal::AutoVacuum => Some(AUTO_VACUUM),
-        _ => None,
-    }
-}
-
-// What the form of a key line tells of how else it may have been meant.
-fn advice_on_form(line: &LineForm) -> Option<&'static str> {
-    if line.is_bare_key() {
-        Some(BARE_KEY)
-    } else if line.ends_in_return() {
-        Some(CARRIAGE_RETURN)
-    } else if line.ends_in_space() {
-        Some(SPACE)
-    } else if line.is_quoted() {
-        Some(QUOTES)
+// The journal was taken away while the file was part new.
+fn explain_taken(rt: &HostRuntime, run: &Ended, folder: &Folder) {
+    let path = Shown(folder.main_path());
+    if folder.is_journal_closed() {
+        say(
+            rt,
+            format_args!("{path}: it is the new one; its journal was of no more use"),
+        );
+    } else if folder.deeds.is_played_back {
+        say(
+            rt,
+            format_args!(
+                "{path}: it is the old one again, and nothing more was written: `verify {}` it with the old key",
+                run.version()
+            ),
+        );
     } else {
-        None
+        say(
+            rt,
+            format_args!(
+                "{path}: it may be part old and part new; put its journal back, or take the copy made before"
+            ),
+        );
+    }
+}
+
+fn explain_either(rt: &HostRuntime, run: &Ended, folder: &Folder) {
+    if folder.has_own_journal() {
+        say(
+            rt,
+            format_args!(
+                "{}: it stands: keep it beside the file until it is played back",
+                Shown(folder.journal_path())
+            ),
+        );
+    }
+    let version = run.version();
+    match run.words {
+        ["rekey" | "migrate", ..] => say(
+            rt,
+            format_args!(
+                "unless another program changed it meanwhile, the file is whole, under the old key or under the new one: \
+                `recover {version}`, then `probe` with each key"
+            ),
+        ),
+        ["stamp", ..] => say(
+            rt,
+            format_args!(
+                "unless another program changed it meanwhile, the file is whole, with the old number or with the new one: \
+                `recover {version}`, then `header {version}`"
+            ),
+        ),
+        ["make", ..] => say(
+            rt,
+            format_args!("there is no file, or the whole one: `verify {version}` tells which"),
+        ),
+        _ => {}
+    }
+}
+
+// Nothing was written, or nothing but a recovery.
+fn explain_untouched(rt: &HostRuntime, run: &Ended, folder: &Folder) {
+    let is_change = matches!(run.words, ["rekey" | "migrate" | "stamp" | "make", ..]);
+    let deeds = folder.deeds;
+    if !is_change && run.conflict().is_none() || deeds.laid > 0 && !deeds.has_dropped {
+        return;
+    }
+    let path = Shown(folder.main_path());
+    if deeds.laid > 0 {
+        say(
+            rt,
+            format_args!("{path}: nothing was written to it after the recovery"),
+        );
+    } else {
+        say(rt, format_args!("{path}: it was not touched"));
+    }
+    if folder.has_own_journal() {
+        say(
+            rt,
+            format_args!(
+                "{}: it was not begun to be used; `recover {}` removes it",
+                Shown(folder.journal_path()),
+                run.version()
+            ),
+        );
+    }
+}
+
+// A new file that has not taken the place of the old one.
+fn explain_fresh(rt: &HostRuntime, run: &Ended, folder: &mut Folder) {
+    let is_asked = matches!(run.words, ["recover" | "verify" | "probe", ..]);
+    if run.status == Status::Usage || !is_asked && !folder.has_own_fresh() {
+        return;
+    }
+    let Some((path, is_unfinished)) = folder.left_fresh() else {
+        return;
+    };
+    let path = Shown(path);
+    if is_unfinished {
+        say(
+            rt,
+            format_args!(
+                "{path}: an unfinished new file, no part of the database; it may be removed"
+            ),
+        );
+    } else {
+        say(
+            rt,
+            format_args!(
+                "{path}: it is there, and `migrate` and `make` refuse until it is moved away"
+            ),
+        );
     }
 }

@@ -8,7 +8,7 @@ database anew in another version. It writes nothing else to them. It also makes
 databases of any number of rows.
 
 usage: sqlcipher-tool FILE COMMAND [PROFILE [PROFILE | N | FIELD N]] < KEYS
-       sqlcipher-tool --help | --version
+       sqlcipher-tool --help | -h | help | --version
 
 commands
   tags PROFILE    check the tag of every page; prints a line for each page whose
@@ -17,7 +17,8 @@ commands
   verify PROFILE  check the freelist, the tags of the pages in use, the schema and
                   every tree; prints what is wrong, or `ok:` and the counts
   export PROFILE  check the whole database, and print every row and entry as text,
-                  which tools/export_to_sql.py turns into SQL
+                  which tools/export_to_sql.py turns into SQL (it is installed in
+                  share/sqlcipher-tool)
   probe           find the profile whose key fits; prints `profile N`
   recover PROFILE play the journal beside the file back into it and remove it;
                   prints `played: N`, `cold` or `nothing`, and takes no key
@@ -36,12 +37,20 @@ commands
                   write the database anew in the second profile, under the second
                   key, and put it in the file's place; prints `migrated: N pages`.
                   A stop at any moment leaves the old file or the new one.
-                  The new one is FILE-migrated until it is done: what else has this
-                  name is removed, and what a stop leaves there is of no use
+                  The new one is FILE-migrated until it is done. What a stop leaves
+                  there is of no use, and the next run removes it; any other file
+                  of this name is refused, with status 4
   make PROFILE N  make a database of N rows, at most 4294967295, where there is
                   neither a file nor a journal; prints `made: N rows, B data bytes`.
                   A stop at any moment leaves no file or the whole one. It uses the
                   name FILE-migrated too
+
+who else has the file
+  Where another run of this program has it, or a program that keeps SQLite's
+  locks, a command ends with status 4. It looks before it recovers and before
+  each write; so it does where the file or its journal was replaced meanwhile,
+  or FILE-wal has a byte. `probe` answers beside another program and beside a
+  log, and says that they are there
 
 profiles
   1, 2, 3, 4      the version of SQLCipher that wrote the file (1 has no tags)
@@ -50,13 +59,16 @@ standard input: one line, the key, but for `recover`; for `rekey` and `migrate`
 two, the old key and the new one
   x'HEX'          a raw key, 64 hex digits
   anything else   a passphrase, 1 to 1,024 bytes up to the line feed
+`rekey`, `migrate` and `make` say which of the two the new key was taken as, and
+look whether the input goes on after it
 
 exit status
   0  done
   1  the words are no command
   2  refused: the lines say why
   3  the key does not fit the file
-  4  the disk failed. A command that changes or makes a file may be done or not
+  4  the disk failed, or somebody else is at the file. A command that changes or
+     makes a file may be done or not: standard error says what is known
   5  standard output failed. The same
   6  standard input failed
   7  the source of random bytes failed

@@ -3,17 +3,24 @@
 
 mod advice;
 mod failure;
+mod folder;
 mod folder_disk;
 mod help;
-mod line_form;
+mod identity;
+mod key_line;
+mod key_words;
+mod lock_table;
 mod paths;
 mod progress;
 mod role_file;
 mod streams;
 #[cfg(test)]
 mod tests;
+mod undo;
+mod usage;
 
-use failure::Failure;
+use advice::Ended;
+use failure::failed;
 use folder_disk::FolderDisk;
 use paths::Paths;
 use progress::Progress;
@@ -54,7 +61,7 @@ fn answer(rt: &HostRuntime, words: &[String]) -> u8 {
         return out_of_memory(rt);
     };
     match words.as_slice() {
-        ["--help"] => print(rt, help::HELP),
+        ["--help" | "-h" | "help"] | [_, "--help"] => print(rt, help::HELP),
         ["--version"] => print(rt, help::VERSION),
         [] => serve(rt, "", &[]),
         [file, rest @ ..] => serve(rt, file, rest),
@@ -70,8 +77,7 @@ fn print(rt: &HostRuntime, text: &str) -> u8 {
     match rt.print(text) {
         Ok(()) => Status::Done.code(),
         Err(error) => {
-            let (name, call) = ("standard output", "write");
-            advice::say(rt, Failure { name, call, error });
+            advice::say(rt, failed("standard output", "write", error));
             Status::OutputFault.code()
         }
     }
@@ -82,15 +88,30 @@ fn serve(rt: &HostRuntime, file: &str, words: &[&str]) -> u8 {
         return out_of_memory(rt);
     };
     let progress = Progress::new(rt);
-    let mut disk = FolderDisk::new(rt, &paths, &progress);
+    let is_probe = words.first() == Some(&"probe");
+    let Ok(mut disk) = FolderDisk::new(rt, &paths, &progress, is_probe) else {
+        return out_of_memory(rt);
+    };
     let mut input = InputSource::new(rt);
     let mut out = OutputSink::new(rt, &progress);
     let mut entropy = DeviceEntropy::new(rt);
     let alloc = rt.alloc();
     let status = run(alloc, words, &mut input, &mut out, &mut entropy, &mut disk);
     progress.clear();
-    advice::explain(
-        rt, status, file, words, &input, &out, &entropy, &mut disk, &progress,
-    );
+    disk.folder.discard_fresh();
+    let failure = match status {
+        Status::DiskFault => disk.last,
+        Status::OutputFault => out.last,
+        Status::InputFault => input.last,
+        Status::EntropyFault => entropy.last,
+        _ => None,
+    };
+    let run = Ended {
+        status,
+        path: file,
+        words,
+        failure,
+    };
+    advice::explain(rt, &run, &input, &mut disk.folder);
     status.code()
 }

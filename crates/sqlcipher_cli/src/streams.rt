@@ -3,21 +3,29 @@ ghost use Rattle.std.specs.Prelude.{◌≤◌, ◌<◌, ◌≤ℤ◌, [], false,
 ghost use Rattle.std.specs.Fd.{file_raw_fd};
 
 use crate::failure::{Failure, called, settle};
-use crate::line_form::LineForm;
+use crate::key_line::KeyLine;
 use crate::progress::Progress;
 use edge_model::{Entropy, Failed, Sink, Source};
-use std::fs::{File, OpenOptions};
-use std::io::{self, Read, Write};
+use std::fs::{self, File, OpenOptions};
+use std::io::{self, IsTerminal, Read, Write};
 use std::os::fd::AsRawFd;
+use std::os::unix::fs::FileTypeExt;
+use std::str;
+
+/// The file that is standard input.
+const STANDARD_INPUT: &str = "/proc/self/fd/0";
+
+/// What the system tells of it: its first line says how far it was read.
+const STATE_OF_INPUT: &str = "/proc/self/fdinfo/0";
 
 /// Standard input.
 #[derive(Drop)]
 pub struct InputSource<'a> {
     rt: &'a HostRuntime,
-    /// What shows of the first line.
-    pub line: LineForm,
-    /// What shows of the second line.
-    pub second: LineForm,
+    /// The first line.
+    pub line: KeyLine,
+    /// The second line.
+    pub second: KeyLine,
     /// How often the stream has failed.
     pub faults: u64,
     /// The last failure.
@@ -28,10 +36,26 @@ impl<'a> InputSource<'a> {
     pub fn new(rt: &'a HostRuntime) -> InputSource<'a> {
         InputSource {
             rt,
-            line: LineForm::new(),
-            second: LineForm::new(),
+            line: KeyLine::new(),
+            second: KeyLine::new(),
             faults: 0,
             last: None,
+        }
+    }
+
+    /// Whether bytes come after those that were taken. A terminal is not asked, since it would wait for what is typed, and a
+    /// file is not read further, since another program may go on there; a pipe is read to its end or one byte on.
+    pub fn goes_on(&self) -> bool {
+        if self.rt.stdin().is_terminal() {
+            return false;
+        }
+        match fs::metadata(self.rt, STANDARD_INPUT) {
+            Ok(found) if found.is_file() => place_in_input(self.rt) < found.len(),
+            Ok(found) if found.file_type().is_fifo() || found.file_type().is_socket() => {
+                let mut byte = [0u8];
+                matches!(read_some(self.rt, &mut byte), Ok(1))
+            }
+            _ => false,
         }
     }
 }
@@ -55,6 +79,25 @@ impl<'a> Source for InputSource<'a> {
         }
         settle(&mut self.faults, &mut self.last, outcome)
     }
+}
+
+// How far standard input was read, in bytes. Where that can't be known it has ended.
+fn place_in_input(rt: &HostRuntime) -> u64 {
+    let mut text = [0u8; 64];
+    let read = match File::open(rt, STATE_OF_INPUT) {
+        Ok(mut file) => file.read(&mut text),
+        Err(error) => Err(error),
+    };
+    match read {
+        Ok(count) => offset_in(&text[..count]).unwrap_or(u64::MAX),
+        Err(_) => u64::MAX,
+    }
+}
+
+// The number in a text that begins with `pos:` and it.
+fn offset_in(text: &[u8]) -> Option<u64> {
+    let line = str::from_utf8(text).ok()?.lines().next()?;
+    line.strip_prefix("pos:")?.trim().parse::<u64>().ok()
 }
 
 fn read_some(rt: &HostRuntime, buf: &mut [u8]) -> io::Result<usize>

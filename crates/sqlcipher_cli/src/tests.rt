@@ -1,8 +1,9 @@
 // The adapters over a real folder.
 ghost use Rattle.std.specs.Prelude.{◌≡◌, false};
 
+use crate::failure::Conflict;
 use crate::folder_disk::FolderDisk;
-use crate::line_form::LineForm;
+use crate::key_line::KeyLine;
 use crate::paths::Paths;
 use crate::progress::Progress;
 use crate::streams::DeviceEntropy;
@@ -33,7 +34,7 @@ fn page(alloc: Global) -> Result<Vec<u8>, Fail> {
 fn answer(rt: &HostRuntime, alloc: Global, path: &str) -> Result<(Status, Vec<u8>), Fail> {
     let paths = Paths::new(rt, path)?;
     let progress = Progress::new(rt);
-    let mut disk = FolderDisk::new(rt, &paths, &progress);
+    let mut disk = FolderDisk::new(rt, &paths, &progress, false)?;
     let mut input = MemSource::new(alloc, KEY, &[])?;
     let mut out = MemSink::new(alloc, &[])?;
     let mut entropy = DeviceEntropy::new(rt);
@@ -122,7 +123,7 @@ fn answers_as_in_memory(
     fs::write(rt, path, b"twelve bytes")?;
     let paths = Paths::new(rt, path)?;
     let progress = Progress::new(rt);
-    let mut real = FolderDisk::new(rt, &paths, &progress);
+    let mut real = FolderDisk::new(rt, &paths, &progress, false)?;
     let inner = MemDisk::with_files(alloc, Some(b"twelve bytes"), None, None);
     let mut told = SilentDisk {
         inner: inner.map_err(|_| AllocError)?,
@@ -156,7 +157,7 @@ fn makes_files_as_main(
 ) -> Result<(), Fail> {
     let paths = Paths::new(rt, link)?;
     let progress = Progress::new(rt);
-    let mut disk = FolderDisk::new(rt, &paths, &progress);
+    let mut disk = FolderDisk::new(rt, &paths, &progress, false)?;
     assert_eq!(test; disk.create(Journal), Ok(()));
     assert_eq!(test; disk.create(Journal), Err(Failed));
     assert_eq!(test; mode_of(rt, paths.journal.as_str())?, 0o640);
@@ -174,7 +175,7 @@ fn keeps_the_link(test: &impl Abort, rt: &HostRuntime, path: &str, link: &str) -
     fs::remove_file(rt, path)?;
     let paths = Paths::new(rt, link)?;
     let progress = Progress::new(rt);
-    let mut disk = FolderDisk::new(rt, &paths, &progress);
+    let mut disk = FolderDisk::new(rt, &paths, &progress, false)?;
     assert_eq!(test; disk.length(Main), Err(Failed));
     assert_eq!(test; disk.create(Main), Err(Failed));
     Ok(())
@@ -201,14 +202,24 @@ fn refuses(test: &impl Abort, rt: &HostRuntime, path: &str) -> Result<(), Fail> 
     fs::write(rt, path, b"twelve bytes")?;
     let paths = Paths::new(rt, path)?;
     let progress = Progress::new(rt);
-    let mut disk = FolderDisk::new(rt, &paths, &progress);
+    let mut disk = FolderDisk::new(rt, &paths, &progress, false)?;
     let mut buf = [0u8; 10];
     assert_eq!(test; disk.length(Main), Ok(Some(12)));
     fs::write(rt, path, b"twelve")?;
     assert_eq!(test; disk.read_at(Main, 4, &mut buf), Err(Failed));
+    // Another wrote to it since it was looked at.
+    assert_eq!(test; disk.write_at(Main, 0, b"x"), Err(Failed));
+    Ok(())
+}
+
+// A file that may only be read.
+fn reads_alone(test: &impl Abort, rt: &HostRuntime, path: &str) -> Result<(), Fail> {
     let mut permissions = fs::metadata(rt, path)?.permissions();
     permissions.set_readonly(true);
     fs::set_permissions(rt, path, permissions)?;
+    let paths = Paths::new(rt, path)?;
+    let progress = Progress::new(rt);
+    let mut disk = FolderDisk::new(rt, &paths, &progress, false)?;
     // A privileged process may write it all the same.
     let denied = OpenOptions::new().write(true).open(rt, path).is_err();
     assert_eq!(test; disk.write_at(Main, 0, b"x").is_err(), denied);
@@ -218,6 +229,48 @@ fn refuses(test: &impl Abort, rt: &HostRuntime, path: &str) -> Result<(), Fail> 
     assert_eq!(test; disk.remove(Journal).is_err(), denied);
     fs::remove_file(rt, path)?;
     Ok(())
+}
+
+// A second run, a log with a byte, a file that took the name, and what is no unfinished file under the new file's name.
+fn keeps_others_out(test: &impl Abort, rt: &HostRuntime, path: &str) -> Result<(), Fail> {
+    fs::write(rt, path, b"twelve bytes")?;
+    let paths = Paths::new(rt, path)?;
+    let progress = Progress::new(rt);
+    let mut disk = FolderDisk::new(rt, &paths, &progress, false)?;
+    assert_eq!(test; disk.length(Main), Ok(Some(12)));
+    assert_eq!(test;
+        conflict_at(rt, &paths, &progress, false),
+        Some(Conflict::OtherRun)
+    );
+    fs::write(rt, paths.fresh.as_str(), b"precious")?;
+    assert_eq!(test; disk.remove(Fresh), Err(Failed));
+    assert!(test; disk.last.and_then(|last| last.conflict()) == Some(Conflict::InTheWay));
+    fs::write(rt, paths.fresh.as_str(), [0u8; 2000].as_slice())?;
+    assert_eq!(test; disk.remove(Fresh), Ok(()));
+    fs::write(rt, paths.fresh.as_str(), b"other bytes")?;
+    fs::rename(rt, paths.fresh.as_str(), path)?;
+    assert_eq!(test; disk.write_at(Main, 0, b"x"), Err(Failed));
+    assert!(test; disk.last.and_then(|last| last.conflict()) == Some(Conflict::Replaced));
+    fs::write(rt, paths.log.as_str(), b"l")?;
+    assert_eq!(test;
+        conflict_at(rt, &paths, &progress, false),
+        Some(Conflict::Log)
+    );
+    assert_eq!(test; conflict_at(rt, &paths, &progress, true), None);
+    fs::remove_file(rt, paths.log.as_str())?;
+    fs::remove_file(rt, path)?;
+    Ok(())
+}
+
+fn conflict_at(
+    rt: &HostRuntime,
+    paths: &Paths,
+    progress: &Progress,
+    is_probe: bool,
+) -> Option<Conflict> {
+    let mut disk = FolderDisk::new(rt, paths, progress, is_probe).ok()?;
+    let _ = disk.length(Main);
+    disk.last?.conflict()
 }
 
 #[test]
@@ -243,13 +296,15 @@ fn serves_the_files_of_a_folder(rt: HostRuntime) -> Result<(), Fail> {
     answers_as_in_memory(&rt, &rt, alloc, path.as_str())?;
     follows_links(&rt, &rt, alloc, path.as_str())?;
     refuses(&rt, &rt, path.as_str())?;
+    reads_alone(&rt, &rt, path.as_str())?;
+    keeps_others_out(&rt, &rt, path.as_str())?;
     fs::remove_dir(&rt, folder.as_str())?;
     Ok(())
 }
 
-// Whether the line is a bare key, ends in a return, ends in a space, is quoted. It comes in two pieces.
-fn shows(first: &[u8], second: &[u8]) -> [bool; 4] {
-    let mut line = LineForm::new();
+// What shows of a line that comes in two pieces, in the order of the questions.
+fn shows(first: &[u8], second: &[u8]) -> [bool; 11] {
+    let mut line = KeyLine::new();
     line.see(first);
     line.see(second);
     [
@@ -257,24 +312,69 @@ fn shows(first: &[u8], second: &[u8]) -> [bool; 4] {
         line.ends_in_return(),
         line.ends_in_space(),
         line.is_quoted(),
+        line.is_raw(),
+        line.is_broken_raw(),
+        line.is_statement(),
+        line.begins_with_mark(),
+        line.begins_with_space(),
+        line.has_tab(),
+        line.has_control(),
     ]
+}
+
+// All but these are false.
+fn only(questions: &[usize]) -> [bool; 11] {
+    let mut answers = [false; 11];
+    for question in questions {
+        if *question < 11 {
+            answers[*question] = true;
+        }
+    }
+    answers
 }
 
 #[test]
 fn a_key_line_shows_its_form(rt: HostRuntime) -> Result<(), Fail> {
     let digits = &KEY[2..66];
-    let table: [(&[u8], &[u8], [bool; 4]); 8] = [
-        (digits, b"\n", [true, false, false, false]),
-        (&digits[..63], b"\n", [false, false, false, false]),
-        (&digits[1..], b"g\n", [false, false, false, false]),
-        (KEY, b"", [false, false, false, false]),
-        (b"pass", b"word\r\n \n", [false, true, false, false]),
-        (b"password ", b"\n", [false, false, true, false]),
-        (b"'pass", b"'", [false, false, false, true]),
-        (b"\"", b"\n", [false, false, false, false]),
+    let table: [(&[u8], &[u8], &[usize]); 17] = [
+        (digits, b"\n", &[0]),
+        (&digits[..63], b"\n", &[]),
+        (&digits[1..], b"g\n", &[]),
+        (KEY, b"", &[4]),
+        (b"X'", &KEY[2..], &[4]),
+        (&KEY[..65], b"'\n", &[5]),
+        (b"x\"", b"ab\"\n", &[5]),
+        (b"pass", b"word\r\n \n", &[1, 10]),
+        (b"password ", b"\n", &[2]),
+        (b" password", b"\n", &[8]),
+        (b"pass", b"\tword\n", &[9, 10]),
+        (b"pass\0", b"word\n", &[10]),
+        (b"\xef\xbb\xbf", b"password\n", &[7]),
+        (b"pragma ", b"key = 'a'\n", &[6]),
+        (b"'pass", b"'", &[3]),
+        (b"\"", b"\n", &[]),
+        (b"", b"\n", &[]),
     ];
     for (first, second, form) in table {
-        assert_eq!(rt; shows(first, second), form);
+        assert_eq!(rt; shows(first, second), only(form));
     }
+    Ok(())
+}
+
+fn line_of(bytes: &[u8]) -> KeyLine {
+    let mut line = KeyLine::new();
+    line.see(bytes);
+    line
+}
+
+#[test]
+fn two_lines_of_one_key_are_seen(rt: HostRuntime) -> Result<(), Fail> {
+    let alloc = rt.alloc();
+    let mut upper = KEY.to_vec(alloc)?;
+    upper.make_ascii_uppercase();
+    assert!(rt; line_of(KEY).is_same_key(&line_of(upper.as_slice())));
+    assert!(rt; line_of(b"pass\n").is_same_key(&line_of(b"pass")));
+    assert!(rt; !line_of(b"pass").is_same_key(&line_of(b"Pass")));
+    assert!(rt; !line_of(b"pass").is_same_key(&line_of(b"pass ")));
     Ok(())
 }

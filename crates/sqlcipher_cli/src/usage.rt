@@ -1,0 +1,93 @@
+// Why the words are no command.
+use crate::advice::say;
+use crate::failure::Shown;
+
+/// The commands that take a version and nothing else.
+const READERS: [&str; 5] = ["tags", "header", "verify", "export", "recover"];
+
+/// Says what is missing, or which word is none.
+pub fn explain_usage(rt: &HostRuntime, words: &[&str]) {
+    match words {
+        [] => say(
+            rt,
+            "these words are no command, or one of them is not UTF-8; --help lists the commands",
+        ),
+        ["probe", ..] => say(
+            rt,
+            "`probe` takes no further word; --help lists the commands",
+        ),
+        ["stamp", rest @ ..] => explain_form(
+            rt,
+            rest.first(),
+            "`stamp` takes a version, `user-version` or `application-id`, and a number up to 4294967295",
+        ),
+        ["make", rest @ ..] => explain_form(
+            rt,
+            rest.first(),
+            "`make` takes a version, and how many rows, up to 4294967295",
+        ),
+        ["rekey", rest @ ..] => explain_pair(rt, "rekey", rest),
+        ["migrate", rest @ ..] => explain_pair(rt, "migrate", rest),
+        [name, rest @ ..] if READERS.contains(name) => explain_reader(rt, name, rest),
+        [name, ..] => say(
+            rt,
+            format_args!(
+                "unknown command `{}`; --help lists the commands",
+                Shown(name)
+            ),
+        ),
+    }
+}
+
+// A command that takes one version.
+fn explain_reader(rt: &HostRuntime, name: &str, words: &[&str]) {
+    match words {
+        [version] => explain_version(rt, version),
+        [] => say(
+            rt,
+            format_args!(
+                "`{name}` takes the version that wrote the file, 1, 2, 3 or 4, which `probe` finds; --help lists the commands"
+            ),
+        ),
+        _ => say(
+            rt,
+            format_args!("`{name}` takes a version and nothing else; --help lists the commands"),
+        ),
+    }
+}
+
+// A command that takes two versions.
+fn explain_pair(rt: &HostRuntime, name: &str, words: &[&str]) {
+    match words {
+        [old, new] if is_version(old) => explain_version(rt, new),
+        [old, _] => explain_version(rt, old),
+        _ => say(
+            rt,
+            format_args!(
+                "`{name}` takes two versions, that of the file, which `probe` finds, and that of the new key; --help lists the commands"
+            ),
+        ),
+    }
+}
+
+// A command that takes a version and more.
+fn explain_form(rt: &HostRuntime, version: Option<&&str>, form: &str) {
+    match version {
+        Some(word) if !is_version(word) => explain_version(rt, word),
+        _ => say(rt, format_args!("{form}; --help lists the commands")),
+    }
+}
+
+fn explain_version(rt: &HostRuntime, word: &str) {
+    say(
+        rt,
+        format_args!(
+            "`{}` is no version: there are 1, 2, 3 and 4, and `probe` finds that of a file; --help lists the commands",
+            Shown(word)
+        ),
+    );
+}
+
+fn is_version(word: &str) -> bool {
+    matches!(word, "1" | "2" | "3" | "4")
+}
