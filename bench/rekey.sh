@@ -16,7 +16,7 @@ import os, resource, shutil, subprocess, tempfile, time
 RUNS = 5
 ROWS = 95_000
 LARGE_ROWS = 855_000
-LIMIT = 4 * 2 ** 20
+LIMIT = 6 * 2 ** 20
 OLD = "x''000102030405060708090a0b0c0d0e0f101112131415161718191a1b1c1d1e1f''"
 NEW = "x''ffffffffffffffffffffffffffffffffffffffffffffffffffffffffffffffff''"
 LINE = (OLD.replace("''", "'") + "\n").encode()

@@ -1,11 +1,40 @@
-# What the scripts of this folder share: the product, and stops at calls of the system. It is sourced, with `top`, the folder of the
-# repository, and `program` set.
+# What the scripts of this folder share: what was left out, the product, and stops at calls of the system. It is sourced, with these set:
+# `top`, the folder of the repository, `program`, and `scratch`, a folder that the script removes.
+
+# A script goes on where it has to leave something out, and says what and why in its last line.
+leave_out() { echo "$*" >> "$scratch/left-out"; }      # leave_out WHAT, since WHY
+
+finish() { # finish WRONG: the end of a script: 1 where something is wrong, 77 where something was left out, else 0
+    [ "$1" -eq 0 ] || exit 1
+    [ -e "$scratch/left-out" ] || exit 0
+    echo "left out: $(paste -sd ';' "$scratch/left-out" | sed 's/;/; /g')"
+    exit 77
+}
+
+has() { command -v "$1" > /dev/null; }
+
+has_reference() { python3 -c 'import cryptography' 2> /dev/null; }      # the reference in tests/reference can be run
+
+[ -x "$program" ] || { echo "$program is not built: ./sqlcipher-tool --version builds it"; exit 1; }
 
 four=${SQLCIPHER4:-$(command -v sqlcipher4 || true)}
 [ -n "$four" ] || { [ ! -x "$top/out/product/sqlcipher4" ] || four=$top/out/product/sqlcipher4; }
 
 product() { # product VERSION: the product that writes this version, or nothing
-    if [ "$1" = 4 ]; then echo "$four"; else echo sqlcipher; fi
+    if [ "$1" = 4 ]; then echo "$four"; elif has sqlcipher; then echo sqlcipher; fi
+}
+
+# The product's files, in `files`, with their table in `table`: those that tests/all.sh made, else they are made here, in a minute.
+find_files() {
+    local status=0
+    files=${PRODUCT_FILES:-$scratch/product}
+    table=$files/table.tsv
+    if [ -z "${PRODUCT_FILES:-}" ]; then
+        "$top/tests/product_files.sh" "$files" > "$scratch/made" 2>&1 || status=$?
+        [ "$status" -eq 0 ] || [ "$status" -eq 77 ] || { cat "$scratch/made"; exit 1; }
+    fi
+    [ ! -e "$files/left-out" ] || cat "$files/left-out" >> "$scratch/left-out"
+    [ -s "$table" ]
 }
 
 quoted() { printf '%s' "$1" | sed "s/'/''/g"; }
@@ -40,4 +69,16 @@ stopped_at() { # stopped_at NAME NUMBER WORDS..: this call is not made, and the 
     local name=$1 number=$2
     shift 2
     strace -f -qq -o /dev/null -e trace="$name" -e inject="$name:error=EIO:signal=KILL:when=$number" "$program" "$@"
+}
+
+stop_rekey() { # stop_rekey FILE KEYS: a `rekey 3 3` killed at its tenth write of a page; prints how many pages its hot journal has
+    local copy=$1-rekeyed calls=$1-calls place
+    cp "$1" "$copy" && strace -f -qq -y -o "$calls" -e trace=pwrite64 "$program" "$copy" rekey 3 3 < "$2" > /dev/null 2>&1 || return
+    place=$(awk -v main="<$(readlink -f "$copy")>" '
+        { number++ }
+        index($0, main) && ++pages == 10 { print number, records; exit }
+        /, 1032, [0-9]+\) += 1032/ { records++ }' "$calls")
+    { stopped_at pwrite64 "${place% *}" "$1" rekey 3 3 < "$2" > /dev/null 2>&1; } 2> /dev/null
+    rm -f "$copy" "$calls"
+    echo "${place#* }"
 }

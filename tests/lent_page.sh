@@ -1,18 +1,30 @@
 #!/usr/bin/env bash
 # A page that a pager lent can't be kept across its next call: a program that does so does not compile. The same program with the
-# two pages one after the other does, so what is refused is the loan.
+# two pages one after the other does, so what is refused is the loan. It needs rt.
 set -u
 top=$(cd "$(dirname "$0")/.." && pwd)
 folder=$(mktemp -d)
 trap 'rm -rf "$folder"' EXIT
 tar -C "$top" --exclude=out -cf - crates | tar -C "$folder" -xf -
 cp "$top/crates.txt" "$top/HANDLES" "$folder/"
-cd "$folder/crates/pager" || exit 1
-cp src/pager.rt before.rt
+# A crate over the pager with this program alone: rt compiles a library where it has a test.
+cd "$folder/crates/pager_tests" && rm -rf src proofs specs && mkdir src || exit 1
 
-# compiles BODY: whether the crate compiles with a function of this body, which is not proved
-compiles() {
-    { cat before.rt; printf '\npub fn two<D: Disk, E: Entropy>(pager: &mut Pager<%s, D, E>) -> bool {\n    %s\n}\n' "'_" "$1"; } > src/pager.rt
+compiles() { # compiles BODY: whether a function of this body, which is not proved, compiles
+    cat > src/lib.rt <<PROGRAM
+//! Two pages of a pager.
+#![tactic(auto)]
+
+use edge_model::{Disk, Entropy};
+use pager::Pager;
+
+pub fn two<D: Disk, E: Entropy>(pager: &mut Pager<'_, D, E>) -> bool {
+    $1
+}
+
+#[test]
+fn none() {}
+PROGRAM
     rt try --test > said 2>&1
 }
 

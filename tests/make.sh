@@ -5,8 +5,7 @@
 #
 #     tests/make.sh
 #
-# PROGRAM names another program, SQLCIPHER4 the product built for version 4. What can't be done here is left out, with a
-# line that says so.
+# PROGRAM names another program, SQLCIPHER4 the product built for version 4.
 set -u
 top=$(cd "$(dirname "$0")/.." && pwd) || exit 1
 program=${PROGRAM:-$top/out/sqlcipher-tool}
@@ -16,9 +15,10 @@ trap 'rm -rf "$folder"' EXIT
 export LC_ALL=C.UTF-8 HOME=$folder
 wrong=0
 
-[ -x "$program" ] || { echo "make: $program is not built"; exit 1; }
-python3 -c 'import cryptography' 2> /dev/null || { echo "make: skipped, since Python's cryptography is missing"; exit 0; }
+scratch=$folder
 . "$top/tests/common.sh"
+reference=
+if has_reference; then reference=1; else leave_out "the reference's reading of made files, since Python's cryptography is missing"; fi
 
 key="x'000102030405060708090a0b0c0d0e0f101112131415161718191a1b1c1d1e1f'"
 printf '%s\n' "$key" > "$folder/key"
@@ -39,9 +39,8 @@ SELECT count(*) FROM names;
 SQL
 }
 
-made() { # made VERSION ROWS
-    local version=$1 rows=$2 file=$folder/$1-$2.db line
-    line=$("$program" "$file" make "$version" "$rows" < "$folder/key") || say "$version $rows: ended with $?"
+by_reference() { # by_reference VERSION ROWS FILE LINE
+    local version=$1 rows=$2 file=$3 line=$4
     printf '%s\n' "$key" | python3 "$oracle" "$folder/other.db" make "$version" "$rows" > "$folder/line"
     rm -f "$folder/other.db"
     [ "$line" = "$(cat "$folder/line")" ] || say "$version $rows: the line is $line, and the reference's $(cat "$folder/line")"
@@ -49,12 +48,28 @@ made() { # made VERSION ROWS
         "$program" "$file" "$words" "$version" < "$folder/key" > "$folder/found" || say "$version $rows: $words ends with $?"
         python3 "$oracle" "$file" "$words" "$version" < "$folder/key" | cmp -s - "$folder/found" || say "$version $rows: $words is not the reference's"
     done
+}
+
+made() { # made VERSION ROWS
+    local version=$1 rows=$2 file=$folder/$1-$2.db line
+    line=$("$program" "$file" make "$version" "$rows" < "$folder/key") || say "$version $rows: ended with $?"
+    "$program" "$file" verify "$version" < "$folder/key" > /dev/null || say "$version $rows: verify ends with $?"
+    [ -z "$reference" ] || by_reference "$version" "$rows" "$file" "$line"
     [ "$version" = 1 ] || "$program" "$file" tags "$version" < "$folder/key" > /dev/null || say "$version $rows: a tag does not hold"
     [ "$("$program" "$file" make "$version" "$rows" < "$folder/key")" = "file is there" ] || say "$version $rows: a file that is there is not refused"
-    if [ -n "$(product "$version")" ] && command -v sqlcipher > /dev/null; then
+    if [ -n "$(product "$version")" ]; then
         { echo ".output /dev/null"; opening "$version" "$key"; echo ".output stdout"; rule "$rows"; } | "$(product "$version")" -batch "$file" > "$folder/found" 2>&1
         [ "$(tr '\n' ' ' < "$folder/found")" = "ok 0 0 $rows " ] || say "$version $rows: the product answers $(tr '\n' ' ' < "$folder/found")"
     fi
+}
+
+# An unfinished new file is no hindrance. A whole one that a stop has kept from its name is refused, and moved away by hand.
+make_way() { # make_way FOLDER
+    local left=$1/file-migrated
+    [ -s "$left" ] && [ -n "$(head -c 1024 "$left" | tr -d '\0')" ] || return 0
+    (cd "$1" && "$program" file make 4 7 < "$folder/key" > /dev/null 2> "$folder/errors")
+    [ $? -eq 4 ] && grep -q 'file-migrated: this file is in the way' "$folder/errors" || say "a whole new file is not refused"
+    rm "$left"
 }
 
 stops() { # a stop at each writing call of `make 4 7`
@@ -69,8 +84,8 @@ stops() { # a stop at each writing call of `make 4 7`
         [ $? -eq 137 ] || say "$name $number: not stopped"
         if [ ! -e "$folder/stopped/file" ]; then
             none=$((none + 1))
-            # What is left is no hindrance.
-            (cd "$folder/stopped" && "$program" file make 4 7 < "$folder/key" > /dev/null) || say "$name $number: not made after it"
+            make_way "$folder/stopped"
+            (cd "$folder/stopped" && "$program" file make 4 7 < "$folder/key" > /dev/null 2>&1) || say "$name $number: not made after it"
         fi
         [ "$("$program" "$folder/stopped/file" verify 4 < "$folder/key")" = "$line" ] || say "$name $number: the file is not whole"
         [ "$(ls "$folder/stopped")" = file ] || say "$name $number: something else is left: $(ls "$folder/stopped")"
@@ -81,10 +96,10 @@ stops() { # a stop at each writing call of `make 4 7`
 }
 
 for version in 1 2 3 4; do
-    [ -n "$(product "$version")" ] || echo "make: the product of version $version is not built here, and reads none"
+    [ -n "$(product "$version")" ] || leave_out "the product's reading of made files of version $version, since it is missing"
     for rows in 0 1 7 70 1000; do made "$version" "$rows"; done
 done
-if can_trace; then stops; else echo "make: the stops are left out, since strace is missing or cannot trace"; fi
+if can_trace; then stops; else leave_out "the stops of make, since strace is missing or cannot trace"; fi
 
 echo "make: $wrong wrong"
-[ "$wrong" -eq 0 ]
+finish "$wrong"

@@ -5,11 +5,9 @@
 # pages with a hot journal beside them: what is left is the old content by the old key and version or the new by the new, to the program
 # and on a copy to the product.
 #
-#     tests/migrate.sh [FOLDER TABLE]
+#     tests/migrate.sh
 #
-# FOLDER has the files of tests/reference/make_real_files.sh, each NAME.db with its key line in NAME.key, and TABLE a line for each,
-# as tests/reference/real_files.tsv has; without them there are the stops alone. PROGRAM names another program, SQLCIPHER4 the product
-# built for version 4. What can't be done here is left out, with a line that says so.
+# PROGRAM names another program, SQLCIPHER4 the product built for version 4, PRODUCT_FILES the folder that tests/product_files.sh made.
 set -u
 top=$(cd "$(dirname "$0")/.." && pwd) || exit 1
 program=${PROGRAM:-$top/out/sqlcipher-tool}
@@ -17,8 +15,6 @@ scratch=$(mktemp -d) || exit 1
 trap 'rm -rf "$scratch"' EXIT
 export LC_ALL=C.UTF-8 HOME=$scratch
 
-[ -x "$program" ] || { echo "migrate: $program is not built"; exit 1; }
-command -v sqlcipher > /dev/null || { echo "migrate: skipped, since sqlcipher is missing"; exit 0; }
 . "$top/tests/common.sh"
 
 k1="x'ffffffffffffffffffffffffffffffffffffffffffffffffffffffffffffffff'"
@@ -135,6 +131,15 @@ hot() { # hot VERSION FILE ROWS: FILE and FILE-journal
     rm -f "$2.first" "$2.first-journal"
 }
 
+# An unfinished new file is no hindrance. A whole one that a stop has kept from its place is refused, and moved away by hand.
+make_way() { # make_way FOLDER VERSION NEW_VERSION
+    local left=$1/stopped/file-migrated
+    [ -s "$left" ] && [ -n "$(head -c 1024 "$left" | tr -d '\0')" ] || return 0
+    (cd "$1/stopped" && "$program" file migrate "$2" "$3" < "$1/keys" > /dev/null 2> "$1/errors")
+    [ $? -eq 4 ] && grep -q 'file-migrated: this file is in the way' "$1/errors" || say "version $2: a whole new file is not refused"
+    rm "$left"
+}
+
 stops() { # stops VERSION NEW_VERSION ROWS: a stop at each writing call of a migrate
     local version=$1 later=$2 folder=$scratch/stops-$1 name number found by key stopped=0 old=0
     mkdir "$folder" "$folder/whole"
@@ -161,8 +166,8 @@ stops() { # stops VERSION NEW_VERSION ROWS: a stop at each writing call of a mig
         # The program: the old content by the old key and version, or the new by the new.
         if asked "$k1" "$folder/stopped/file" export "$version" | cmp -s - "$folder/text"; then
             by=$version key=$k1 old=$((old + 1))
-            # What is left beside is no hindrance.
-            (cd "$folder/stopped" && "$program" file migrate "$version" "$later" < "$folder/keys" > /dev/null) || say "version $version: $name $number: not migrated after it"
+            make_way "$folder" "$version" "$later"
+            (cd "$folder/stopped" && "$program" file migrate "$version" "$later" < "$folder/keys" > /dev/null 2>&1) || say "version $version: $name $number: not migrated after it"
         elif asked "$k2" "$folder/stopped/file" export "$later" | cmp -s - "$folder/text"; then
             by=$later key=$k2
             [ "$(ls "$folder/stopped")" = file ] || say "version $version: $name $number: beside the new file is left: $(ls "$folder/stopped")"
@@ -179,27 +184,24 @@ stops() { # stops VERSION NEW_VERSION ROWS: a stop at each writing call of a mig
     echo "migrate: version $version to $later, $(sed 's/migrated: //' "$folder/said"): $stopped stops, $old leave the old file and the others the new one"
 }
 
-if [ $# -eq 2 ]; then
-    files=$1
-    table=$2
+if find_files; then
     look_at_files
     for version in 1 2 3 4; do
-        if [ -n "$(product "$version")" ]; then migrate_files "$version" & else echo "migrate: version $version is left out, since its product is not built here"; fi
+        if [ -n "$(product "$version")" ]; then migrate_files "$version" & else leave_out "migrations to version $version, since its product is missing"; fi
     done
     wait
 fi
 if ! can_trace; then
-    echo "migrate: the stops are left out, since strace is missing or cannot trace"
+    leave_out "the stops of migrate, since strace is missing or cannot trace"
 elif [ -z "$four" ]; then
-    echo "migrate: the stops are left out, since the product of version 4 is not built here"
+    leave_out "the stops of migrate, since the product of version 4 is missing"
 else
     stops 3 4 480 &
     stops 4 1 900 &
     wait
 fi
 
-if [ -e "$scratch/wrong" ]; then
-    echo "migrate: $(wc -l < "$scratch/wrong") wrong"
-    exit 1
-fi
-echo "migrate: 0 wrong"
+wrong=0
+[ ! -e "$scratch/wrong" ] || wrong=$(wc -l < "$scratch/wrong")
+echo "migrate: $wrong wrong"
+finish "$wrong"

@@ -2,31 +2,27 @@
 # Compares the program with the independent reference in tests/reference: the printed lines and the status have to be the
 # same. The files are those that the reference makes and those that the product `sqlcipher` makes, its version 4 among them.
 # The reference is tried on known answers first, and the product's files have to be those of tests/reference/real_files.tsv.
-# What can't be done here is left out, with a line that says so: all of it without Python's `cryptography`, the product's
-# files where the product is not installed and can't be.
+# Of each sound file of the product, its own dump is compared with that of the plain database that tools/export_to_sql.py and
+# `sqlite3` make of the program's export.
+#
+#     tests/real_files.sh
+#
+# PROGRAM names another program, SQLCIPHER4 the product built for version 4, PRODUCT_FILES the folder that tests/product_files.sh made.
 set -u
 top=$(cd "$(dirname "$0")/.." && pwd) || exit 1
+program=${PROGRAM:-$top/out/sqlcipher-tool}
 oracle=$top/tests/reference/oracle/sqlcipher_oracle.py
-tool=$top/sqlcipher-tool
 folder=$(mktemp -d) || exit 1
 trap 'rm -rf "$folder"' EXIT
+scratch=$folder
+. "$top/tests/common.sh"
 compared=0
 differ=0
 
-if ! python3 -c 'import cryptography' 2> /dev/null; then
-    echo "real files: skipped, since Python's cryptography is missing"
-    exit 0
-fi
-
-"$tool" --version > /dev/null || { echo "real files: the program is not built"; exit 1; }
-python3 "$top/tests/reference/oracle/check_rows.py" > "$folder/rows" || {
-    echo "real files: the reference fails its known answers"
-    grep -v '^note' "$folder/rows"
-    exit 1
-}
-
 k0="x'000102030405060708090a0b0c0d0e0f101112131415161718191a1b1c1d1e1f'"
 k1="x'ffffffffffffffffffffffffffffffffffffffffffffffffffffffffffffffff'"
+
+fail() { echo "real files: $*"; exit 1; }
 
 make() { # make FILE KEY PROFILE ROWS
     printf '%s\n' "$2" | python3 "$oracle" "$1" make "$3" "$4" --seed 7 > /dev/null
@@ -44,7 +40,7 @@ compare_with() { # compare_with FILE KEYFILE WORDS..
     shift 2
     python3 "$oracle" "$file" "$@" < "$key" > "$folder/expected" 2> /dev/null
     local expected=$?
-    "$tool" "$file" "$@" < "$key" > "$folder/found" 2> /dev/null
+    "$program" "$file" "$@" < "$key" > "$folder/found" 2> /dev/null
     local found=$?
     compared=$((compared + 1))
     if [ "$expected" -ne "$found" ] || ! cmp -s "$folder/expected" "$folder/found"; then
@@ -70,81 +66,6 @@ PY
 
 pages() { echo $(($(stat -c %s "$1") / 4096)); }
 
-# A file of SQLCipher 4 with tables, indexes and overflow chains.
-sound=$folder/sound.db
-make "$sound" "$k0" 4 400
-[ "$(pages "$sound")" -ge 200 ] || { echo "real files: the file has only $(pages "$sound") pages"; exit 1; }
-compare "$sound" "$k0" tags 4
-compare "$sound" "$k0" verify 4
-compare "$sound" "$k0" export 4
-compare "$sound" "${k0^^}" tags 4
-compare "$sound" "$k1" tags 4
-
-# Pages that are damaged in the ciphertext, the IV, the tag and the first byte, the last page among them.
-damaged=$folder/damaged.db
-cp "$sound" "$damaged"
-for at in 5000 $((4096 * 9 + 4020)) $((4096 * 10 + 4032)) $((4096 * 57 + 4095)) $((4096 * 100)) $(($(stat -c %s "$sound") - 1)); do
-    flip "$damaged" "$at"
-done
-compare "$damaged" "$k0" tags 4
-compare "$damaged" "$k0" verify 4
-compare "$damaged" "$k0" export 4
-
-# Every page but the first.
-all=$folder/all.db
-cp "$sound" "$all"
-for n in $(seq 1 $(($(pages "$sound") - 1))); do
-    flip "$all" $((4096 * n + 77))
-done
-compare "$all" "$k0" tags 4
-compare "$all" "$k0" verify 4
-compare "$all" "$k0" export 4
-
-# Two pages in each other's place, bytes past the last page, and page 1 alone.
-swapped=$folder/swapped.db
-cp "$sound" "$swapped"
-dd if="$sound" of="$swapped" bs=4096 skip=20 seek=30 count=1 conv=notrunc status=none
-dd if="$sound" of="$swapped" bs=4096 skip=30 seek=20 count=1 conv=notrunc status=none
-compare "$swapped" "$k0" tags 4
-compare "$swapped" "$k0" verify 4
-compare "$swapped" "$k0" export 4
-longer=$folder/longer.db
-cp "$sound" "$longer"
-head -c 4000 /dev/zero >> "$longer"
-compare "$longer" "$k0" tags 4
-first=$folder/first.db
-head -c 4096 "$sound" > "$first"
-compare "$first" "$k0" tags 4
-
-# Page 1 damaged: the key does not fit.
-unfit=$folder/unfit.db
-cp "$sound" "$unfit"
-flip "$unfit" 3000
-compare "$unfit" "$k0" tags 4
-
-# Each profile under a raw key and a passphrase, with the command for the header and the search for the profile.
-for profile in 1 2 3 4; do
-    for key in "$k0" "it's a pässwörd"; do
-        file=$folder/profile-$profile.db
-        make "$file" "$key" "$profile" 40
-        for words in "tags $profile" "header $profile" "verify $profile" "export $profile" probe; do
-            # shellcheck disable=SC2086
-            compare "$file" "$key" $words
-        done
-    done
-    compare "$file" "$k1" header "$profile"
-done
-
-# Lengths: nothing, one byte, and beside a page.
-for len in 0 1 1023 1024 4095 4096 4097; do
-    head -c "$len" "$sound" > "$folder/cut.db"
-    compare "$folder/cut.db" "$k0" tags 4
-    compare "$folder/cut.db" "$k0" header 4
-    compare "$folder/cut.db" "$k0" verify 4
-    compare "$folder/cut.db" "$k0" export 4
-    compare "$folder/cut.db" "$k0" probe
-done
-
 # A file with a journal: besides the lines, the files that the program leaves have to be those that the reference recovers.
 # Each works on copies.
 compare_recovered() { # compare_recovered FILE KEYFILE COMMAND PROFILE
@@ -158,7 +79,7 @@ compare_recovered() { # compare_recovered FILE KEYFILE COMMAND PROFILE
     local expected=$?
     # The words `tags 1` are refused before any file is looked at.
     [ "$*" = "tags 1" ] || python3 "$oracle" "$folder/wanted/file" recover "$2" > /dev/null 2>&1
-    "$tool" "$folder/left/file" "$@" < "$key" > "$folder/found" 2> /dev/null
+    "$program" "$folder/left/file" "$@" < "$key" > "$folder/found" 2> /dev/null
     local found=$?
     compared=$((compared + 1))
     if [ "$expected" -ne "$found" ] || ! cmp -s "$folder/expected" "$folder/found" || ! diff -rq "$folder/wanted" "$folder/left"; then
@@ -170,105 +91,158 @@ compare_recovered() { # compare_recovered FILE KEYFILE COMMAND PROFILE
     fi
 }
 
-# What the product itself makes.
-fail() { echo "real files: $*"; exit 1; }
-
-four() { # four: the product built for version 4, nothing where it can't be built here
-    [ -z "${SQLCIPHER4:-}" ] || { echo "$SQLCIPHER4"; return; }
-    command -v sqlcipher4 && return
-    "$top/tests/reference/build_sqlcipher4.sh" "$top/out/product" >&2
-    case $? in
-        0) echo "$top/out/product/sqlcipher4" ;;
-        3) ;;
-        *) return 1 ;;
-    esac
-}
-
 dump() { # dump PROGRAM FILE STATEMENTS: the lines of its dump, sorted, since objects stand in another order
     printf '%s\n' ".output /dev/null" "$3" ".output stdout" ".dump" | "$1" -batch "$2" | sort
 }
 
 # What the product dumps of a sound file, and of the plain database that SQLite makes of the program's export, has the same lines.
 compare_dump() { # compare_dump FILE KEYFILE PROFILE
-    local file=$1 key=$2 profile=$3 program=sqlcipher opening
-    "$tool" "$file" export "$profile" < "$key" > "$folder/text" 2> /dev/null || return 0
-    [ "$profile" != 4 ] || program=$(four)
-    opening="PRAGMA key = '$(sed "s/'/''/g" "$key")';"
-    case $profile in
-        1) opening+=" PRAGMA cipher_use_hmac = OFF; PRAGMA kdf_iter = 4000;" ;;
-        2) opening+=" PRAGMA kdf_iter = 4000;" ;;
-    esac
+    local file=$1 key=$2 profile=$3 product
+    "$program" "$file" export "$profile" < "$key" > "$folder/text" 2> /dev/null || return 0
+    product=$(product "$profile")
     rm -f "$folder/plain.db"
     compared=$((compared + 1))
     if ! "$top/tools/export_to_sql.py" < "$folder/text" | sqlite3 -bail "$folder/plain.db" ||
-        ! dump "$program" "$file" "$opening" > "$folder/expected" || ! dump "$program" "$folder/plain.db" "" > "$folder/found" ||
-        ! cmp -s "$folder/expected" "$folder/found"; then
+        ! dump "$product" "$file" "$(opening "$profile" "$(cat "$key")")" > "$folder/expected" ||
+        ! dump "$product" "$folder/plain.db" "" > "$folder/found" || ! cmp -s "$folder/expected" "$folder/found"; then
         differ=$((differ + 1))
         echo "real files: $(basename "$file"): the dump of what export and export_to_sql.py give is another one than the product's"
         diff "$folder/expected" "$folder/found" | cut -c 1-200 | head -n 10
     fi
 }
 
+# ---- files that the reference makes
+
+reference_files() {
+    local sound damaged all swapped longer first unfit file profile key words at n len
+    # A file of SQLCipher 4 with tables, indexes and overflow chains.
+    sound=$folder/sound.db
+    make "$sound" "$k0" 4 400
+    [ "$(pages "$sound")" -ge 200 ] || { echo "real files: the file has only $(pages "$sound") pages"; exit 1; }
+    compare "$sound" "$k0" tags 4
+    compare "$sound" "$k0" verify 4
+    compare "$sound" "$k0" export 4
+    compare "$sound" "${k0^^}" tags 4
+    compare "$sound" "$k1" tags 4
+
+    # Pages that are damaged in the ciphertext, the IV, the tag and the first byte, the last page among them.
+    damaged=$folder/damaged.db
+    cp "$sound" "$damaged"
+    for at in 5000 $((4096 * 9 + 4020)) $((4096 * 10 + 4032)) $((4096 * 57 + 4095)) $((4096 * 100)) $(($(stat -c %s "$sound") - 1)); do
+        flip "$damaged" "$at"
+    done
+    compare "$damaged" "$k0" tags 4
+    compare "$damaged" "$k0" verify 4
+    compare "$damaged" "$k0" export 4
+
+    # Every page but the first.
+    all=$folder/all.db
+    cp "$sound" "$all"
+    for n in $(seq 1 $(($(pages "$sound") - 1))); do
+        flip "$all" $((4096 * n + 77))
+    done
+    compare "$all" "$k0" tags 4
+    compare "$all" "$k0" verify 4
+    compare "$all" "$k0" export 4
+
+    # Two pages in each other's place, bytes past the last page, and page 1 alone.
+    swapped=$folder/swapped.db
+    cp "$sound" "$swapped"
+    dd if="$sound" of="$swapped" bs=4096 skip=20 seek=30 count=1 conv=notrunc status=none
+    dd if="$sound" of="$swapped" bs=4096 skip=30 seek=20 count=1 conv=notrunc status=none
+    compare "$swapped" "$k0" tags 4
+    compare "$swapped" "$k0" verify 4
+    compare "$swapped" "$k0" export 4
+    longer=$folder/longer.db
+    cp "$sound" "$longer"
+    head -c 4000 /dev/zero >> "$longer"
+    compare "$longer" "$k0" tags 4
+    first=$folder/first.db
+    head -c 4096 "$sound" > "$first"
+    compare "$first" "$k0" tags 4
+
+    # Page 1 damaged: the key does not fit.
+    unfit=$folder/unfit.db
+    cp "$sound" "$unfit"
+    flip "$unfit" 3000
+    compare "$unfit" "$k0" tags 4
+
+    # Each profile under a raw key and a passphrase, with the command for the header and the search for the profile.
+    for profile in 1 2 3 4; do
+        for key in "$k0" "it's a pässwörd"; do
+            file=$folder/profile-$profile.db
+            make "$file" "$key" "$profile" 40
+            for words in "tags $profile" "header $profile" "verify $profile" "export $profile" probe; do
+                # shellcheck disable=SC2086
+                compare "$file" "$key" $words
+            done
+        done
+        compare "$file" "$k1" header "$profile"
+    done
+
+    # Lengths: nothing, one byte, and beside a page.
+    for len in 0 1 1023 1024 4095 4096 4097; do
+        head -c "$len" "$sound" > "$folder/cut.db"
+        compare "$folder/cut.db" "$k0" tags 4
+        compare "$folder/cut.db" "$k0" header 4
+        compare "$folder/cut.db" "$k0" verify 4
+        compare "$folder/cut.db" "$k0" export 4
+        compare "$folder/cut.db" "$k0" probe
+    done
+}
+
+# ---- files that the product makes
+
 product_files() {
-    local product=$folder/product table=$folder/table.tsv program name profile journal file key
-    program=$(four) || fail "the product of version 4 is not built"
-    if [ -n "$program" ]; then
-        cp "$top/tests/reference/real_files.tsv" "$table"
-    else
-        echo "real files: those of version 4 are left out, since its product can't be built here"
-        awk -F'\t' '$2 != 4' "$top/tests/reference/real_files.tsv" > "$table"
-    fi
-    mkdir "$product"
-    SQLCIPHER4=$program sh "$top/tests/reference/make_real_files.sh" "$product" > "$folder/made" 2>&1 || {
-        cat "$folder/made"
-        fail "the product's files are not made"
-    }
+    local name profile journal file key words
     # The files, their journals and all that the reference reads in them are those of the table.
-    python3 "$top/tests/reference/oracle/check_files.py" compare "$product" "$table" > "$folder/compared" || {
-        cat "$folder/made" "$folder/compared"
+    python3 "$top/tests/reference/oracle/check_files.py" compare "$files" "$table" > "$folder/compared" || {
+        cat "$folder/compared"
         fail "the product's files are not those of the table"
     }
     while IFS=$'\t' read -r name profile _ _ journal _; do
         [ "$name" != file ] || continue
-        file=$product/$name
+        file=$files/$name
         key=${file%.db}.key
         [ -f "$file" ] && [ -f "$key" ] || fail "$name or its key is not made"
         compare_with "$file" "$key" probe
         if [ "$journal" != none ]; then
             [ -f "$file-journal" ] || fail "$name has no journal"
-            compare_recovered "$file" "$key" recover "$profile"
-            compare_recovered "$file" "$key" tags "$profile"
-            compare_recovered "$file" "$key" header "$profile"
-            compare_recovered "$file" "$key" verify "$profile"
-            compare_recovered "$file" "$key" export "$profile"
-            continue
+            for words in recover tags header verify export; do compare_recovered "$file" "$key" "$words" "$profile"; done
+        else
+            for words in tags header verify export; do compare_with "$file" "$key" "$words" "$profile"; done
         fi
-        compare_with "$file" "$key" tags "$profile"
-        compare_with "$file" "$key" header "$profile"
-        compare_with "$file" "$key" verify "$profile"
-        compare_with "$file" "$key" export "$profile"
-        compare_dump "$file" "$key" "$profile"
     done < "$table"
-    # The program stopped at each of its writing calls, and run again.
-    for name in v3-raw-hot-grow v4-raw-hot-grow v3-raw-cold-persist; do
-        [ -f "$product/$name.db" ] || continue
-        "$top/tests/stops.sh" "$product/$name.db" recover "${name:1:1}" < /dev/null || differ=$((differ + 1))
-    done
-    SQLCIPHER4=$program "$top/tests/rekey.sh" "$product" "$table" || differ=$((differ + 1))
-    SQLCIPHER4=$program "$top/tests/migrate.sh" "$product" "$table" || differ=$((differ + 1))
 }
 
-"$top/tests/install_product.sh"
-if command -v sqlcipher > /dev/null && command -v strace > /dev/null; then
-    product_files
+# A copy of each is dumped, since the product writes to some.
+product_dumps() {
+    local name profile journal
+    while IFS=$'\t' read -r name profile _ _ journal _; do
+        [ "$name" != file ] && [ "$journal" = none ] || continue
+        cp "$files/$name" "$folder/dumped.db"
+        compare_dump "$folder/dumped.db" "$files/${name%.db}.key" "$profile"
+    done < "$table"
+}
+
+if has_reference; then
+    python3 "$top/tests/reference/oracle/check_rows.py" > "$folder/rows" || {
+        grep -v '^note' "$folder/rows"
+        fail "the reference fails its known answers"
+    }
+    reference_files
+    ! find_files || product_files
 else
-    echo "real files: the product's are left out, since sqlcipher or strace is missing and can't be installed"
+    leave_out "comparisons with the reference, since Python's cryptography is missing"
+    find_files
+fi
+if [ ! -s "$table" ]; then
+    :   # Why there are no files of the product is said already.
+elif has sqlite3; then
+    product_dumps
+else
+    leave_out "dumps, since sqlite3 is missing"
 fi
 
 echo "real files: $((compared - differ)) of $compared comparisons are the same"
-[ "$differ" -eq 0 ] || exit 1
-"$top/tests/export_to_sql.py" || exit 1
-"$top/tests/hostile_pages.sh" || exit 1
-"$top/tests/stamp.sh" || exit 1
-"$top/tests/make.sh" || exit 1
-"$top/tests/edges.sh"
+finish "$differ"

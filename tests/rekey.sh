@@ -4,11 +4,9 @@
 # system of a `rekey` of some 150 pages: what is left is recovered by the program, and on a copy by the product, to the old
 # file by the old key or to the new one by the new key.
 #
-#     tests/rekey.sh [FOLDER TABLE]
+#     tests/rekey.sh
 #
-# FOLDER has the files of tests/reference/make_real_files.sh, each NAME.db with its key line in NAME.key, and TABLE a line for each,
-# as tests/reference/real_files.tsv has; without them there are the stops alone. PROGRAM names another program, SQLCIPHER4 the product
-# built for version 4. What can't be done here is left out, with a line that says so.
+# PROGRAM names another program, SQLCIPHER4 the product built for version 4, PRODUCT_FILES the folder that tests/product_files.sh made.
 set -u
 top=$(cd "$(dirname "$0")/.." && pwd) || exit 1
 program=${PROGRAM:-$top/out/sqlcipher-tool}
@@ -16,8 +14,6 @@ scratch=$(mktemp -d) || exit 1
 trap 'rm -rf "$scratch"' EXIT
 export LC_ALL=C.UTF-8 HOME=$scratch
 
-[ -x "$program" ] || { echo "rekey: $program is not built"; exit 1; }
-command -v sqlcipher > /dev/null || { echo "rekey: skipped, since sqlcipher is missing"; exit 0; }
 . "$top/tests/common.sh"
 
 k1="x'ffffffffffffffffffffffffffffffffffffffffffffffffffffffffffffffff'"
@@ -40,8 +36,8 @@ rekey_file() { # rekey_file NAME VERSION OLD NEW
     local name=$1 version=$2 old=$3 new=$4 file copy=$scratch/copy.db read=$scratch/read.db kept=$scratch/kept.db line pages size status wanted
     for file in "$copy" "$read" "$kept"; do
         rm -f "$file" "$file-journal"
-        cp "$folder/$name.db" "$file"
-        [ ! -e "$folder/$name.db-journal" ] || cp "$folder/$name.db-journal" "$file-journal"
+        cp "$files/$name.db" "$file"
+        [ ! -e "$files/$name.db-journal" ] || cp "$files/$name.db-journal" "$file-journal"
     done
     line=$(verified "$version" "$old" "$read")
     wanted=$?
@@ -75,9 +71,9 @@ rekey_files() {
     while IFS=$'\t' read -r name version _; do
         [ "$name" != file ] || continue
         name=${name%.db}
-        [ -f "$folder/$name.db" ] && [ -f "$folder/$name.key" ] || { say "$name is not made"; continue; }
+        [ -f "$files/$name.db" ] && [ -f "$files/$name.key" ] || { say "$name is not made"; continue; }
         [ -n "$(product "$version")" ] || continue
-        old=$(cat "$folder/$name.key")
+        old=$(cat "$files/$name.key")
         # A raw key in place of a raw key, and a passphrase in place of a passphrase.
         case $old in
             [xX]\'*) new=$k2 ;;
@@ -147,22 +143,17 @@ stops() { # stops VERSION: a stop at each writing call of a rekey
     echo "rekey: version $version, $(sed 's/rekeyed: //' "$folder/said"): $stopped stops, $old leave the old file and the others the new one"
 }
 
-if [ $# -eq 2 ]; then
-    folder=$1
-    table=$2
-    rekey_files
-fi
+! find_files || rekey_files
 if can_trace; then
     for version in 1 2 3 4; do
-        if [ -n "$(product "$version")" ]; then stops "$version" & else echo "rekey: version $version is left out, since its product is not built here"; fi
+        if [ -n "$(product "$version")" ]; then stops "$version" & else leave_out "the stops of rekey on version $version, since its product is missing"; fi
     done
     wait
 else
-    echo "rekey: the stops are left out, since strace is missing or cannot trace"
+    leave_out "the stops of rekey, since strace is missing or cannot trace"
 fi
 
-if [ -e "$scratch/wrong" ]; then
-    echo "rekey: $(wc -l < "$scratch/wrong") wrong"
-    exit 1
-fi
-echo "rekey: 0 wrong"
+wrong=0
+[ ! -e "$scratch/wrong" ] || wrong=$(wc -l < "$scratch/wrong")
+echo "rekey: $wrong wrong"
+finish "$wrong"

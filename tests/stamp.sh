@@ -5,8 +5,7 @@
 #
 #     tests/stamp.sh
 #
-# PROGRAM names another program, SQLCIPHER4 the product built for version 4. What can't be done here is left out, with a
-# line that says so.
+# PROGRAM names another program, SQLCIPHER4 the product built for version 4.
 set -u
 top=$(cd "$(dirname "$0")/.." && pwd) || exit 1
 program=${PROGRAM:-$top/out/sqlcipher-tool}
@@ -15,8 +14,7 @@ trap 'rm -rf "$folder"' EXIT
 export LC_ALL=C.UTF-8 HOME=$folder
 wrong=0
 
-[ -x "$program" ] || { echo "stamp: $program is not built"; exit 1; }
-command -v sqlcipher > /dev/null || { echo "stamp: skipped, since sqlcipher is missing"; exit 0; }
+scratch=$folder
 . "$top/tests/common.sh"
 
 key=old
@@ -80,7 +78,7 @@ stops() { # stops VERSION FILE: a stop at each writing call of a stamp
 
 for version in 1 2 3 4; do
     if [ -z "$(product "$version")" ]; then
-        echo "stamp: version $version is left out, since its product is not built here"
+        leave_out "stamp on files of version $version, since its product is missing"
         continue
     fi
     file=$folder/version-$version.db
@@ -98,12 +96,9 @@ for version in 1 2 3 4; do
     # All pages but the first are stored as before.
     page=$(fields "$version" "$file" | awk '/^page size/ { print $3 }')
     cmp -s <(tail -c +$((page + 1)) "$file") <(tail -c +$((page + 1)) "$folder/before.db") || say "version $version: another page was changed"
-    if can_trace; then
-        stops "$version" "$folder/before.db"
-    else
-        echo "stamp: the stops are left out, since strace is missing or cannot trace"
-    fi
+    ! can_trace || stops "$version" "$folder/before.db"
 done
+can_trace || leave_out "the stops of stamp, since strace is missing or cannot trace"
 
 echo "stamp: $wrong wrong"
-[ "$wrong" -eq 0 ]
+finish "$wrong"

@@ -1,33 +1,40 @@
 #!/usr/bin/env bash
 # Stops the built program at each of its writing calls of the system, and then lets it run to its end: it must leave the
-# files that a run without a stop leaves. It is skipped, with a line that says so, where strace is missing or cannot trace.
+# files that a run without a stop leaves. Without words it does so for `recover` on three journals that the product left.
 #
-#     tests/stops.sh FILE WORDS.. < KEYS
+#     tests/stops.sh [FILE WORDS.. < KEYS]
 #
 # FILE and the files beside it (FILE-journal, FILE-migrated) stay as they are; copies of them are worked on. The words are
 # those of a command that may be run again and then makes the same files, as `recover` is. PROGRAM names another program.
 set -u
 top=$(cd "$(dirname "$0")/.." && pwd) || exit 1
 program=${PROGRAM:-$top/out/sqlcipher-tool}
+folder=$(mktemp -d) || exit 1
+trap 'rm -rf "$folder"' EXIT
+scratch=$folder
 . "$top/tests/common.sh"
-if [ $# -lt 2 ]; then
-    echo "stops: FILE and the words of a command are missing"
+
+if ! can_trace; then
+    leave_out "stops, since strace is missing or cannot trace"
+    finish 0
+fi
+
+if [ $# -eq 0 ]; then
+    wrong=0
+    find_files || finish 0
+    for name in v3-raw-hot-grow v4-raw-hot-grow v3-raw-cold-persist; do
+        grep -q "^$name" "$table" || continue
+        "$top/tests/stops.sh" "$files/$name.db" recover "${name:1:1}" < /dev/null || wrong=$((wrong + 1))
+    done
+    finish "$wrong"
+fi
+if [ $# -eq 1 ]; then
+    echo "stops: the words of a command are missing"
     exit 1
 fi
 file=$(readlink -f "$1")
 shift
-folder=$(mktemp -d) || exit 1
-trap 'rm -rf "$folder"' EXIT
 cat > "$folder/keys"
-
-if ! can_trace; then
-    echo "stops: skipped, since strace is missing or cannot trace"
-    exit 0
-fi
-if [ ! -x "$program" ]; then
-    echo "stops: $program is not built"
-    exit 1
-fi
 
 place() { # place FOLDER: the files as they were
     mkdir "$folder/$1" && cp "$file" "$folder/$1/file" || exit 1

@@ -26,7 +26,7 @@ case $list in
     *.sources) sed 's/^Types: deb$/Types: deb-src/' "$list" > source.sources; from=$home/source.sources ;;
     *) sed -n 's/^deb /deb-src /p' "$list" > source.list; from=$home/source.list ;;
 esac
-apt() { apt-get -qq -o Dir::Etc::sourcelist="$from" -o Dir::Etc::sourceparts=/dev/null -o Dir::State::lists="$home/lists" "$@"; }
+apt() { timeout 300 apt-get -qq -o Acquire::http::Timeout=20 -o Acquire::Retries=1 -o Dir::Etc::sourcelist="$from" -o Dir::Etc::sourceparts=/dev/null -o Dir::State::lists="$home/lists" "$@"; }
 { apt update && cd source && apt source --download-only sqlcipher; } > "$home/sources.log" 2>&1 || {
     tail -n 3 "$home/sources.log" >&2
     echo "the sources of sqlcipher cannot be had" >&2

@@ -1,21 +1,10 @@
-#!/usr/bin/env python3
-"""Files whose pages are hostile and sealed under the right key, and what `verify` may answer.
+"""Files whose pages are hostile and sealed under the right key, and what a command that checks may answer.
 
-    hostile_pages.py make FOLDER COUNT SEED   writes COUNT files, half of profile 3 and half of 4, and FOLDER/answers
-    hostile_pages.py check FOLDER             reads lines `NAME STATUS LINE` of the program from standard input, compares them
-
-Trees point anywhere, chains meet, freelists loop, some tags are turned. For each file the lines that `verify` may print are
-those of the earliest part that has a defect: each defect of that part is one, whatever comes before it there. The first of
-them is the reference's own answer. A line of `answers` is the name and these, with a tab between them; the lines of several
-tags stand as one, with ` | ` between them.
+Trees point anywhere, chains meet, freelists loop, some tags are turned (`Maker`). For each file the lines that may be printed are
+those of the earliest part that has a defect: each defect of that part is one, whatever comes before it there (`Parts`).
+`hostile_files.py` runs the program on such files.
 """
-import collections
-import os
-import random
-import sys
-
-from sqlcipher_formats import (
-    Codec, Database, Refused, be, draw_source, local_len, profile_of, read_record, read_tree_page, verify_lines)
+from sqlcipher_formats import Database, Refused, be, local_len, read_record, read_tree_page
 from sqlcipher_oracle import blank_plain
 
 KEY = b"x'000102030405060708090a0b0c0d0e0f101112131415161718191a1b1c1d1e1f'"
@@ -152,7 +141,7 @@ class Maker:
             listed = be(pages[trunk - 1], 4) if 0 < trunk <= self.count else 0
             pages[0][36:40] = (1 + min(listed, 9) if rng.random() < 0.8 else rng.choice((0, 2, 3))).to_bytes(4, "big")
         stored = [codec.seal_page(n + 1, bytes(plain), draw(self.profile.reserve)) for n, plain in enumerate(pages)]
-        if rng.random() < 0.1:
+        if self.profile.tag_len and rng.random() < 0.1:
             n = rng.randrange(1, self.count)
             at = self.profile.usable + 16
             stored[n] = stored[n][:at] + bytes([stored[n][at] ^ 1]) + stored[n][at + 1:]
@@ -176,7 +165,7 @@ class Parts(Database):
             return []
         except Refused as refusal:
             return [str(refusal)]       # a walk of the freelist stops where it meets a trunk that can't be read
-        
+
     def chain(self, cell, page, found):
         """The payload, or none where its chain has a defect."""
         pieces, missing, holder, following = [cell.local], cell.length - len(cell.local), page, cell.first
@@ -206,7 +195,7 @@ class Parts(Database):
 
     def tree(self, root, family):
         """(entries as (page, rowid, payload), defects) of a tree."""
-        entries, found, keys = [], [], []
+        entries, found, keys = [], [], [float("-inf")]     # the last of `keys` is the highest rowid so far
 
         def visit(n, family, depth):
             if n in self.seen:
@@ -233,16 +222,16 @@ class Parts(Database):
                     else:
                         found.append(f"page {n}: child out of range")
                     if cell and kind == 5:
-                        keys.append(cell.rowid)
+                        keys.append(max(keys[-1], cell.rowid))
                         found.extend(f"page {at}: rowid order" for at, rowid, _ in entries if rowid is not None and rowid > cell.rowid)
                 if cell and kind != 5:
                     if kind == 13:
-                        if any(cell.rowid <= key for key in keys):
+                        if cell.rowid <= keys[-1]:
                             found.append(f"page {n}: rowid order")
                     payload = self.chain(cell, n, found)
                     if payload is not None:
                         if kind == 13:
-                            keys.append(cell.rowid)
+                            keys.append(max(keys[-1], cell.rowid))
                         entries.append((n, cell.rowid, payload))
 
         visit(root, family, 1)
@@ -256,9 +245,22 @@ class Parts(Database):
         found = self.free_part()
         if found:
             return found
-        bad = [n for n in range(1, self.count + 1) if n not in self.leaves and not self.tag(n)]
-        if bad:
-            return [" | ".join(f"page {n}: tag refused" for n in bad)]
+        bad = self.tags_part()
+        return [" | ".join(bad)] if bad else self.trees_part()
+
+    def walk_answers(self):
+        """The lines that `export` and `migrate` may print of a file with a defect: they look at the pages in use alone."""
+        return self.free_part() or self.trees_part()
+
+    def rekey_answers(self):
+        """The lines that `rekey` may print of a file with a defect: it walks first, and then looks at the pages that nothing uses."""
+        walked = self.walk_answers()
+        return walked if not walked[0].startswith("ok: ") else self.tags_part()
+
+    def tags_part(self):
+        return [f"page {n}: tag refused" for n in range(1, self.count + 1) if n not in self.leaves and not self.tag(n)]
+
+    def trees_part(self):
         rows, found = self.tree(1, (5, 13))
         roots = []
         for _, rowid, payload in rows:
@@ -282,65 +284,3 @@ class Parts(Database):
         if found:
             return found
         return [f"ok: {len(roots) + 1} trees, {entries} entries, {self.free} free pages, {self.count - len(self.seen)} unused pages"]
-
-
-def reference_line(main, codec):
-    """The line of the reference itself."""
-    try:
-        return " | ".join(verify_lines(Database(main, codec))[0])
-    except Refused as refusal:
-        return str(refusal)
-
-
-# ------------------------------------------------------------------ commands
-
-def make(folder, count, seed):
-    kinds = collections.Counter()
-    with open(os.path.join(folder, "answers"), "w") as answers:
-        for i in range(count):
-            rng = random.Random(f"{seed} {i}")
-            word = "34"[i % 2]
-            profile = profile_of(word)
-            codec = Codec(profile, KEY, SALT)
-            maker = Maker(rng, profile)
-            main = maker.file(codec, draw_source(seed=rng.randrange(2 ** 32)))
-            name = f"{word}-{i}.db"
-            with open(os.path.join(folder, name), "wb") as file:
-                file.write(main)
-            allowed = Parts(main, codec).answers()
-            first = reference_line(main, codec)
-            if first not in allowed:
-                sys.exit(f"{name}: the reference answers '{first}', which is none of {allowed}")
-            allowed = [first] + [line for line in allowed if line != first]
-            print("\t".join([name] + allowed), file=answers)
-            kinds["".join(c for c in first if not c.isdigit())] += 1
-    for text, many in kinds.most_common():
-        print(f"{many}\t{text}")
-
-
-def check(folder):
-    with open(os.path.join(folder, "answers")) as lines:
-        allowed = {name: rest for name, *rest in (line.rstrip("\n").split("\t") for line in lines)}
-    same = other = wrong = 0
-    for line in sys.stdin:
-        name, status, text = line.rstrip("\n").split("\t")
-        wanted = "0" if text.startswith("ok: ") else "2"
-        if status != wanted or text not in allowed[name]:
-            wrong += 1
-            print(f"{name}: '{text}' with status {status}; allowed: {allowed[name]}")
-        elif text == allowed[name][0]:
-            same += 1
-        else:
-            other += 1
-        del allowed[name]
-    print(f"hostile pages: {same} as the reference, {other} another defect of the same part, {wrong} wrong, {len(allowed)} missing")
-    sys.exit(1 if wrong or allowed else 0)
-
-
-if __name__ == "__main__":
-    if len(sys.argv) == 5 and sys.argv[1] == "make":
-        make(sys.argv[2], int(sys.argv[3]), sys.argv[4])
-    elif len(sys.argv) == 3 and sys.argv[1] == "check":
-        check(sys.argv[2])
-    else:
-        sys.exit(__doc__)

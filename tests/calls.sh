@@ -1,0 +1,137 @@
+#!/usr/bin/env bash
+# The system calls of each command on a file, call by call, against the tables of docs/CRASH_MODEL.md: a sync that is left out,
+# or another order, is refused. tests/calls/rows.tsv says what each row of these tables is in calls, and quotes the row, so that
+# neither can change alone; tests/calls/compare.py compares, spoils each list of calls in every way that matters, and wants each
+# spoilt one refused. Then the program itself is kept from each of its syncs in turn, and each such run has to be refused.
+#
+#     tests/calls.sh
+#
+# PROGRAM names another program. Only calls that matter to the disk are looked at; that a file is opened to be read, looked up
+# or locked is not. Needs strace and Python 3.
+set -u
+top=$(cd "$(dirname "$0")/.." && pwd) || exit 1
+program=${PROGRAM:-$top/out/sqlcipher-tool}
+compare=$top/tests/calls/compare.py
+scratch=$(mktemp -d) || exit 1
+trap 'rm -rf "$scratch"' EXIT
+scratch=$(readlink -f "$scratch")
+export LC_ALL=C.UTF-8
+. "$top/tests/common.sh"
+runs=0 wrong=0
+
+if ! has python3 || ! can_trace; then
+    leave_out "the calls of the system, since strace is missing or cannot trace, or Python 3 is missing"
+    finish 0
+fi
+
+say() { echo "calls: $*"; wrong=$((wrong + 1)); }
+
+k0="x'000102030405060708090a0b0c0d0e0f101112131415161718191a1b1c1d1e1f'"
+k1="x'ffffffffffffffffffffffffffffffffffffffffffffffffffffffffffffffff'"
+printf '%s\n' "$k0" "$k1" > "$scratch/keys"
+looked_at=open,openat,creat,read,pread64,readv,preadv,preadv2,write,pwrite64,writev,pwritev,pwritev2,truncate,ftruncate,fallocate
+looked_at+=,fsync,fdatasync,sync,syncfs,sync_file_range,unlink,unlinkat,rename,renameat,renameat2,link,linkat,symlink,symlinkat
+looked_at+=,copy_file_range,sendfile,splice,mknod,mknodat,mkdir,mkdirat
+
+place() { # place FILE: a folder of its own for a run, with this file and those beside it, none for `nothing`
+    rm -rf "$scratch/run"
+    mkdir "$scratch/run" || exit 1
+    [ "$1" != nothing ] || return 0
+    cp "$scratch/$1" "$scratch/run/file" || exit 1
+    for beside in journal migrated; do
+        [ ! -e "$scratch/$1-$beside" ] || cp "$scratch/$1-$beside" "$scratch/run/file-$beside" || exit 1
+    done
+}
+
+listed() { # listed OPTIONS.. -- WORDS..: runs the program in the folder, with its calls in the file `calls`
+    local options=()
+    while [ "$1" != -- ]; do options+=("$1"); shift; done
+    shift
+    (cd "$scratch/run" && strace -f -qq -y -x -s 16 -o "$scratch/calls" -e trace="$looked_at" "${options[@]}" "$program" file "$@" \
+        < "$scratch/keys" > "$scratch/said" 2> "$scratch/errors")
+}
+
+run() { # run NAME FILE STATE P P2 WORDS..: NAME is a run of compare.py
+    local name=$1 file=$2 state=$3 version=$4 written=$5 found
+    shift 5
+    place "$file"
+    runs=$((runs + 1))
+    listed -- "$@" || say "$* on $file: ended with $?: $(head -n 1 "$scratch/said")"
+    if found=$("$compare" "$name" "$scratch/run" "$version" "$written" "$state" < "$scratch/calls"); then
+        echo "calls: $* on $file: $found"
+    else
+        say "$* on $file: $found"
+    fi
+}
+
+kept_from_syncs() { # kept_from_syncs NAME FILE P P2 WORDS..: each sync in turn is answered without being made
+    local name=$1 file=$2 version=$3 written=$4 number found count
+    shift 4
+    place "$file"
+    listed -- "$@" || say "$* on $file: ended with $?"
+    count=$(grep -c 'fsync(' "$scratch/calls")
+    for number in $(seq 1 "$count"); do
+        place "$file"
+        listed -e inject=fsync:retval=0:when="$number" -- "$@" || say "$* on $file without sync $number: ended with $?"
+        found=$("$compare" refuse "$name" "$scratch/run" "$version" "$written" none < "$scratch/calls") || say "$* on $file without sync $number: $found"
+    done
+    [ "$count" -ge 3 ] || say "$* on $file: only $count syncs"
+    echo "calls: $* on $file: kept from each of its $count syncs in turn, and refused each time"
+}
+
+found=$("$compare" tables) || { echo "calls: $found"; exit 1; }
+echo "calls: $found"
+
+# ---- files: of less than 64 pages, which are a batch, and of more, beside a hot journal that has to be laid back and cut, and beside a cold one
+made() { "$program" "$scratch/$1" make "$2" "$3" < "$scratch/keys" > /dev/null 2>&1 || { echo "calls: make $2 $3 fails"; exit 1; }; }
+made small 3 18
+made large 3 60
+made four 4 60
+cp "$scratch/large" "$scratch/hot"
+hot=$(stop_rekey "$scratch/hot" "$scratch/keys")
+[ "${hot:-0}" -gt 0 ] && [ -e "$scratch/hot-journal" ] || say "a rekey that is stopped leaves no journal"
+head -c 3000 /dev/zero >> "$scratch/hot"
+cp "$scratch/small" "$scratch/cold" && head -c 600 /dev/zero > "$scratch/cold-journal"
+cp "$scratch/small" "$scratch/left" && head -c 2048 /dev/zero > "$scratch/left-migrated"
+[ "$(stat -c %s "$scratch/small")" -le 65536 ] && [ "$(stat -c %s "$scratch/large")" -gt 131072 ] || say "the files have other sizes"
+
+# ---- commands that read
+for words in "tags 3" "header 3" "verify 3" "export 3"; do
+    # shellcheck disable=SC2086
+    run read large none 3 3 $words
+    # shellcheck disable=SC2086
+    run read hot "hot=$hot" 3 3 $words
+done
+run read four none 4 4 verify 4
+run probe large none 3 3 probe
+
+# ---- recoveries
+run recover small none 3 3 recover 3
+run recover cold cold 3 3 recover 3
+run recover hot "hot=$hot" 3 3 recover 3
+
+# ---- commands that change the file
+run stamp small none 3 3 stamp 3 user-version 7
+run commit small none 3 3 stamp 3 user-version 7
+run stamp cold cold 3 3 stamp 3 application-id 7
+run stamp hot "hot=$hot" 3 3 stamp 3 application-id 7
+run rekey small none 3 3 rekey 3 3
+run commit small none 3 3 rekey 3 3
+run rekey large none 3 3 rekey 3 3
+run rekey hot "hot=$hot" 3 3 rekey 3 3
+run rekey four none 4 4 rekey 4 4
+run migrate small none 3 4 migrate 3 4
+run migrate four none 4 3 migrate 4 3
+run migrate hot "hot=$hot" 3 4 migrate 3 4
+run migrate left left 3 3 migrate 3 3
+run make nothing none 3 3 make 3 40
+run make nothing none 4 4 make 4 0
+
+# ---- the program itself, kept from a sync
+kept_from_syncs stamp small 3 3 stamp 3 user-version 7
+kept_from_syncs rekey small 3 3 rekey 3 3
+kept_from_syncs migrate small 3 4 migrate 3 4
+kept_from_syncs make nothing 3 3 make 3 5
+
+echo "calls: $runs runs, $wrong wrong"
+finish "$wrong"

@@ -1,0 +1,119 @@
+#!/usr/bin/env bash
+# Two runs of the program at one file, the second begun at a random moment of the first. Whatever they answer, the file is whole
+# afterwards: after `recover` the program verifies it under one of the keys that were given, and the product finds it sound with
+# the rows of the start. Of two runs of `make` at most one says that it made the file.
+#
+#     tests/two_runs.sh [TRIALS [SEED]]
+#
+# TRIALS is how many trials each pair of commands has, 10 where it is not given. PROGRAM names another program.
+set -u
+top=$(cd "$(dirname "$0")/.." && pwd) || exit 1
+program=${PROGRAM:-$top/out/sqlcipher-tool}
+trials=${1:-10}
+seed=${2:-7}
+scratch=$(mktemp -d) || exit 1
+trap 'rm -rf "$scratch"' EXIT
+export LC_ALL=C.UTF-8 HOME=$scratch
+
+. "$top/tests/common.sh"
+. "$top/tests/others.sh"
+has sqlcipher || { echo "left out: all of it, since sqlcipher is missing"; exit 77; }
+
+write_database 3 "$k1" "$scratch/file" 300
+dump 3 "$k1" "$scratch/file" > "$scratch/dump"
+
+run() { # run FOLDER NUMBER KEYS WORDS..: the status goes to a file
+    local folder=$1 number=$2 keys=$3
+    shift 3
+    # shellcheck disable=SC2086
+    printf '%s\n' $keys | "$program" "$folder/file" "$@" > "$folder/lines-$number" 2> "$folder/errors-$number"
+    echo $? > "$folder/status-$number"
+}
+
+say() { echo "two runs: $*"; echo wrong >> "$scratch/wrong"; }
+
+# The file after both have ended.
+settle() { # settle NAME FOLDER
+    local name=$1 folder=$2 key
+    cp "$folder/file" "$folder/left" && { [ ! -e "$folder/file-journal" ] || cp "$folder/file-journal" "$folder/left-journal"; }
+    "$program" "$folder/file" recover 3 > /dev/null 2>&1 < /dev/null || say "$name: not recovered"
+    key=$(which_key 3 "$folder/file")
+    if [ -z "$key" ]; then
+        say "$name: LOST: it verifies under no key"
+    elif [ "$(check 3 "$key" "$folder/file")" != ok ] || ! dump 3 "$key" "$folder/file" | cmp -s - "$scratch/dump"; then
+        say "$name: LOST: the product does not find it sound"
+    elif ! dump 3 "$key" "$folder/left" | cmp -s - "$scratch/dump"; then
+        say "$name: LOST: without recover the product reads other rows"
+    fi
+}
+
+pair() { # pair NAME HOT KEYS WORDS KEYS WORDS: so many trials
+    local name=$1 hot=$2 trial folder=$scratch/$1 refused=0 delay longest file=$scratch/file
+    mkdir "$folder"
+    [ "$hot" = no ] || file=$scratch/hot
+    # shellcheck disable=SC2086
+    printf '%s\n' $3 > "$folder/keys"
+    # shellcheck disable=SC2086
+    longest=$(duration "$file" "$folder/keys" $4)
+    RANDOM=$seed
+    for trial in $(seq "$trials"); do
+        rm -rf "$folder/trial" && mkdir "$folder/trial"
+        cp "$file" "$folder/trial/file"
+        [ "$hot" = no ] || cp "$file-journal" "$folder/trial/file-journal"
+        delay=$(seconds $((RANDOM % longest)))
+        # shellcheck disable=SC2086
+        { run "$folder/trial" 1 "$3" $4 & }
+        sleep "$delay"
+        # shellcheck disable=SC2086
+        run "$folder/trial" 2 "$5" $6
+        wait
+        settle "$name, trial $trial after $delay s" "$folder/trial"
+        grep -q 'another run of sqlcipher-tool has the file' "$folder/trial/errors-1" "$folder/trial/errors-2" && refused=$((refused + 1))
+    done
+    echo "$name $refused" >> "$scratch/refused"
+}
+
+makes() { # two runs of `make` with two keys
+    local trial folder=$scratch/makes refused=0 done_by key made_in
+    mkdir "$folder" "$folder/timed"
+    made_in=$(date +%s%N)
+    run "$folder/timed" 1 "$k1" make 3 300
+    made_in=$((($(date +%s%N) - made_in) / 1000000 + 10))
+    RANDOM=$seed
+    for trial in $(seq "$trials"); do
+        rm -rf "$folder/trial" && mkdir "$folder/trial"
+        { run "$folder/trial" 1 "$k1" make 3 300 & }
+        sleep "$(seconds $((RANDOM % made_in)))"
+        run "$folder/trial" 2 "$k2" make 3 300
+        wait
+        done_by=$(grep -lx 0 "$folder/trial/status-1" "$folder/trial/status-2" | wc -l)
+        [ "$done_by" -eq 1 ] || say "make, make: trial $trial: $done_by of the two say that they made it"
+        key=$k1
+        grep -qx 0 "$folder/trial/status-1" || key=$k2
+        printf '%s\n' "$key" | "$program" "$folder/trial/file" verify 3 > /dev/null 2>&1 || say "make, make: trial $trial: LOST: it is not under the key of the run that made it"
+        [ ! -e "$folder/trial/file-migrated" ] || say "make, make: trial $trial: a new file is left"
+        grep -q 'another run of sqlcipher-tool has the file' "$folder/trial/errors-1" "$folder/trial/errors-2" && refused=$((refused + 1))
+    done
+    echo "makes $refused" >> "$scratch/refused"
+}
+
+leave_hot 3 "$k1" "$scratch/file" "$scratch/hot"
+
+pair rekey-rekey no "$k1 $k2" 'rekey 3 3' "$k1 $k3" 'rekey 3 3' &
+pair rekey-verify no "$k1 $k2" 'rekey 3 3' "$k1" 'verify 3' &
+pair rekey-recover no "$k1 $k2" 'rekey 3 3' "$k1" 'recover 3' &
+pair rekey-migrate no "$k1 $k2" 'rekey 3 3' "$k1 $k3" 'migrate 3 3' &
+wait
+pair migrate-migrate no "$k1 $k2" 'migrate 3 3' "$k1 $k3" 'migrate 3 3' &
+pair migrate-rekey no "$k1 $k2" 'migrate 3 3' "$k1 $k3" 'rekey 3 3' &
+pair stamp-stamp no "$k1" 'stamp 3 application-id 0' "$k1" 'stamp 3 application-id 0' &
+pair recover-recover yes "$k1" 'recover 3' "$k1" 'recover 3' &
+makes &
+wait
+
+met=$(awk '{ sum += $2 } END { print sum + 0 }' "$scratch/refused")
+# A trial in which the two never meet shows nothing.
+[ "$met" -gt 0 ] || say "no second run met the first"
+lost=$(grep -c . "$scratch/wrong" 2> /dev/null)
+echo "two runs: $((trials * 9)) trials of seed $seed, in $met of them one run met the other; ${lost:-0} lost or wrong"
+[ ! -e "$scratch/wrong" ]
