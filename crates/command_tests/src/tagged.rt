@@ -98,12 +98,17 @@ enum Beside {
 
 const COLD: &[u8] = &[0];
 
-const RECOVERIES: [(Beside, [&str; 2], &str, u8); 5] = [
-    (Beside::Hot, ["tags", "4"], HELD, 0),
-    (Beside::Hot, ["recover", "4"], "played: 1\n", 0),
-    (Beside::Hot, ["recover", "3"], "journal page size 4096\n", 2),
-    (Beside::Cold, ["recover", "4"], "cold\n", 0),
-    (Beside::Nothing, ["recover", "4"], "nothing\n", 0),
+const RECOVERIES: [(Beside, &[&str], &str, u8); 5] = [
+    (Beside::Hot, &["tags", "4"], HELD, 0),
+    (Beside::Hot, &["recover", "4"], "played: 1\n", 0),
+    (
+        Beside::Hot,
+        &["recover", "3"],
+        "journal page size 4096\n",
+        2,
+    ),
+    (Beside::Cold, &["recover", "4"], "cold\n", 0),
+    (Beside::Nothing, &["recover", "4"], "nothing\n", 0),
 ];
 
 #[test]
@@ -118,7 +123,7 @@ fn recovers_before_it_answers(rt: HostRuntime) -> Result<(), Fail> {
             Beside::Hot => Some(hot.as_slice()),
         };
         let mut disk = MemDisk::with_files(alloc, Some(damaged.as_slice()), journal, None)?;
-        let step: Step<'_> = (&words, &[KEY], Some(text), code);
+        let step: Step<'_> = (words, &[KEY], Some(text), code);
         serve_all(&rt, alloc, &mut disk, 0, &[step])?;
         assert_eq!(rt; disk.bytes(Role::Journal).is_some(), code == 2);
     }
