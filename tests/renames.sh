@@ -1,7 +1,8 @@
 #!/usr/bin/env bash
 # Another database is renamed over the file at a random moment of a run, as programs do that save by writing anew. The database that has
 # the name in the end is the other one, whole, as it was or as the run has changed it where it was opened by the run; never the old
-# one's pages in it.
+# one's pages in it. The run has a file open before it is replaced: one that opens the other file from the start plays back the journal
+# beside it, as SQLite does.
 #
 #     tests/renames.sh [TRIALS [SEED]]
 #
@@ -28,18 +29,28 @@ dump 3 "$k1" "$scratch/other" > "$scratch/dump"
 leave_hot 3 "$k1" "$scratch/file" "$scratch/hot"
 printf '%s\n' "$k1" "$k2" > "$scratch/keys"
 
+has_open() { # has_open PROCESS FILE
+    local open
+    for open in /proc/"$1"/fd/*; do
+        [ ! "$open" -ef "$2" ] || return 0
+    done
+    return 1
+}
+
 trial() { # trial NAME NUMBER HOT LONGEST WORDS..
-    local name=$1 number=$2 hot=$3 longest=$4 folder=$scratch/$1-$2 status key
+    local name=$1 number=$2 hot=$3 longest=$4 folder=$scratch/$1-$2 run status key
     shift 4
     mkdir "$folder"
     cp "$scratch/other" "$folder/other"
     if [ "$hot" = hot ]; then cp "$scratch/hot" "$folder/file"; cp "$scratch/hot-journal" "$folder/file-journal"; else cp "$scratch/file" "$folder/file"; fi
     RANDOM=$((seed + number))
-    { "$program" "$folder/file" "$@" < "$scratch/keys" > "$folder/lines" 2> "$folder/errors"; echo $? > "$folder/status"; } &
+    "$program" "$folder/file" "$@" < "$scratch/keys" > "$folder/lines" 2> "$folder/errors" &
+    run=$!
     sleep "$(seconds $((RANDOM % longest)))"
+    until has_open "$run" "$folder/file" || ! kill -0 "$run" 2> /dev/null; do :; done
     mv "$folder/other" "$folder/file"
-    wait $!
-    status=$(cat "$folder/status")
+    wait "$run"
+    status=$?
     grep -q 'the file was replaced' "$folder/errors" && echo seen >> "$scratch/seen-$name"
     # The file that has the name, without what is left beside it, which was another's.
     cp "$folder/file" "$folder/left"
