@@ -4,7 +4,7 @@ use Rattle.std.specs.Option.{option_map}
 use Rattle.std.specs.Prelude.{nat_le, ◌&&◌}
 use Rattle.std.proofs.lemmas.Bool.{eqb-true, eqb-false}
 use Rattle.std.proofs.lemmas.Bool.Decides.{nat_tests}
-use Rattle.std.proofs.lemmas.List.{length-take, take-append-le}
+use Rattle.std.proofs.lemmas.List.{length-take, take-append-le, take_at}
 use Rattle.std.proofs.Math.Nat.{mul-le-mul_right}
 use Rattle.edge_model.specs.Files.{written, Torn}
 use Rattle.disk_side.specs.Torn.{MayTear}
@@ -117,25 +117,16 @@ others_stay keys put count n fresh after one (inr torn) was m has other =
     ∙ ap (λ (l : List ℕ). opened keys m l) (page_stays keys.profile.page_size m n torn.before torn.after stood.numbered one whole other torn.torn)
     ∙ sym (ap (λ (o : Option (List ℕ)). plain_page keys m (contents o)) torn.was)
 
--- what is read of the pages then
-pub page_here : (keys : FileKeys) (first : List ℕ) (put : Test) (n : ℕ) (plain : List ℕ) (after : Option (List ℕ)) → 2 ≤ n → put n ≡ true
-    → plain_page keys n (contents after) ≡ plain → fresh_page keys first put after n ≡ plain
-page_here keys first put n plain after high has is = go (n == 1) (put n) refl has
+-- what is read of a page that was put, but of page 1
+pub page_here : (keys : FileKeys) (first : List ℕ) (put : Test) (held : ℕ → List ℕ → List ℕ) (fresh : Option (List ℕ)) (n : ℕ) → (n ≡ 1 → ⊥) → put n ≡ true
+    → fresh_page keys first put held fresh n ≡ held n (plain_page keys n (contents fresh))
+page_here keys first put held fresh n high has = go (n == 1) (put n) refl has
   where
-    go : (a b : Bool) → (n == 1) ≡ a → b ≡ true → (if a then first else (if b then plain_page keys n (contents after) else [])) ≡ plain
-    go true b low at = absurd (let e : n ≡ 1 = eqb-true n 1 low in omega (arith, e, high))
-    go false true low at = is
+    go : (a b : Bool) → (n == 1) ≡ a → b ≡ true
+        → (if a then first else (if b then held n (plain_page keys n (contents fresh)) else [])) ≡ held n (plain_page keys n (contents fresh))
+    go true b low at = absurd (high (eqb-true n 1 low))
+    go false true low at = refl
     go false false low at = absurd (search rules)
-
-pub page_others : (keys : FileKeys) (first : List ℕ) (put other : Test) (fresh after : Option (List ℕ)) (k : ℕ) → other k ≡ put k
-    → (put k ≡ true → plain_page keys k (contents after) ≡ plain_page keys k (contents fresh)) → fresh_page keys first other after k ≡ fresh_page keys first put fresh k
-page_others keys first put other fresh after k same stays =
-    ap (λ (b : Bool). if k == 1 then first else (if b then plain_page keys k (contents after) else [])) same ∙ go (k == 1) (put k) refl
-  where
-    go : (a b : Bool) → put k ≡ b → (if a then first else (if b then plain_page keys k (contents after) else [])) ≡ (if a then first else (if b then plain_page keys k (contents fresh) else []))
-    go true b has = refl
-    go false true has = stays has
-    go false false has = refl
 
 -- ---- before the first page
 
@@ -188,33 +179,6 @@ pub accepts_others : (first : Bool) (put other : Test) (n k : ℕ) → other ≡
     → (if k == 1 then first else other k) ≡ (if k == 1 then first else put k)
 accepts_others first put other n k same apart = ap (λ (b : Bool). if k == 1 then first else b) (mark_others put other n k same apart)
 
--- what the pages read as once page n is put, or only torn
-pub told_put : (keys : FileKeys) (first : List ℕ) (put other : Test) (n : ℕ) (fresh after : Option (List ℕ)) → other ≡ also (n ∷ []) put
-    → ((m : ℕ) → put m ≡ true → (m ≡ n → ⊥) → plain_page keys m (contents after) ≡ plain_page keys m (contents fresh))
-    → (k : ℕ) → (n == k) ≡ false → fresh_page keys first other after k ≡ fresh_page keys first put fresh k
-told_put keys first put other n fresh after same stays k apart =
-    page_others keys first put other fresh after k (mark_others put other n k same apart) (λ has. stays k has (differs n k apart))
-
-pub told_torn : (keys : FileKeys) (first : List ℕ) (put : Test) (n : ℕ) (fresh after : Option (List ℕ))
-    → ((m : ℕ) → put m ≡ true → (m ≡ n → ⊥) → plain_page keys m (contents after) ≡ plain_page keys m (contents fresh))
-    → (k : ℕ) → (n == k) ≡ false → fresh_page keys first put after k ≡ fresh_page keys first put fresh k
-told_torn keys first put n fresh after stays k apart = page_others keys first put put fresh after k refl (λ has. stays k has (differs n k apart))
-
--- the same by equal keys and an equal page 1
-pub told_as : (keys new : FileKeys) (first last : List ℕ) (put other : Test) (fresh after : Option (List ℕ)) (k : ℕ) → new ≡ keys → last ≡ first
-    → fresh_page keys first other after k ≡ fresh_page keys first put fresh k → fresh_page new last other after k ≡ fresh_page keys first put fresh k
-told_as keys new first last put other fresh after k same_keys same_first told =
-    ap (λ (x : FileKeys). fresh_page x last other after k) same_keys ∙ ap (λ (l : List ℕ). fresh_page keys l other after k) same_first ∙ told
-
-pub page_put : (keys : FileKeys) (first : List ℕ) (put other : Test) (n : ℕ) (plain : List ℕ) (after : Option (List ℕ)) → 2 ≤ n → other ≡ also (n ∷ []) put
-    → plain_page keys n (contents after) ≡ plain → fresh_page keys first other after n ≡ plain
-page_put keys first put other n plain after high same is = page_here keys first other n plain after high (ap (λ (t : Test). t n) same ∙ also_here n put) is
-
--- the same by other words
-pub well_as : (keys : FileKeys) (put other : Test) (count start : ℕ) (tells draws_tell : Bool) (fresh : Option (List ℕ)) (drawn : List ℕ) → other ≡ put
-    → IsWell keys put count start tells draws_tell fresh drawn → IsWell keys other count start tells draws_tell fresh drawn
-well_as keys put other count start tells draws_tell fresh drawn same was = subst (λ (t : Test). IsWell keys t count start tells draws_tell fresh drawn) (sym same) was
-
 -- ---- the end
 
 -- where each page was put, each number above 1 has its mark
@@ -254,16 +218,16 @@ own_fewer reserve start drawn put other seals fewer own = record {
   apart = λ m n other_page has_m has_n. own.apart m n other_page (fewer m has_m) (fewer n has_n);
 }
 
-module _ (keys : FileKeys) (header : Header) (first head : List ℕ) (put accepts : Test) (count usable start : ℕ) (tells draws_tell : Bool) (fresh mid after : Option (List ℕ)) (drawn now : List ℕ) (one : 1 ≤ count)
+module _ (keys : FileKeys) (header : Header) (page : ℕ → List ℕ) (head : List ℕ) (put accepts : Test) (count usable start : ℕ) (tells draws_tell : Bool) (mid after : Option (List ℕ)) (drawn now : List ℕ) (one : 1 ≤ count)
     (well : IsWell keys (also (1 ∷ []) put) count start tells draws_tell mid drawn)
-    (here : plain_page keys 1 (contents mid) ≡ with_head head first)
-    (stays : (m : ℕ) → put m ≡ true → (m ≡ 1 → ⊥) → plain_page keys m (contents mid) ≡ plain_page keys m (contents fresh))
+    (here : plain_page keys 1 (contents mid) ≡ with_head head (page 1))
+    (stays : (m : ℕ) → put m ≡ true → (m ≡ 1 → ⊥) → plain_page keys m (contents mid) ≡ page m)
     (is_head : head ≡ header_bytes (sized header count))
     (all : (n : ℕ) → 2 ≤ n → n ≤ count → put n ≡ true)
     (salt : length keys.salt ≡ 16) (room : 16 ≤ keys.profile.page_size)
     (same : after ≡ mid) (no_draw : now ≡ drawn) where
   abbrev pages : Pages
-  pages = record { count = count; usable = usable; page = fresh_page keys first put fresh; accepts = accepts }
+  pages = record { count = count; usable = usable; page = page; accepts = accepts }
 
   put_of : (n : ℕ) → is_page pages n ≡ true → also (1 ∷ []) put n ≡ true
   put_of n is = go (same_or n 1)
@@ -291,11 +255,10 @@ module _ (keys : FileKeys) (header : Header) (first head : List ℕ) (put accept
     salt = salt_first keys well.paged.file (well.paged.sealed 1 (also_here 1 put)) salt room;
     size = omega (arith, (well.paged.sealed count last_put).1.whole, well.paged.short);
     sealed = λ n is. well.paged.sealed n (put_of n is);
-    first = ap (λ (l : List ℕ). plain_page keys 1 l) (sym file_is) ∙ here ∙ ap (λ (l : List ℕ). with_head l first) is_head;
+    first = ap (λ (l : List ℕ). plain_page keys 1 l) (sym file_is) ∙ here ∙ ap (λ (l : List ℕ). with_head l (page 1)) is_head;
     others = λ n high le.
         ap (λ (l : List ℕ). plain_page keys n l) (sym file_is)
-        ∙ stays n (all n high le) (λ low. absurd (omega (arith, low, high)))
-        ∙ sym (page_here keys first put n (plain_page keys n (contents fresh)) fresh high (all n high le) refl);
+        ∙ stays n (all n high le) (λ low. absurd (omega (arith, low, high)));
     own = λ tell.
         subst (λ (l : List ℕ). OwnDraws keys.profile.reserve start l (is_page pages) (IsSealedWith keys well.paged.file)) (sym no_draw)
         (own_fewer keys.profile.reserve start drawn (also (1 ∷ []) put) (is_page pages) (IsSealedWith keys well.paged.file) put_of ((well.owned tell).own well.paged.file well.paged.is));
@@ -305,6 +268,10 @@ module _ (keys : FileKeys) (header : Header) (first head : List ℕ) (put accept
 
 pub laid_start : (head page : List ℕ) → laid 0 head page ≡ with_head head page
 laid_start head page = ap (λ (k : ℕ). head ++ drop k page) (let e : 0 + length head ≡ length head = omega arith in e)
+
+-- what is written back over as many bytes is all there is
+pub written_is : (n : ℕ) (new old : List ℕ) → length new ≡ n → take n (new ++ drop (length new) old) ≡ new
+written_is n new old sized = take_at new (drop (length new) old) n sized
 
 -- as many bytes are written back as there were
 pub written_back : (n : ℕ) (new old : List ℕ) → length new ≡ n → length (take n (new ++ drop (length new) old)) ≡ n

@@ -2,6 +2,7 @@ pub mod DrawLaws
 pub mod FreshLaws
 pub mod HeadLaws
 pub mod HeadedLaws
+pub mod HeldLaws
 pub mod OpeningLaws
 pub mod PageLaws
 pub mod PlaceLaws

@@ -29,10 +29,11 @@ abbrev pub contents : Option (List ℕ) → List ℕ
 contents None = []
 contents (Some file) = file
 
--- a page by its number: page 1 is held back till the end, and one that was not put has no byte
-abbrev pub fresh_page : FileKeys → List ℕ → Test → Option (List ℕ) → ℕ → List ℕ
-fresh_page keys first put fresh n =
-    if n == 1 then first else (if put n then plain_page keys n (contents fresh) else [])
+-- A page by its number: page 1 is held back till the end, and one that was not put has no byte. What is held back of the others goes
+-- before the file.
+abbrev pub fresh_page : FileKeys → List ℕ → Test → (ℕ → List ℕ → List ℕ) → Option (List ℕ) → ℕ → List ℕ
+fresh_page keys first put held fresh n =
+    if n == 1 then first else (if put n then held n (plain_page keys n (contents fresh)) else [])
 
 -- a page 1 with these bytes at its start
 abbrev pub with_head : List ℕ → List ℕ → List ℕ

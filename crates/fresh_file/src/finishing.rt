@@ -1,4 +1,4 @@
-// The end of a new file: page 1, and the sync.
+// The end of a new file: the pages that are still held back, page 1, and the sync.
 ghost use Rattle.std.specs.Prelude.{◌≡◌, ◌+◌, ◌≤◌, ℕ, [], ◌∷◌, true, length, take, IsTrue, IfOk, OnOk, OnErr, Ok, Err};
 ghost use Rattle.edge_model.specs.Causes.{Rose};
 ghost use Rattle.db_format.specs.Header.{IsPageSize, header_bytes, header_read};
@@ -18,8 +18,8 @@ use page_build::lay;
 impl FreshState {
     ghost use Rattle.fresh_file.specs.State.{IsWellAs, pages_of};
 
-    /// Writes page 1 with this header, in which the size field is set to the count of pages, syncs Fresh and answers the count. Each page
-    /// must have been put: page 1, and every number that was taken.
+    /// Writes the pages that are still held back, then page 1 with this header, in which the size field is set to the count of pages, syncs
+    /// Fresh and answers the count. Each page must have been put: page 1, and every number that was taken.
     pub fn finish<T: Side>(&mut self, side: &mut T, header: &Header) -> Result<u32, CommitFault>
         requires put { AreAllPut (pages_of self.old (T.fresh side.old)) }
         requires page_size { IsPageSize header.now.page_size }
@@ -46,6 +46,7 @@ impl FreshState {
             ..*header
         };
         write_header(&sized, &mut head);
+        self.write_held(side)?;
         self.put_first(side, &head)?;
         sync_side(side)?;
         Ok(count)
@@ -54,11 +55,11 @@ impl FreshState {
     // Page 1 with this header.
     fn put_first<T: Side>(&mut self, side: &mut T, head: &[u8; 100]) -> Result<(), CommitFault>
         requires magic { take 16 head.now ≡ magic }
-        ensures well { (start : ℕ) → IsWellAs self.old start T.tells T.draws_tell (T.fresh side.old) (T.drawn side.old)
+        ensures well { (start : ℕ) → IsWell self.old.codec (marked self.old.put) (self.old.taken + 1) start T.tells T.draws_tell (T.fresh side.old) (T.drawn side.old)
             → OnOk result (IsWell self.old.codec (also (1 ∷ []) (marked self.old.put)) (self.old.taken + 1) start T.tells T.draws_tell (T.fresh side.new) (T.drawn side.new)) }
-        ensures here { (start : ℕ) → IsWellAs self.old start T.tells T.draws_tell (T.fresh side.old) (T.drawn side.old)
+        ensures here { (start : ℕ) → IsWell self.old.codec (marked self.old.put) (self.old.taken + 1) start T.tells T.draws_tell (T.fresh side.old) (T.drawn side.old)
             → OnOk result (plain_page self.old.codec 1 (contents (T.fresh side.new)) ≡ with_head head.now self.old.first.items) }
-        ensures others { (start : ℕ) → IsWellAs self.old start T.tells T.draws_tell (T.fresh side.old) (T.drawn side.old)
+        ensures others { (start : ℕ) → IsWell self.old.codec (marked self.old.put) (self.old.taken + 1) start T.tells T.draws_tell (T.fresh side.old) (T.drawn side.old)
             → OnOk result ((m : ℕ) → marked self.old.put m ≡ true → (m ≡ 1 → ⊥) → plain_page self.old.codec m (contents (T.fresh side.new)) ≡ plain_page self.old.codec m (contents (T.fresh side.old))) }
         ensures kept { T.only_fresh side.old side.new }
         ensures disk_later { T.disk_faults side.old ≤ T.disk_faults side.new }

@@ -51,8 +51,8 @@ pub(crate) fn seal_page_to<T: Side>(
     write_to(side, (n as u64 - 1) * size, stored)
 }
 
-// The bytes of one page.
-fn draw_for<T: Side>(side: &mut T, draw: &mut [u8]) -> Result<(), CommitFault>
+/// Draws the bytes of one page.
+pub(crate) fn draw_for<T: Side>(side: &mut T, draw: &mut [u8]) -> Result<(), CommitFault>
     ensures own { OnOk result (IsTrue T.draws_tell → T.drawn side.new ≡ T.drawn side.old ++ draw.new) }
     ensures same { IsTrue T.tells → T.fresh side.new ≡ T.fresh side.old }
     ensures kept { T.only_fresh side.old side.new }
@@ -67,8 +67,8 @@ fn draw_for<T: Side>(side: &mut T, draw: &mut [u8]) -> Result<(), CommitFault>
     }
 }
 
-// The stored page at its offset.
-fn write_to<T: Side>(side: &mut T, at: u64, stored: &[u8]) -> Result<(), CommitFault>
+/// Writes the stored page to its offset.
+pub(crate) fn write_to<T: Side>(side: &mut T, at: u64, stored: &[u8]) -> Result<(), CommitFault>
     ensures done { OnOk result (IsTrue T.tells → T.fresh side.new ≡ option_map (written at stored.now) (T.fresh side.old)) }
     ensures torn { IsTrue T.tells → MayTear at (length stored.now) (T.fresh side.old) (T.fresh side.new) }
     ensures drawn { T.drawn side.new ≡ T.drawn side.old }

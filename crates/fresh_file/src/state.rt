@@ -1,14 +1,14 @@
-// A new file while it is written: which pages were put.
-ghost use Rattle.std.specs.Prelude.{◌≡◌, ◌+◌, ◌≤◌, ◌^◌, ◌*◌, ◌/◌, ℕ, [], ◌∷◌, Some, IsTrue, IfOk, OnOk, OnErr, length, true, false, Err};
+// A new file while it is written: which pages were put, and which of them are held back.
+ghost use Rattle.std.specs.Prelude.{◌≡◌, ◌==◌, ◌+◌, ◌≤◌, ◌<◌, ◌^◌, ◌*◌, ◌/◌, ℕ, [], ◌∷◌, Some, IsTrue, IfOk, OnOk, OnErr, length, true, false, Err};
 ghost use Rattle.cipher_profile.specs.Profile.{IsListed, usable};
 ghost use Rattle.edge_model.specs.Causes.{Rose};
 ghost use Rattle.db_format.specs.Pages.{IsUsable, also, nothing};
 ghost use Rattle.db_format.specs.Seen.{marked};
-ghost use Rattle.fresh_file.specs.Fresh.{contents};
-ghost use Rattle.fresh_file.specs.Sealed.{plain_page};
+ghost use Rattle.fresh_file.specs.Fresh.{IsWell};
 
 use crate::fresh_out::FreshOut;
-use crate::sealing::{CommitFault, seal_page_to};
+use crate::held::{HeldPages, zeros};
+use crate::sealing::{CommitFault, draw_for};
 use bulk_load::OutError;
 use cipher_profile::Profile;
 use db_format::{OutOfMemory, Seen};
@@ -28,7 +28,8 @@ pub enum StartError {
     OutOfMemory,
 }
 
-/// The pages of a new file: which of them were put, and page 1, which is held back for its header. It takes all its memory at `start`.
+/// The pages of a new file: which of them were put, those that are held back, to be sealed side by side, and page 1, which is held back for
+/// its header. It takes all its memory at `start`: that for 130 pages, and a mark for each page that there may be.
 #[derive(Drop)]
 pub struct FreshState {
     pub(crate) codec: Codec,
@@ -44,10 +45,13 @@ pub struct FreshState {
     // room for the bytes that are drawn for a page, and for a stored page
     pub(crate) draw: Vec<u8>,
     pub(crate) stored: Vec<u8>,
+    // pages that were put and are not in the file yet
+    pub(crate) held: HeldPages,
     ghost first_size: { length first.items ≡ usable codec.profile },
     ghost lendable: { IsUsable (usable codec.profile) },
     ghost draw_size: { length draw.items ≡ codec.profile.reserve },
     ghost stored_size: { length stored.items ≡ codec.profile.page_size },
+    ghost held_size: { held.size ≡ codec.profile.page_size },
     ghost put_size: { length put ≡ limit + 1 },
     ghost counted: { 1 ≤ taken + 1 },
     ghost within: { taken + 1 ≤ limit },
@@ -89,6 +93,7 @@ impl FreshState {
         ensures codec { IfOk result (λ s. s.codec ≡ codec) }
         ensures limit { IfOk result (λ s. s.limit ≡ 2 ^ 30 / codec.profile.page_size) }
         ensures none { IfOk result (λ s. marked s.put ≡ nothing) }
+        ensures held { IfOk result (λ s. s.held.count ≡ 0) }
         ensures first { IfOk result (λ s. (s.has_first ≡ false) × (s.taken ≡ 0)) }
     {
         let profile = *codec.profile();
@@ -97,6 +102,7 @@ impl FreshState {
         let first = zeros(alloc, usable_of(&profile))?;
         let draw = zeros(alloc, profile.reserve as usize)?;
         let stored = zeros(alloc, profile.page_size as usize)?;
+        let held = HeldPages::new(alloc, profile.page_size)?;
         Ok(FreshState {
             codec,
             put,
@@ -106,6 +112,7 @@ impl FreshState {
             first,
             draw,
             stored,
+            held,
         })
     }
 
@@ -139,6 +146,8 @@ impl FreshState {
         ensures limit { self.new.limit ≡ self.old.limit }
         ensures first { (self.new.has_first ≡ self.old.has_first) × (self.new.first.items ≡ self.old.first.items) }
         ensures put { self.new.put ≡ self.old.put }
+        ensures held { self.new.held ≡ self.old.held }
+        ensures more { self.old.taken ≤ self.new.taken }
         ensures number { IfOk result (λ n. (n ≡ self.old.taken + 2) × (self.new.taken ≡ self.old.taken + 1)) }
         ensures free { IfOk result (λ n. marked self.old.put n ≡ false) }
         ensures room { OnOk result (self.old.taken + 2 ≤ self.old.limit) }
@@ -159,12 +168,13 @@ impl FreshState {
         ensures taken { (self.new.taken ≡ self.old.taken) × (self.new.limit ≡ self.old.limit) }
         ensures first { (self.new.has_first ≡ true) × (self.new.first.items ≡ plain.now) }
         ensures put { self.new.put ≡ self.old.put }
+        ensures held { self.new.held ≡ self.old.held }
     {
         self.first.copy_from_slice(plain);
         self.has_first = true;
     }
 
-    // Seals page n, but not page 1, and writes it.
+    // Puts page n, but not page 1: it is held back. Where no more can be held, those that are go into the file first.
     pub(crate) fn put_page<T: Side>(
         &mut self,
         side: &mut T,
@@ -181,25 +191,91 @@ impl FreshState {
         ensures not_put { OnErr result (self.new.put ≡ self.old.put) }
         ensures well { (start : ℕ) → IsWellAs self.old start T.tells T.draws_tell (T.fresh side.old) (T.drawn side.old)
             → OnOk result (IsWellAs self.new start T.tells T.draws_tell (T.fresh side.new) (T.drawn side.new)) }
-        ensures here { (start : ℕ) → IsWellAs self.old start T.tells T.draws_tell (T.fresh side.old) (T.drawn side.old)
-            → OnOk result (plain_page self.old.codec n (contents (T.fresh side.new)) ≡ plain.now) }
+        ensures here { OnOk result ((pages_of self.new (T.fresh side.new)).page n ≡ plain.now) }
         ensures others { (start : ℕ) → IsWellAs self.old start T.tells T.draws_tell (T.fresh side.old) (T.drawn side.old)
-            → (m : ℕ) → marked self.old.put m ≡ true → (m ≡ n → ⊥) → plain_page self.old.codec m (contents (T.fresh side.new)) ≡ plain_page self.old.codec m (contents (T.fresh side.old)) }
+            → (k : ℕ) → (n == k) ≡ false → (pages_of self.new (T.fresh side.new)).page k ≡ (pages_of self.old (T.fresh side.old)).page k }
         ensures kept { T.only_fresh side.old side.new }
         ensures disk_later { T.disk_faults side.old ≤ T.disk_faults side.new }
         ensures draws_later { T.draw_faults side.old ≤ T.draw_faults side.new }
         ensures disk { result ≡ Err CommitFault.DiskFault → Rose (T.disk_faults side.old) (T.disk_faults side.new) }
         ensures entropy { result ≡ Err CommitFault.EntropyFault → Rose (T.draw_faults side.old) (T.draw_faults side.new) }
     {
+        self.make_room(side)?;
+        self.hold(side, n, plain)
+    }
+
+    // There is room to hold one more page back.
+    fn make_room<T: Side>(&mut self, side: &mut T) -> Result<(), CommitFault>
+        ensures codec { self.new.codec ≡ self.old.codec }
+        ensures taken { (self.new.taken ≡ self.old.taken) × (self.new.limit ≡ self.old.limit) }
+        ensures first { (self.new.has_first ≡ self.old.has_first) × (self.new.first.items ≡ self.old.first.items) }
+        ensures put { self.new.put ≡ self.old.put }
+        ensures room { OnOk result (self.new.held.count < 64) }
+        ensures well { (start : ℕ) → IsWellAs self.old start T.tells T.draws_tell (T.fresh side.old) (T.drawn side.old)
+            → OnOk result (IsWellAs self.new start T.tells T.draws_tell (T.fresh side.new) (T.drawn side.new)) }
+        ensures pages { (start : ℕ) → IsWellAs self.old start T.tells T.draws_tell (T.fresh side.old) (T.drawn side.old)
+            → (k : ℕ) → (pages_of self.new (T.fresh side.new)).page k ≡ (pages_of self.old (T.fresh side.old)).page k }
+        ensures kept { T.only_fresh side.old side.new }
+        ensures draws_later { T.draw_faults side.new ≡ T.draw_faults side.old }
+        ensures disk_later { T.disk_faults side.old ≤ T.disk_faults side.new }
+        ensures fault { OnErr result (Rose (T.disk_faults side.old) (T.disk_faults side.new)) }
+        ensures error { OnErr result (result ≡ Err CommitFault.DiskFault) }
+    {
+        if self.held.is_full() {
+            return self.write_held(side);
+        }
+        Ok(())
+    }
+
+    // No page is held back any more: each is sealed and written to its place. After a fault each is still held.
+    pub(crate) fn write_held<T: Side>(&mut self, side: &mut T) -> Result<(), CommitFault>
+        ensures codec { self.new.codec ≡ self.old.codec }
+        ensures taken { (self.new.taken ≡ self.old.taken) × (self.new.limit ≡ self.old.limit) }
+        ensures first { (self.new.has_first ≡ self.old.has_first) × (self.new.first.items ≡ self.old.first.items) }
+        ensures put { self.new.put ≡ self.old.put }
+        ensures none { OnOk result (self.new.held.count ≡ 0) }
+        ensures well { (start : ℕ) → IsWellAs self.old start T.tells T.draws_tell (T.fresh side.old) (T.drawn side.old)
+            → OnOk result (IsWell self.new.codec (marked self.new.put) (self.new.taken + 1) start T.tells T.draws_tell (T.fresh side.new) (T.drawn side.new)) }
+        ensures none_held { (start : ℕ) → IsWellAs self.old start T.tells T.draws_tell (T.fresh side.old) (T.drawn side.old)
+            → OnOk result (IsWellAs self.new start T.tells T.draws_tell (T.fresh side.new) (T.drawn side.new)) }
+        ensures pages { (start : ℕ) → IsWellAs self.old start T.tells T.draws_tell (T.fresh side.old) (T.drawn side.old)
+            → (k : ℕ) → (pages_of self.new (T.fresh side.new)).page k ≡ (pages_of self.old (T.fresh side.old)).page k }
+        ensures kept { T.only_fresh side.old side.new }
+        ensures draws_later { T.draw_faults side.new ≡ T.draw_faults side.old }
+        ensures disk_later { T.disk_faults side.old ≤ T.disk_faults side.new }
+        ensures fault { OnErr result (Rose (T.disk_faults side.old) (T.disk_faults side.new)) }
+        ensures error { OnErr result (result ≡ Err CommitFault.DiskFault) }
+    {
+        self.held.seal(&self.codec);
+        self.held.write(side)?;
+        self.held.count = 0;
+        Ok(())
+    }
+
+    // Page n is held back, with the bytes that are drawn for it.
+    fn hold<T: Side>(&mut self, side: &mut T, n: u32, plain: &[u8]) -> Result<(), CommitFault>
+        requires number { 2 ≤ n }
+        requires taken { n ≤ self.old.taken + 1 }
+        requires size { length plain.now ≡ usable self.old.codec.profile }
+        requires room { self.old.held.count < 64 }
+        ensures codec { self.new.codec ≡ self.old.codec }
+        ensures taken { (self.new.taken ≡ self.old.taken) × (self.new.limit ≡ self.old.limit) }
+        ensures first { (self.new.has_first ≡ self.old.has_first) × (self.new.first.items ≡ self.old.first.items) }
+        ensures put { OnOk result (marked self.new.put ≡ also (n ∷ []) (marked self.old.put)) }
+        ensures not_put { OnErr result (self.new.put ≡ self.old.put) }
+        ensures well { (start : ℕ) → IsWellAs self.old start T.tells T.draws_tell (T.fresh side.old) (T.drawn side.old)
+            → OnOk result (IsWellAs self.new start T.tells T.draws_tell (T.fresh side.new) (T.drawn side.new)) }
+        ensures here { OnOk result ((pages_of self.new (T.fresh side.new)).page n ≡ plain.now) }
+        ensures others { IsTrue T.tells → (k : ℕ) → (n == k) ≡ false → (pages_of self.new (T.fresh side.new)).page k ≡ (pages_of self.old (T.fresh side.old)).page k }
+        ensures kept { T.only_fresh side.old side.new }
+        ensures disk_later { T.disk_faults side.new ≡ T.disk_faults side.old }
+        ensures draws_later { T.draw_faults side.old ≤ T.draw_faults side.new }
+        ensures fault { OnErr result (Rose (T.draw_faults side.old) (T.draw_faults side.new)) }
+        ensures error { OnErr result (result ≡ Err CommitFault.EntropyFault) }
+    {
         let _profile = *self.codec.profile();
-        seal_page_to(
-            &self.codec,
-            &mut self.draw,
-            &mut self.stored,
-            side,
-            n,
-            plain,
-        )?;
+        draw_for(side, &mut self.draw)?;
+        self.held.add(n, plain, &self.draw);
         self.put.mark(n);
         Ok(())
     }
@@ -222,14 +298,4 @@ fn usable_of(profile: &Profile) -> usize
     ensures range { IsUsable result }
 {
     profile.usable()
-}
-
-// So many zeros.
-fn zeros(alloc: Global, len: usize) -> Result<Vec<u8>, OutOfMemory>
-    ensures { IfOk result (λ bytes. length bytes.items ≡ len) }
-{
-    match vec![in alloc; 0u8; len] {
-        Ok(bytes) => Ok(bytes),
-        Err(_) => Err(OutOfMemory),
-    }
 }

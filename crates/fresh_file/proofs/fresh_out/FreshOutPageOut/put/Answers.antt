@@ -1,21 +1,17 @@
-use Rattle.std.proofs.Common.{◌∙◌, ◌==◌, ◌+◌, ℕ, Bool, ap, arith, if◌then◌else◌}
+use Rattle.std.proofs.Common.{◌∙◌, ◌+◌, ◌==◌, ℕ, Bool, ap, arith, if◌then◌else◌}
 use Rattle.cipher_profile.specs.Profile.{usable}
 use Rattle.db_format.specs.Seen.{marked}
 use Rattle.page_codec.specs.Page.{FileKeys}
-use Rattle.fresh_file.specs.Fresh.{contents, fresh_page}
-use Rattle.fresh_file.specs.Sealed.{plain_page}
-use Rattle.fresh_file.proofs.FreshLaws.{accepts_here, accepts_others, page_put, told_as, told_put, told_torn}
+use Rattle.fresh_file.specs.State.{held_page}
+use Rattle.fresh_file.proofs.FreshLaws.{accepts_here, accepts_others}
+use Rattle.fresh_file.proofs.HeldLaws.{once_as, page_as, page_but_first}
 use Rattle.fresh_file.proofs.fresh_out.FreshOutPageOut.put.Goals as goal
 
 pub returns-in-Ok-clause-put : goal.returns-in-Ok-clause-put
 returns-in-Ok-clause-put g c = accepts_here _ _ _ c.args.n (omega arith) c.in-Ok.ensures.put
 
 pub returns-in-Ok-clause-page : goal.returns-in-Ok-clause-page
-returns-in-Ok-clause-page g c start was =
-    let new = c.put_page.new.self in
-    let after = g.T.Side.fresh c.put_page.new.side in
-    page_put new.codec new.first.items (marked c.args.self.now.state.now.put) (marked new.put) c.args.n c.args.plain.now after (omega arith) c.in-Ok.ensures.put
-    (ap (λ (k : FileKeys). plain_page k c.args.n (contents after)) c.put_page.ensures.codec ∙ c.in-Ok.ensures.here start was)
+returns-in-Ok-clause-page g c start was = c.in-Ok.ensures.here
 
 pub returns-in-Ok-clause-well : goal.returns-in-Ok-clause-well
 returns-in-Ok-clause-well g c start was = c.in-Ok.ensures.well start was
@@ -31,30 +27,26 @@ returns-in-Ok-clause-marks g c = record {
 }
 
 pub returns-in-Ok-clause-told : goal.returns-in-Ok-clause-told
-returns-in-Ok-clause-told g c start was k apart =
-    let old = c.args.self.now.state.now in
-    let new = c.put_page.new.self in
-    let fresh = g.T.Side.fresh c.args.self.now.side.now in
-    let after = g.T.Side.fresh c.put_page.new.side in
-    told_as old.codec new.codec old.first.items new.first.items (marked old.put) (marked new.put) fresh after k c.put_page.ensures.codec c.put_page.ensures.first.1
-    (told_put old.codec old.first.items (marked old.put) (marked new.put) c.args.n fresh after c.in-Ok.ensures.put (c.put_page.ensures.others start was) k apart)
+returns-in-Ok-clause-told g c start was k apart = c.put_page.ensures.others start was k apart
 
 pub returns-in-Err-DiskFault-clause-told : goal.returns-in-Err-DiskFault-clause-told
-returns-in-Err-DiskFault-clause-told g c start was k apart =
-    let old = c.args.self.now.state.now in
-    let new = c.put_page.new.self in
-    let fresh = g.T.Side.fresh c.args.self.now.side.now in
-    let after = g.T.Side.fresh c.put_page.new.side in
-    told_as old.codec new.codec old.first.items new.first.items (marked old.put) (marked new.put) fresh after k c.put_page.ensures.codec c.put_page.ensures.first.1
-    (ap (λ m. fresh_page old.codec old.first.items (marked m) after k) c.in-Err-DiskFault.ensures.not_put
-    ∙ told_torn old.codec old.first.items (marked old.put) c.args.n fresh after (c.put_page.ensures.others start was) k apart)
+returns-in-Err-DiskFault-clause-told g c start was k apart = c.put_page.ensures.others start was k apart
 
 pub returns-in-Err-EntropyFault-clause-told : goal.returns-in-Err-EntropyFault-clause-told
-returns-in-Err-EntropyFault-clause-told g c start was k apart =
+returns-in-Err-EntropyFault-clause-told g c start was k apart = c.put_page.ensures.others start was k apart
+
+pub returns-then-n-eq1-clause-well : goal.returns-then-n-eq1-clause-well
+returns-then-n-eq1-clause-well g c start was =
     let old = c.args.self.now.state.now in
-    let new = c.put_page.new.self in
+    let new = c.keep_first.new.self in
+    let same = c.keep_first.ensures in
+    once_as old.codec new.codec old.held new.held old.put new.put same.codec same.held same.put (old.taken + 1) (new.taken + 1) start _ _ _ _ (omega (arith, same.taken.0)) was
+
+pub returns-then-n-eq1-clause-told : goal.returns-then-n-eq1-clause-told
+returns-then-n-eq1-clause-told g c start was k apart =
+    let old = c.args.self.now.state.now in
+    let new = c.keep_first.new.self in
+    let same = c.keep_first.ensures in
     let fresh = g.T.Side.fresh c.args.self.now.side.now in
-    let after = g.T.Side.fresh c.put_page.new.side in
-    told_as old.codec new.codec old.first.items new.first.items (marked old.put) (marked new.put) fresh after k c.put_page.ensures.codec c.put_page.ensures.first.1
-    (ap (λ m. fresh_page old.codec old.first.items (marked m) after k) c.in-Err-EntropyFault.ensures.not_put
-    ∙ told_torn old.codec old.first.items (marked old.put) c.args.n fresh after (c.put_page.ensures.others start was) k apart)
+    page_as old.codec new.codec old.held new.held old.put new.put same.codec same.held same.put new.first.items fresh k
+    ∙ page_but_first old.codec old.first.items new.first.items (marked old.put) (held_page old.codec old.held) fresh c.args.n k (omega arith) apart
