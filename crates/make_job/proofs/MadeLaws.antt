@@ -1,5 +1,5 @@
 -- A new file that was written to its end is the made one.
-use Rattle.std.proofs.Common.{◌≡◌, ◌+◌, ℕ, Bool, List, [], ◌∷◌, Option, Some, None, Ok, arith, ap, refl, subst}
+use Rattle.std.proofs.Common.{◌≡◌, ◌≤◌, ◌+◌, ℕ, Bool, List, [], ◌∷◌, Option, Some, None, Ok, arith, ap, refl, subst}
 use Rattle.std.specs.Prelude.{IsTrue}
 use Rattle.std.proofs.Math.Path.{subst₂}
 use Rattle.btree_model.specs.Content.{HoldsContent, kept_fields}
@@ -9,6 +9,7 @@ use Rattle.db_format.specs.Pages.{Pages}
 use Rattle.db_format.specs.declared.header.Header.{Header}
 use Rattle.db_maker.specs.Made.{IsMade, made_items}
 use Rattle.bulk_load.proofs.FreeLemmas.{header_free}
+use Rattle.edge_model.specs.Causes.{Rose}
 use Rattle.edge_model.specs.Files.{File, Files}
 use Rattle.fresh_file.specs.Draws.{AreOwnDraws}
 use Rattle.fresh_file.specs.Fresh.{IsFinished, sized}
@@ -21,6 +22,10 @@ use Rattle.make_job.specs.Stops.{in_the_way}
 use Rattle.make_job.specs.Written.{IsWritten}
 use Rattle.page_codec.specs.Page.{FileKeys}
 use Rattle.pager.specs.Pages.{opened_pages}
+
+-- a count that rose after a later state rose after the first one too
+pub rose_later : (before middle now : ℕ) → before ≤ middle → Rose middle now → Rose before now
+rose_later before middle now less rose = omega arith
 
 -- where nothing stands in the way there is no journal
 pub no_journal : (files : Files) → in_the_way files ≡ None → files.journal ≡ None

@@ -3,6 +3,7 @@ ghost use Rattle.std.specs.Prelude.{◌≡◌, ◌≤◌, ◌<◌, ℕ, List, fa
 ghost use Rattle.cipher_profile.specs.Profile.{IsListed, usable};
 ghost use Rattle.edge_model.specs.Causes.{Rose};
 ghost use Rattle.bulk_load.specs.Out.{AreAllPut};
+ghost use Rattle.db_format.specs.Header.{IsPageSize};
 ghost use Rattle.db_maker.specs.Made.{IsMade};
 ghost use Rattle.db_maker.specs.Pages.{made_pages};
 ghost use Rattle.db_maker.specs.Rows.{total_len};
@@ -103,7 +104,10 @@ fn load_error(error: LoadError) -> MakeError
 
 // The header, but for the count of pages.
 fn header_of(profile: &Profile) -> Header
-    ensures { result ≡ made_header profile.now 0 }
+    requires { IsListed profile.now }
+    ensures value { result ≡ made_header profile.now 0 }
+    ensures page_size { IsPageSize result.page_size }
+    ensures reserve { result.reserve ≤ 255 }
 {
     Header {
         page_size: profile.page_size,
