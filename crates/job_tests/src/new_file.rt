@@ -1,4 +1,4 @@
-// A new file of two pages of profile 3, over a disk and an entropy in memory. page_codec's own tests compare sealed pages with
+// New files of profile 3, over a disk and an entropy in memory. page_codec's own tests compare sealed pages with
 // pages from outside.
 ghost use Rattle.std.specs.Prelude.{◌≡◌, ◌≤◌, true, length, IfOk, OnOk};
 ghost use Rattle.cipher_profile.specs.Profile.{usable};
@@ -76,10 +76,10 @@ fn write_two<T: Side>(alloc: Global, rt: &impl Abort, side: &mut T) -> Result<u3
 }
 
 // A call of the disk that fails, a draw that fails, 0 standing for none, and what is answered. The disk's calls are: length, remove,
-// sync_folder, create, a write of each page, and sync; a draw comes before each write.
+// sync_folder, create, a write of each page, and sync. A page is drawn for where it is put, and few are held back till the end.
 const ANSWERS: [(u64, u64, Result<u32, Stopped>); 7] = [
     (4, 0, Err(Stopped::Start(StartError::DiskFault))),
-    (5, 0, Err(Stopped::Put(OutError::DiskFault))),
+    (5, 0, Err(Stopped::Finish(CommitFault::DiskFault))),
     (6, 0, Err(Stopped::Finish(CommitFault::DiskFault))),
     (7, 0, Err(Stopped::Finish(CommitFault::DiskFault))),
     (0, 1, Err(Stopped::Put(OutError::EntropyFault))),
@@ -108,6 +108,62 @@ fn a_new_file_has_the_salt_and_as_many_pages_as_were_put(rt: HostRuntime) -> Res
             assert_eq!(rt; file.get(..16), Some(SALT.as_slice()));
             assert_eq!(rt; disk.inner.starved(), 0);
         }
+    }
+    Ok(())
+}
+
+/// Puts so many pages, from page 2 on.
+fn put_many<P: PageOut>(out: &mut P, plain: &[u8], pages: usize) -> Result<(), OutError>
+    requires size { length plain.now ≡ (P.pages out.old).usable }
+{
+    'pages: for _ in 0..pages {
+        let n = out.take()?;
+        out.put(n, plain)?;
+    }
+    Ok(())
+}
+
+fn hold_pages<T: Side>(
+    alloc: Global,
+    rt: &impl Abort,
+    side: &mut T,
+    pages: usize,
+) -> Result<(), Stopped> {
+    let codec = codec_of(rt, "3", 5);
+    let plain = [6; 976];
+    assert!(rt; plain.len() == codec.profile().usable());
+    let mut state = FreshState::start(alloc, side, codec).map_err(Stopped::Start)?;
+    let mut out = state.out(side);
+    put_many(&mut out, &plain, pages).map_err(Stopped::Put)
+}
+
+// How many pages are put from page 2 on, a call of the disk that fails, 0 standing for none, what is answered, and how long the file is
+// then. 64 pages are held back, and the next one has them written.
+const HELD: [(usize, u64, Result<(), Stopped>, usize); 4] = [
+    (64, 0, Ok(()), 0),
+    (64, 5, Ok(()), 0),
+    (65, 0, Ok(()), 66_560),
+    (65, 5, Err(Stopped::Put(OutError::DiskFault)), 0),
+];
+
+#[test]
+fn sixty_four_pages_are_held_back(rt: HostRuntime) -> Result<(), Fail> {
+    let alloc = rt.alloc();
+    for (pages, call, answer, length) in HELD {
+        let mut disk = disk_of(alloc, &[1])?;
+        disk.inner.fail_calls(&[call])?;
+        let mut entropy = MemEntropy::new(alloc, &[9; 4096], &[])?;
+        let mut pair = Pair {
+            disk: &mut disk,
+            entropy: &mut entropy,
+        };
+        assert_eq!(rt;
+            hold_pages(alloc, &rt, &mut pair, pages),
+            answer,
+            "{pages} {call}"
+        );
+        let file = disk.inner.bytes(Role::Fresh).ok_or("no file")?;
+        assert_eq!(rt; file.len(), length, "{pages} {call}");
     }
     Ok(())
 }
