@@ -14,6 +14,7 @@ use Rattle.page_build.specs.Written.{four_bytes}
 use Rattle.page_build.proofs.Append.{four_back}
 use Rattle.bulk_load.specs.Chain.{IsLink, IsPutChain}
 use Rattle.bulk_load.specs.Out.{IsPutAs}
+use Rattle.bulk_load.proofs.PutLemmas.{unput}
 
 -- the page that was put is a link: the number of the next page, these bytes, and what the page had behind them
 pub link_is : (old new : Pages) (n next : ℕ) (page piece bytes : List ℕ) → IsPutAs old new n bytes → bytes ≡ laid 4 piece (laid 0 (four_bytes next) page)
@@ -55,13 +56,6 @@ still old new m put n h = here (m == n) refl
     here : (b : Bool) → (m == n) ≡ b → new.accepts n ≡ true
     here false is = put.stays_put n is ∙ h
     here true is = ap new.accepts (sym (eqb-true m n is)) ∙ put.put
-
-unput : (old mid : Pages) (n : ℕ) → ((k : ℕ) → old.accepts k ≡ true → mid.accepts k ≡ true) → mid.accepts n ≡ false → old.accepts n ≡ false
-unput old mid n keep h = here (old.accepts n) refl
-  where
-    here : (b : Bool) → old.accepts n ≡ b → old.accepts n ≡ false
-    here false is = is
-    here true is = let no : true ≡ false = sym (keep n is) ∙ h in cc
 
 -- a list of no length
 empty : (xs : List ℕ) → length xs ≡ 0 → xs ≡ []
@@ -107,8 +101,8 @@ module _ (old mid new : Pages) (next n : ℕ) (piece bytes : List ℕ) (was : Is
         size = link.put.size ∙ was.size;
         fresh = ap (λ b. b || list_any old.accepts was.ns) (unput old mid n was.stays link.put.fresh) ∙ was.fresh;
         stays = λ k h. still mid new n link.put k (was.stays k h);
-        keeps = λ family last todo pushed s. put_stands mid new family last todo pushed n link.put (was.keeps family last todo pushed s);
-        same = λ family last todo pushed s slack. put_found mid new family last todo pushed n link.put (was.keeps family last todo pushed s) slack ∙ was.same family last todo pushed s slack;
+        keeps = λ family last todo pushed s. put_stands was.ns mid new family last todo pushed n link.put (was.keeps family last todo pushed s);
+        same = λ family last todo pushed s slack. put_found was.ns mid new family last todo pushed n link.put (was.keeps family last todo pushed s) slack ∙ was.same family last todo pushed s slack;
       }
 
   sizes : length (piece ++ bytes) ≡ length piece + length bytes

@@ -1,18 +1,20 @@
 -- A schema and its trees, each on pages of its own, are a database.
-use Rattle.std.proofs.Common.{◌≡◌, ◌≤◌, ℕ, ℤ, true, false, List, [], ◌∷◌, ◌++◌, ◌||◌, ◌==◌, Option, Some, None, map, if◌then◌else◌, refl, ap, ◌∙◌, arith}
-use Rattle.std.specs.Prelude.{is_some}
-use Rattle.std.specs.List.{flat_map, list_all, list_any}
+use Rattle.std.proofs.Common.{◌≡◌, ◌≤◌, ◌<◌, ◌+◌, ℕ, zero, suc, ℤ, Bool, true, false, not, List, [], ◌∷◌, ◌++◌, ◌||◌, ◌&&◌, ◌==◌, Option, Some, None, cond, count_by, map, if◌then◌else◌, refl, ap, ◌∙◌, arith}
+use Rattle.std.specs.Prelude.{is_some, nat_le}
+use Rattle.std.specs.List.{flat_map, list_all, list_any, range_with_len}
 use Rattle.std.specs.Cmp.Derive.{both_true}
 use Rattle.std.proofs.lemmas.List.{append-nil}
+use Rattle.std.proofs.lemmas.List.Folds.{list_any-append}
+use Rattle.std.proofs.lemmas.List.Sums.{sum_by-cons}
 use Rattle.db_format.specs.Bytes.{u32_at}
 use Rattle.db_format.specs.declared.defect.Defect.TheVariants.{RootFault}
-use Rattle.db_format.specs.Pages.{Pages, Test, also, nothing}
+use Rattle.db_format.specs.Pages.{Pages, Test, also, is_page, nothing}
 use Rattle.db_format.specs.Record.{columns}
 use Rattle.db_format.specs.Value.{Datum}
 use Rattle.btree_page.specs.declared.kind.Family.TheVariants.{Table}
 use Rattle.btree_model.specs.Content.{Entry, HoldsContent, SchemaItem, content, entry_of, item_of, item_with, kept_fields, with_tree, without_fourth}
 use Rattle.btree_model.specs.Finding.{Finding, Row, entries, fault, is_sound, places}
-use Rattle.btree_model.specs.Parts.{is_database, parts, trees_from, trees_of}
+use Rattle.btree_model.specs.Parts.{all_places, free_places, is_database, parts, trees_from, trees_of}
 use Rattle.btree_model.specs.Range.{is_in_range}
 use Rattle.btree_model.specs.Records.{tree_part}
 use Rattle.btree_model.specs.Schema.{numbers_of, root_fault, root_of, roots, roots_of_row, rowid_or_0, schema_fault, schema_faults, schema_part}
@@ -20,10 +22,11 @@ use Rattle.btree_model.specs.Tree.{root_family, tree_walk}
 use Rattle.btree_model.proofs.RestLemmas.{none_marked}
 use Rattle.btree_model.proofs.UnmarkedLemmas.{or_left, or_right}
 use Rattle.load_model.proofs.StandsLemmas.{not_met}
-use Rattle.bulk_load.specs.Found.{Apart, ArePlans, HasNoFreelist, HasTree, HoldsItems, IsPlanted, NamesTree, OwnTree, SchemaPlan, either, is_record, item_with_tree, own_pages, plan_entry, plan_item}
+use Rattle.bulk_load.specs.Found.{Apart, ArePlans, HasNoFreelist, HasTree, HoldsItems, IsPlanted, IsTight, IsTightBehind, NamesTree, OwnTree, SchemaPlan, either, is_record, item_with_tree, own_pages, plan_entry, plan_item}
 use Rattle.bulk_load.specs.Headed.{IsHeaded}
+use Rattle.bulk_load.specs.Out.{AreAllPut}
 use Rattle.bulk_load.specs.Own.{only}
-use Rattle.bulk_load.proofs.FoundLemmas.{IsFound, found_beside, found_headed, range_same}
+use Rattle.bulk_load.proofs.FoundLemmas.{IsFound, found_beside, found_headed, placed_beside, placed_headed, range_same}
 use Rattle.bulk_load.proofs.NamedLemmas.{cons_same, faults_by_entry, items_by_entry, roots_by_entry, row_of}
 use Rattle.bulk_load.proofs.PartLemmas.{field_is, none_of, nothing_free, part_is, root_is_of}
 
@@ -48,6 +51,19 @@ plan_records : (pages : Pages) (taken : Test) (plans : List SchemaPlan) → AreP
 plan_records pages taken [] are = refl
 plan_records pages taken (plan ∷ plans) (is, apart, rest) =
     both_true (ap is_some is.reads) (plan_records pages (either (own_pages plan.tree) taken) plans rest)
+
+-- the page is one of a tree of these rows
+abbrev pub of_trees : List SchemaPlan → Test
+of_trees [] n = false
+of_trees (plan ∷ plans) n = own_pages plan.tree n || of_trees plans n
+
+one_of : (a b c d : Bool) → (a ≡ true → c ≡ true) → (b ≡ true → d ≡ true) → (a || b) ≡ true → (c || d) ≡ true
+one_of true b c d p q h = ap (λ e. e || d) (p refl)
+one_of false b c d p q h = or_true c (q h)
+  where
+    or_true : (c : Bool) → d ≡ true → (c || d) ≡ true
+    or_true true is = refl
+    or_true false is = is
 
 module _ (head : List ℕ) (pages all : Pages) (headed : IsHeaded head pages all) where
   planted : (values : List Datum) (t : OwnTree) → IsPlanted pages values t → IsFound all t.own t.family t.root t.entries
@@ -154,6 +170,43 @@ module _ (head : List ℕ) (pages all : Pages) (headed : IsHeaded head pages all
   trees_sound taken (plan ∷ plans) (is, apart, rest) =
       sound_by plan.tree plan.values (flat_map (plan_found all) plans) is.names (trees_sound (either (own_pages plan.tree) taken) plans rest)
 
+  -- ---- the pages of the trees
+
+  -- a page of one of these trees that was put is one of its places
+  placed_by : (tree : Option OwnTree) (values : List Datum) (later : List (List Finding)) (more : Bool) (n : ℕ) → NamesTree pages values tree → pages.accepts n ≡ true
+      → (more ≡ true → list_any (λ m. m == n) (all_places later) ≡ true) → (own_pages tree n || more) ≡ true
+      → list_any (λ m. m == n) (all_places (tree_found all tree ++ later)) ≡ true
+  placed_by None values later more n is put rest has = rest has
+  placed_by (Some t) values later more n p put rest has =
+      let found : List Finding = tree_walk all t.family nothing t.root in
+      list_any-append (λ m. m == n) (places found) (all_places later)
+      ∙ one_of (t.own n) more (list_any (λ m. m == n) (places found)) (list_any (λ m. m == n) (all_places later))
+      (λ mine. placed_beside head pages all headed t.own t.family t.root t.entries p.within p.has n mine put) rest has
+
+  trees_placed : (taken : Test) (plans : List SchemaPlan) → ArePlans pages taken plans → (n : ℕ) → pages.accepts n ≡ true → of_trees plans n ≡ true
+      → list_any (λ m. m == n) (all_places (flat_map (plan_found all) plans)) ≡ true
+  trees_placed taken [] are n put has = cc
+  trees_placed taken (plan ∷ plans) (is, apart, rest) n put has =
+      placed_by plan.tree plan.values (flat_map (plan_found all) plans) (of_trees plans n) n is.names put
+      (trees_placed (either (own_pages plan.tree) taken) plans rest n put) has
+
+-- ---- counts
+
+zero_plus : (k : ℕ) → 0 + k ≡ k
+zero_plus k = omega arith
+
+-- none of the numbers from `from` on passes the test
+none_counted : (test : Test) (from n : ℕ) → ((k : ℕ) → from ≤ k → k < from + n → test k ≡ false) → count_by test (range_with_len from n) ≡ 0
+none_counted test from zero none = refl
+none_counted test from (suc n) none =
+    let rest : ℕ = count_by test (range_with_len (from + 1) n) in
+    sum_by-cons (λ k. cond (test k) 1 0) from (range_with_len (from + 1) n)
+    ∙ ap (λ b. cond b 1 0 + rest) (none from (omega arith) (omega arith)) ∙ zero_plus rest
+    ∙ none_counted test (from + 1) n (λ k least most. none k (omega arith) (omega arith))
+
+page_of : (n count all : ℕ) → all ≡ count → 1 ≤ n → n < 1 + all → (nat_le 1 n && nat_le n count) ≡ true
+page_of n count all same least most = grind (arith, same, least, most)
+
 -- ---- the whole
 
 -- a schema with this list of rows at page 1, on its own pages
@@ -225,5 +278,29 @@ module _ (pages : Pages) (own : Test) (plans : List SchemaPlan) (t : IsSchemaTre
   holds : HoldsContent all (record { kept = kept_fields head; rows = map plan_item plans })
   holds = record { sound = sound; is = content_is }
 
+  -- ---- no page stands beside it
+
+  module _ (put : AreAllPut pages) (filled : (n : ℕ) → is_page pages n ≡ true → (own n || of_trees plans n) ≡ true) where
+    placed : (n : ℕ) → is_page pages n ≡ true → list_any (λ m. m == n) (all_places (parts all)) ≡ true
+    placed n is =
+        ap (λ found. list_any (λ m. m == n) (all_places found)) parts_are
+        ∙ list_any-append (λ m. m == n) (places schema_found) (all_places (flat_map (plan_found all) plans))
+        ∙ one_of (own n) (of_trees plans n) (list_any (λ m. m == n) (places schema_found)) (list_any (λ m. m == n) (all_places (flat_map (plan_found all) plans)))
+        (λ mine. placed_headed head pages all headed own (map plan_entry plans) free.long t.some t.within t.has n mine (put n is))
+        (trees_placed head pages all headed own plans t.rows n (put n is)) (filled n is)
+
+    tight : IsTight all
+    tight = record {
+      free = ap free_places parts_are;
+      unused =
+          none_counted (λ n. not (list_any (λ m. m == n) (all_places (parts all)))) 1 all.count
+          (λ n least most. ap not (placed n (page_of n pages.count all.count headed.count least most)));
+    }
+
 pub items_held : (pages : Pages) (own : Test) (plans : List SchemaPlan) → IsSchemaTree pages own plans → HoldsItems pages (map plan_item plans)
 items_held pages own plans t head whole free headed = holds pages own plans t head whole free headed
+
+-- where every page was put, and is one of the schema's or of a tree's, none stands beside them
+pub tight_held : (pages : Pages) (own : Test) (plans : List SchemaPlan) → IsSchemaTree pages own plans → AreAllPut pages
+    → ((n : ℕ) → is_page pages n ≡ true → (own n || of_trees plans n) ≡ true) → IsTightBehind pages
+tight_held pages own plans t put filled head whole free headed = tight pages own plans t head whole free headed put filled

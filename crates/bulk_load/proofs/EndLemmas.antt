@@ -18,10 +18,11 @@ use Rattle.load_model.specs.Open.{Open, at_height, raise}
 use Rattle.load_model.specs.Stands.{Stands}
 use Rattle.btree_page.specs.Kind.{family_of, is_interior}
 use Rattle.page_build.specs.Written.{right_child}
-use Rattle.load_model.proofs.RootLemmas.{child_tree}
+use Rattle.load_model.proofs.RootLemmas.{child_tree, child_whole}
 use Rattle.page_build.specs.Draft.{Draft}
 use Rattle.bulk_load.specs.declared.level.Level.{Level}
 use Rattle.bulk_load.specs.Close.{HasCells}
+use Rattle.bulk_load.specs.Found.{HasTree}
 use Rattle.bulk_load.specs.Settle.{up_kind}
 use Rattle.bulk_load.specs.Level.{HoldsLevel}
 use Rattle.bulk_load.specs.Levels.{opened, HoldLevels}
@@ -86,9 +87,11 @@ closed_tree old new page kind usable right m cells h last pushed closes up has l
     (subst (λ l. Stands old (family_of kind) last l pushed) (sym (append-nil (at_height h (steps cells (right_child page.kind right))))) st)))
 
 pub child_is : (new : Pages) (family : Family) (h m : ℕ) (last : Option ℤ) (pushed : List Entry) → h ≤ 18
-    → Stands new family last (record { height = suc h; leads = child m } ∷ []) pushed → option_map (map entry_of) (tree new family m) ≡ Some pushed
+    → Stands new family last (record { height = suc h; leads = child m } ∷ []) pushed → HasTree new family m pushed
 child_is new family h m last pushed low st =
-    child_tree new family last pushed (suc h) m (child_range new family last pushed (suc h) m st) (omega arith) st
+    let range : is_in_range new m ≡ true = child_range new family last pushed (suc h) m st in
+    let least : suc h ≤ 20 = omega arith in
+    record { lists = child_tree new family last pushed (suc h) m range least st; whole = child_whole new family last pushed (suc h) m range least st }
 
 -- the next level, whose last child is the page that was put
 pub record IsNextLevel (new : Pages) (next : Level) (above : List Level) (usable : ℕ) (kind : Kind) (h m : ℕ) (last : Option ℤ) (pushed : List Entry) : Type 0 where

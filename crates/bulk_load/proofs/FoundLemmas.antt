@@ -1,7 +1,7 @@
 -- A tree of a loader's own pages, among other pages and beside a header.
-use Rattle.std.proofs.Common.{◌≡◌, ℕ, ◌≤◌, Bool, true, false, List, [], ◌∷◌, ◌&&◌, ◌==◌, Some, None, map, if◌then◌else◌, length, refl, ap, ◌∙◌, arith}
+use Rattle.std.proofs.Common.{◌≡◌, ℕ, ◌≤◌, Bool, true, false, List, [], ◌∷◌, ◌&&◌, ◌==◌, Some, None, map, if◌then◌else◌, length, refl, ap, sym, ◌∙◌, arith}
 use Rattle.std.specs.Prelude.{nat_le, unwrap_or}
-use Rattle.std.specs.List.{list_all}
+use Rattle.std.specs.List.{list_all, list_any}
 use Rattle.std.specs.Option.{option_map}
 use Rattle.std.specs.Cmp.Derive.{both_true}
 use Rattle.btree_page.specs.declared.kind.Family.{Family}
@@ -59,7 +59,7 @@ own_places own accepts (refused n ∷ rest) has = own_places own accepts rest ha
 
 pub found_of : (pages : Pages) (own : Test) (family : Family) (root : ℕ) (listed : List Entry) → HasTree (only own pages) family root listed
     → IsFound (only own pages) own family root listed
-found_of pages own family root listed has = go (is_sound found) refl has
+found_of pages own family root listed has = go (is_sound found) refl has.lists
   where
     found : List Finding
     found = tree_walk (only own pages) family nothing root
@@ -91,38 +91,63 @@ module _ (head : List ℕ) (pages whole : Pages) (headed : IsHeaded head pages w
   same_page : (n : ℕ) → (only own pages).accepts n ≡ true → is_in_range pages n ≡ true → IsSamePage (only own pages) whole n
   same_page n put range = record { bytes = headed.others n range; accepted = headed.accepted n (page_in pages.count n range) }
 
-  -- among all pages, with a header in front of page 1: a tree that does not stand on page 1
+  -- among all pages, with a header in front of page 1: the walk of a tree that does not stand on page 1
+  walk_beside : (family : Family) (root : ℕ) (listed : List Entry) → Within pages own → HasTree (only own pages) family root listed
+      → tree_walk whole family nothing root ≡ tree_walk (only own pages) family nothing root
+  walk_beside family root listed within has =
+      walk_stays (only own pages) whole headed.usable (omega (arith, headed.count)) (λ n put. same_page n put (within n (and_left (own n) _ put))) family root
+      (found_of pages own family root listed has).sound
+
   pub found_beside : (family : Family) (root : ℕ) (listed : List Entry) → Within pages own → HasTree (only own pages) family root listed
       → IsFound whole own family root listed
   found_beside family root listed within has =
-      let f : IsFound (only own pages) own family root listed = found_of pages own family root listed has in
-      found_same (only own pages) whole own family root listed
-      (walk_stays (only own pages) whole headed.usable (omega (arith, headed.count)) (λ n put. same_page n put (within n (and_left (own n) _ put))) family root f.sound) f
+      found_same (only own pages) whole own family root listed (walk_beside family root listed within has) (found_of pages own family root listed has)
 
-  -- and the schema, whose root is page 1
-  pub found_headed : (listed : List Entry) → length head ≡ 100 → 1 ≤ pages.count → ((n : ℕ) → own n ≡ true → (n == 1) ≡ false → is_in_range pages n ≡ true)
-      → HasTree (only own pages) Table 1 listed → IsFound whole own Table 1 listed
-  found_headed listed long some within has =
-      let f : IsFound (only own pages) own Table 1 listed = found_of pages own Table 1 listed has in
-      found_same (only own pages) whole own Table 1 listed
-      (tree_headed head (only own pages) whole Table long headed.usable (range_same head pages whole headed) headed.first (headed.accepted 1 (first_page pages.count some))
-      (λ n put other. same_page n put (within n (and_left (own n) _ put) other)) f.sound) f
+  -- and of the schema, whose root is page 1
+  walk_headed : (listed : List Entry) → length head ≡ 100 → 1 ≤ pages.count → ((n : ℕ) → own n ≡ true → (n == 1) ≡ false → is_in_range pages n ≡ true)
+      → HasTree (only own pages) Table 1 listed → tree_walk whole Table nothing 1 ≡ tree_walk (only own pages) Table nothing 1
+  walk_headed listed long some within has =
+      tree_headed head (only own pages) whole Table long headed.usable (range_same head pages whole headed) headed.first (headed.accepted 1 (first_page pages.count some))
+      (λ n put other. same_page n put (within n (and_left (own n) _ put) other)) (found_of pages own Table 1 listed has).sound
     where
       first_page : (count : ℕ) → 1 ≤ count → (nat_le 1 1 && nat_le 1 count) ≡ true
       first_page count some = grind arith
 
--- a tree stays, whatever is put beside it
+  pub found_headed : (listed : List Entry) → length head ≡ 100 → 1 ≤ pages.count → ((n : ℕ) → own n ≡ true → (n == 1) ≡ false → is_in_range pages n ≡ true)
+      → HasTree (only own pages) Table 1 listed → IsFound whole own Table 1 listed
+  found_headed listed long some within has =
+      found_same (only own pages) whole own Table 1 listed (walk_headed listed long some within has) (found_of pages own Table 1 listed has)
+
+  -- each of its own pages that was put is one of its places there
+  pub placed_beside : (family : Family) (root : ℕ) (listed : List Entry) → Within pages own → HasTree (only own pages) family root listed
+      → (n : ℕ) → own n ≡ true → pages.accepts n ≡ true → list_any (λ m. m == n) (places (tree_walk whole family nothing root)) ≡ true
+  placed_beside family root listed within has n mine put =
+      ap (λ walked. list_any (λ m. m == n) (places walked)) (walk_beside family root listed within has) ∙ has.whole n (both_true mine put)
+
+  pub placed_headed : (listed : List Entry) → length head ≡ 100 → 1 ≤ pages.count → ((n : ℕ) → own n ≡ true → (n == 1) ≡ false → is_in_range pages n ≡ true)
+      → HasTree (only own pages) Table 1 listed → (n : ℕ) → own n ≡ true → pages.accepts n ≡ true
+      → list_any (λ m. m == n) (places (tree_walk whole Table nothing 1)) ≡ true
+  placed_headed listed long some within has n mine put =
+      ap (λ walked. list_any (λ m. m == n) (places walked)) (walk_headed listed long some within has) ∙ has.whole n (both_true mine put)
+
+-- a tree stays, whatever is put beside it: no number of its own was taken in between
 module _ {S : Type 0} (pages : S → Pages) (limit : S → ℕ) (faults : S → Faults) (well : ℕ → S → Type 0) where
   pub tree_kept : (own : Test) (first : Bool) (a b : S) (start : ℕ) → well start a → Keeps pages limit faults well first a b
+      → ((n : ℕ) → own n ≡ true → (pages b).accepts n ≡ (pages a).accepts n)
       → (family : Family) (root : ℕ) (listed : List Entry) → HasTree (only own (pages a)) family root listed → HasTree (only own (pages b)) family root listed
-  tree_kept own first a b start told kept family root listed has =
+  tree_kept own first a b start told kept others family root listed has =
       let old : Pages = only own (pages a) in
       let new : Pages = only own (pages b) in
       let f : IsFound old own family root listed = found_of (pages a) own family root listed has in
-      let g : IsFound new own family root listed =
-      found_same old new own family root listed
-      (walk_stays old new kept.size kept.count (λ n put. record {
+      let walked : tree_walk new family nothing root ≡ tree_walk old family nothing root =
+      walk_stays old new kept.size kept.count (λ n put. record {
         bytes = kept.page start told n (and_right (own n) _ put);
         accepted = both_true (and_left (own n) _ put) (kept.put n (and_right (own n) _ put));
-      }) family root f.sound) f in
-      ap (λ sound. option_map (map entry_of) (if sound then Some (entries (tree_walk new family nothing root)) else None)) g.sound ∙ ap (λ l. Some l) g.gives
+      }) family root f.sound in
+      let g : IsFound new own family root listed = found_same old new own family root listed walked f in
+      record {
+        lists = ap (λ sound. option_map (map entry_of) (if sound then Some (entries (tree_walk new family nothing root)) else None)) g.sound ∙ ap (λ l. Some l) g.gives;
+        whole = λ n put.
+            ap (λ found. list_any (λ m. m == n) (places found)) walked
+            ∙ has.whole n (both_true (and_left (own n) _ put) (sym (others n (and_left (own n) _ put)) ∙ and_right (own n) _ put));
+      }

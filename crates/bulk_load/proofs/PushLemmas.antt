@@ -19,9 +19,9 @@ use Rattle.btree_model.specs.Walk.{is_met, links_needed}
 use Rattle.btree_model.specs.Content.{Entry}
 use Rattle.btree_model.proofs.UnmarkedLemmas.{or_left, or_right}
 use Rattle.load_model.specs.Open.{Open, at_height, open_found}
-use Rattle.load_model.specs.Stands.{Stands, IsChain, IsLinks}
+use Rattle.load_model.specs.Stands.{Stands, StandsBut, IsChain, IsLinks}
 use Rattle.btree_page.specs.Kind.{family_of}
-use Rattle.load_model.proofs.EntryLemmas.{cell_stands, chain_is, whole_is}
+use Rattle.load_model.proofs.EntryLemmas.{cell_stands, chain_is, no_chain, whole_is}
 use Rattle.load_model.proofs.StandsLemmas.{not_met}
 use Rattle.bulk_load.specs.declared.pair.Pair.{Pair}
 use Rattle.bulk_load.specs.declared.level.Level.{Level}
@@ -94,10 +94,11 @@ module _ (old new : Pages) (family : Family) (payload : List ℕ) (n : ℕ) (lar
   none_needed : (k s : ℕ) → 0 < s → k ≡ 0 → (k + (s - 1)) / s ≡ 0
   none_needed k s some none = div-eq_of_lt (omega arith)
 
-  pub chain_put : (ns : List ℕ) × IsChain new stored ns payload × (list_any old.accepts ns ≡ false)
+  -- the chain is all that was put
+  pub chain_put : (ns : List ℕ) × IsChain new stored ns payload × (list_any old.accepts ns ≡ false) × (is.ns ≡ ns)
   chain_put = by_size (nat_le (length payload) local) refl
     where
-      links_more : (more : ℕ) → is.more ≡ more → local < length payload → nat_le (length payload) local ≡ false → (ns : List ℕ) × IsChain new stored ns payload × (list_any old.accepts ns ≡ false)
+      links_more : (more : ℕ) → is.more ≡ more → local < length payload → nat_le (length payload) local ≡ false → (ns : List ℕ) × IsChain new stored ns payload × (list_any old.accepts ns ≡ false) × (is.ns ≡ ns)
       links_more zero none less over =
           let c : is.more * (old.usable - 4) ≡ length (drop local payload) + length is.pad = is.count in
           let z : is.more * (old.usable - 4) ≡ 0 = ap (λ m. m * (old.usable - 4)) none ∙ zero_times (old.usable - 4) in
@@ -112,13 +113,14 @@ module _ (old new : Pages) (family : Family) (payload : List ℕ) (n : ℕ) (lar
                 (subst (λ f. IsLinks new (suc more) f is.ns (drop local payload ++ is.pad)) (sym first) (subst (λ m. IsLinks new m n is.ns (drop local payload ++ is.pad)) so is.links))
                 (needed ∙ so) range),
             is.fresh,
+            refl,
           )
         where
           in_range : (is.more ≡ 0) ⊎ (is_in_range new n ≡ true) → is_in_range new n ≡ true
           in_range (inl none) = let no : suc more ≡ 0 = sym so ∙ none in absurd (omega arith)
           in_range (inr inside) = inside
 
-      by_size : (b : Bool) → nat_le (length payload) local ≡ b → (ns : List ℕ) × IsChain new stored ns payload × (list_any old.accepts ns ≡ false)
+      by_size : (b : Bool) → nat_le (length payload) local ≡ b → (ns : List ℕ) × IsChain new stored ns payload × (list_any old.accepts ns ≡ false) × (is.ns ≡ ns)
       by_size true whole =
           let le : length payload ≤ local = le_is (length payload) local true whole refl in
           let a : length (drop local payload) ≡ length payload - local = long_rest in
@@ -131,6 +133,8 @@ module _ (old new : Pages) (family : Family) (payload : List ℕ) (n : ℕ) (lar
             [],
             subst (λ l. IsChain new stored [] l) (all_local (omega arith)) (whole_is new stored zero_links),
             refl,
+            no_chain new n is.ns (drop local payload ++ is.pad)
+                (subst (λ m. IsLinks new m n is.ns (drop local payload ++ is.pad)) (sym needed ∙ zero_links) is.links),
           )
         where
           all_local : length payload ≤ local → take (length payload) (take local payload ++ []) ≡ payload
@@ -151,7 +155,7 @@ entry_stands old mid leaf levels last pushed payload n large is most l =
     let todo : List Open = opened 1 l.todos ++ (at_height 0 l.todo ++ []) in
     let one : List Open = record { height = 0; leads = cell None stored } ∷ [] in
     let c = chain_put old mid Index payload n large is most in
-    let now : Stands mid Index last todo pushed = is.keeps Index last todo pushed l.stands in
+    let now : StandsBut c.0 mid Index last todo pushed = subst (λ ns. StandsBut ns mid Index last todo pushed) c.3 (is.keeps Index last todo pushed l.stands) in
     subst (λ t. Stands mid Index last t (pushed ++ record { rowid = None; payload = payload } ∷ []))
     (ap (λ t. (opened 1 l.todos ++ t) ++ one) (append-nil (at_height 0 l.todo)) ∙ append_assoc (opened 1 l.todos) (at_height 0 l.todo) one)
     (cell_stands mid Index last todo pushed 0 None stored c.0 payload now refl c.1

@@ -38,6 +38,9 @@ new_more_right a b c k h new = grind arith
 new_here : (a c n : ℕ) → c ≡ a + 1 → n ≡ c → (nat_lt a n && nat_le n c) ≡ true
 new_here a c n one is = grind arith
 
+later_new : (m p q k : ℕ) → m ≡ 1 → (nat_le 1 k && nat_le k q) ≡ true → (k == 1) ≡ false → (nat_lt m k && nat_le k p) ≡ false → (nat_lt p k && nat_le k q) ≡ true
+later_new m p q k one inside other old = grind arith
+
 -- a test that covers a stretch covers its parts
 pub covers_before : (first : Bool) (own : Test) (a b c : Pages) → b.count ≤ c.count → Covers first own a c → Covers false own a b
 covers_before first own a b c le covers =
@@ -65,6 +68,14 @@ put_own own old new n mine put = record {
   stays_put = λ k other. ap (λ b. own k && b) (put.stays_put k other);
 }
 
+-- what was not put later was not put before
+pub unput : (old mid : Pages) (n : ℕ) → ((k : ℕ) → old.accepts k ≡ true → mid.accepts k ≡ true) → mid.accepts n ≡ false → old.accepts n ≡ false
+unput old mid n keep h = here (old.accepts n) refl
+  where
+    here : (b : Bool) → old.accepts n ≡ b → old.accepts n ≡ false
+    here false is = is
+    here true is = let no : true ≡ false = sym (keep n is) ∙ h in cc
+
 module _ {S : Type 0} (pages : S → Pages) (limit : S → ℕ) (faults : S → Faults) (well : ℕ → S → Type 0) where
   pub keeps_same : (a : S) → Keeps pages limit faults well false a a
   keeps_same a = record {
@@ -72,6 +83,7 @@ module _ {S : Type 0} (pages : S → Pages) (limit : S → ℕ) (faults : S → 
     count = omega arith;
     put = λ k h. h;
     others = λ k free h. refl;
+    free = λ k h. let no : true ≡ false = sym h ∙ new_none (pages a).count k in cc;
     page = λ start w k h. refl;
     limit_is = refl;
     disk = omega arith;
@@ -87,11 +99,17 @@ module _ {S : Type 0} (pages : S → Pages) (limit : S → ℕ) (faults : S → 
     others = λ n free h.
         k.others n free (new_right (pages a).count (pages b).count (pages c).count n f.keeps.count k.count h)
         ∙ f.keeps.others n refl (new_left (pages a).count (pages b).count (pages c).count n f.keeps.count k.count h);
+    free = λ n h. free_at n h (is_new (pages a) (pages b) n) refl;
     page = λ start w n h. k.page start (f.told start w) n (f.keeps.put n h) ∙ f.keeps.page start w n h;
     limit_is = k.limit_is ∙ f.keeps.limit_is;
     disk = let one = f.keeps.disk in let two = k.disk in omega arith;
     entropy = let one = f.keeps.entropy in let two = k.entropy in omega arith;
   }
+    where
+      free_at : (n : ℕ) → is_new (pages a) (pages c) n ≡ true → (b' : Bool) → is_new (pages a) (pages b) n ≡ b' → (pages a).accepts n ≡ false
+      free_at n h true is = f.keeps.free n is
+      free_at n h false is =
+          unput (pages a) (pages b) n f.keeps.put (k.free n (new_either (pages a).count (pages b).count (pages c).count n h is))
 
   pub follows_same : (a : S) → Follows pages limit faults well false a a
   follows_same a = record {
@@ -121,6 +139,7 @@ module _ {S : Type 0} (pages : S → Pages) (limit : S → ℕ) (faults : S → 
     count = k.count;
     put = k.put;
     others = λ n free h. k.others n refl h;
+    free = k.free;
     page = k.page;
     limit_is = k.limit_is;
     disk = k.disk;
@@ -145,6 +164,7 @@ module _ {S : Type 0} (pages : S → Pages) (limit : S → ℕ) (faults : S → 
           count = omega arith;
           put = λ k h. marks.others k (other_put k h) ∙ h;
           others = λ k differs h. marks.others k (flip k differs);
+          free = λ k h. let no : true ≡ false = sym h ∙ ap (λ m. nat_lt (pages a).count k && nat_le k m) same ∙ new_none (pages a).count k in cc;
           page = λ start w k h. told start w k (other_put k h);
           limit_is = limits;
           disk = disk;
@@ -197,6 +217,7 @@ module _ {S : Type 0} (pages : S → Pages) (limit : S → ℕ) (faults : S → 
     count = let is : (pages b).count ≡ (pages a).count = same.count in omega arith;
     put = λ k h. same.accepts k ∙ h;
     others = λ k free h. same.accepts k;
+    free = λ k h. let no : true ≡ false = sym h ∙ ap (λ m. nat_lt (pages a).count k && nat_le k m) same.count ∙ new_none (pages a).count k in cc;
     page = λ start w k h. told start w k;
     limit_is = limits;
     disk = disk;
@@ -227,6 +248,9 @@ module _ {S : Type 0} (pages : S → Pages) (limit : S → ℕ) (faults : S → 
           put = λ k h. marks.others k (differs k h) ∙ taken.accepts k ∙ h;
           others = λ k free h.
               marks.others k (old_one (pages a).count n k (is ∙ one) (ap (λ m. nat_lt (pages a).count k && nat_le k m) (sym (same ∙ one)) ∙ h)) ∙ taken.accepts k;
+          free = λ k h.
+              let here : k ≡ (pages a).count + 1 = new_one (pages a).count k (ap (λ m. nat_lt (pages a).count k && nat_le k m) (sym (same ∙ one)) ∙ h) in
+              sym (taken.accepts k) ∙ ap (pages b).accepts (here ∙ sym (is ∙ one)) ∙ taken.free;
           page = λ start w k h. told start (well_taken start w) k (differs k h) ∙ told_taken start w k;
           limit_is = limits' ∙ limits;
           disk = omega arith;
@@ -262,6 +286,22 @@ module _ {S : Type 0} (pages : S → Pages) (limit : S → ℕ) (faults : S → 
       where
         wider : (k m p : ℕ) → m ≤ p → (nat_le 2 k && nat_le k m) ≡ true → (nat_le 2 k && nat_le k p) ≡ true
         wider k m p g h = grind arith
+
+-- the same of two stretches, the second of which is told of other values
+module _ {S T : Type 0} {pages : S → Pages} {limit : S → ℕ} {faults : S → Faults} {well : ℕ → S → Type 0} {a b : S}
+    {pages' : T → Pages} {limit' : T → ℕ} {faults' : T → Faults} {well' : ℕ → T → Type 0} {c d : T}
+    (f : Follows pages limit faults well false a b) (g : Follows pages' limit' faults' well' true c d) (same : pages' c ≡ pages b) (none : (pages a).count ≡ 1) where
+  pub all_put_then : AreAllPut (pages' d)
+  all_put_then n is = by_first (n == 1) refl
+    where
+      by_stretch : (n == 1) ≡ false → (e : Bool) → is_new (pages a) (pages b) n ≡ e → (pages' d).accepts n ≡ true
+      by_stretch other true new = g.keeps.put n (ap (λ p. p.accepts n) same ∙ f.puts n new)
+      by_stretch other false old =
+          g.puts n (ap (λ p. nat_lt p.count n && nat_le n (pages' d).count) same ∙ later_new (pages a).count (pages b).count (pages' d).count n none is other old)
+
+      by_first : (e : Bool) → (n == 1) ≡ e → (pages' d).accepts n ≡ true
+      by_first true one = ap (pages' d).accepts (eqb-true n 1 one) ∙ g.puts_first refl
+      by_first false other = by_stretch other (is_new (pages a) (pages b) n) refl
 
 pub on_ok_both : {T E A B C : Type 0} (r : Result T E) → (A → B → C) → OnOk r A → OnOk r B → OnOk r C
 on_ok_both (Ok x) f a b = f a b

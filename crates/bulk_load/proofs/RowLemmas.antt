@@ -10,7 +10,7 @@ use Rattle.db_format.specs.Pages.{Pages}
 use Rattle.btree_page.specs.Step.{Step, steps, divider, child, entry as cell}
 use Rattle.btree_model.specs.Content.{Entry}
 use Rattle.load_model.specs.Open.{Open, at_height, open_found}
-use Rattle.load_model.specs.Stands.{Stands, is_at_most}
+use Rattle.load_model.specs.Stands.{IsNonePut, Stands, StandsBut, is_at_most}
 use Rattle.page_build.specs.Written.{IsWritten}
 use Rattle.btree_page.specs.Kind.{family_of}
 use Rattle.load_model.proofs.RootLemmas.{nothing_stands}
@@ -138,7 +138,7 @@ row_added old new leaf after levels last r pushed payload raw n large is most ab
     let begun : List Open = opened 1 rows.todos ++ at_height 0 (steps rows.cells None) in
     let step : List Open = record { height = 0; leads = cell (Some r) stored } ∷ [] in
     let c = chain_put old new Table payload n large is most in
-    let now : Stands new Table last begun pushed = is.keeps Table last begun pushed rows.stands in
+    let now : StandsBut c.0 new Table last begun pushed = subst (λ ns. StandsBut ns new Table last begun pushed) c.3 (is.keeps Table last begun pushed rows.stands) in
     record {
       cells = rows.cells ++ one ∷ [];
       todos = rows.todos;
@@ -160,8 +160,8 @@ row_added old new leaf after levels last r pushed payload raw n large is most ab
 
 -- nothing was pushed
 pub empty_loaded : (pages : Pages) (leaf : Level) (levels : List Level) (usable : ℕ) (kind : Kind) → leaf.page.kind ≡ kind → leaf.waiting.items ≡ [] → HasCells leaf.page usable [] → levels ≡ []
-    → pages.usable ≡ usable → LoadedAs pages leaf levels kind None []
-empty_loaded pages leaf levels usable kind same none has no_level size = record {
+    → pages.usable ≡ usable → IsNonePut pages → LoadedAs pages leaf levels kind None []
+empty_loaded pages leaf levels usable kind same none has no_level size free = record {
   todo = [];
   todos = [];
   is_kind = same;
@@ -173,7 +173,7 @@ empty_loaded pages leaf levels usable kind same none has no_level size = record 
     is = sym (ap (λ i. waiting_steps leaf.page.kind i []) none);
   };
   above = subst (λ l. HoldLevels l pages.usable (up_kind kind) []) (sym no_level) tt;
-  stands = nothing_stands pages (family_of kind);
+  stands = nothing_stands pages (family_of kind) free;
 }
 
 -- the kind is that of the leaf

@@ -1,6 +1,6 @@
 -- A child goes on a page, or the page is closed with it.
-use Rattle.std.proofs.Common.{◌≡◌, ℕ, suc, ℤ, true, List, [], ◌∷◌, ◌++◌, Option, Some, None, map, drop, length, replicate, ◌-◌, refl, ap, sym, subst, ◌∙◌}
-use Rattle.std.specs.List.{list_all}
+use Rattle.std.proofs.Common.{◌≡◌, ℕ, suc, ℤ, true, List, [], ◌∷◌, ◌++◌, ◌==◌, Option, Some, None, map, drop, length, replicate, ◌-◌, refl, ap, sym, subst, ◌∙◌}
+use Rattle.std.specs.List.{list_all, list_any}
 use Rattle.std.proofs.lemmas.List.{append_assoc, append-nil}
 use Rattle.btree_page.specs.declared.kind.Family.{Family}
 use Rattle.btree_page.specs.declared.kind.Kind.{Kind}
@@ -80,6 +80,7 @@ move_stands pages family last h k front back s pushed between st = record {
   gives = λ slack. ap (λ l. map entry_of (entries l)) (moved_found pages family slack h k front back s between) ∙ st.gives slack;
   put = λ slack. ap (λ l. list_all pages.accepts (places l)) (moved_found pages family slack h k front back s between) ∙ st.put slack;
   order = λ slack. ap (λ l. list_all (is_at_most last) (keys l)) (moved_found pages family slack h k front back s between) ∙ st.order slack;
+  whole = λ slack n put. ap (λ l. list_any (λ m. m == n) (places l)) (moved_found pages family slack h k front back s between) ∙ st.whole slack n put;
 }
 
 -- the page is closed, and what stood behind its last child stands behind it

@@ -1,22 +1,27 @@
 -- Trees on pages of their own, and what a database of them holds.
-use Rattle.std.specs.Prelude.{◌≡◌, ℕ, pos, Bool, true, false, ◌||◌, List, [], ◌∷◌, Option, Some, None, length, map, is_some}
-use Rattle.std.specs.List.{list_all}
+use Rattle.std.specs.Prelude.{◌≡◌, ◌==◌, ℕ, pos, Bool, true, false, ◌||◌, List, [], ◌∷◌, Option, Some, None, length, map, is_some}
+use Rattle.std.specs.List.{list_all, list_any}
 use Rattle.std.specs.Option.{option_map}
 use Rattle.db_format.specs.Bytes.{u32_at}
-use Rattle.db_format.specs.Pages.{Pages, Test}
+use Rattle.db_format.specs.Pages.{Pages, Test, nothing}
 use Rattle.db_format.specs.Record.{columns}
 use Rattle.db_format.specs.Value.{Datum}
 use Rattle.btree_page.specs.declared.kind.Family.{Family}
 use Rattle.btree_model.specs.Content.{Entry, HoldsContent, SchemaItem, with_tree, alone, entry_of, kept_fields, without_fourth}
+use Rattle.btree_model.specs.Finding.{places}
+use Rattle.btree_model.specs.Parts.{counts}
 use Rattle.btree_model.specs.Range.{is_in_range}
 use Rattle.btree_model.specs.Schema.{at_page, no_tree, root_of, rowid_or_0}
-use Rattle.btree_model.specs.Tree.{tree}
+use Rattle.btree_model.specs.Tree.{tree, tree_walk}
 use Rattle.bulk_load.specs.Headed.{IsHeaded}
 use Rattle.bulk_load.specs.Own.{only}
 
--- the tree with this root has no defect, and these entries in order
-abbrev pub HasTree : Pages → Family → ℕ → List Entry → Type 0
-HasTree pages family root entries = option_map (map entry_of) (tree pages family root) ≡ Some entries
+-- the tree with this root
+pub record HasTree (pages : Pages) (family : Family) (root : ℕ) (entries : List Entry) : Type 0 where
+  -- it has no defect, and these entries in order
+  pub lists : option_map (map entry_of) (tree pages family root) ≡ Some entries
+  -- and no page that was put stands beside it
+  pub whole : (n : ℕ) → pages.accepts n ≡ true → list_any (λ m. m == n) (places (tree_walk pages family nothing root)) ≡ true
 
 -- the payload is a record
 abbrev pub is_record : Entry → Bool
@@ -33,6 +38,15 @@ pub record HasNoFreelist (head : List ℕ) : Type 0 where
 abbrev pub HoldsItems : Pages → List SchemaItem → Type 0
 HoldsItems pages items =
     (head : List ℕ) (whole : Pages) → HasNoFreelist head → IsHeaded head pages whole → HoldsContent whole (record { kept = kept_fields head; rows = items })
+
+-- every page of the database stands in the schema or in a tree
+pub record IsTight (pages : Pages) : Type 0 where
+  pub free : (counts pages).free ≡ 0
+  pub unused : (counts pages).unused ≡ 0
+
+-- the pages are so, whichever such header stands in front of page 1
+abbrev pub IsTightBehind : Pages → Type 0
+IsTightBehind pages = (head : List ℕ) (whole : Pages) → HasNoFreelist head → IsHeaded head pages whole → IsTight whole
 
 -- ---- a schema with its trees
 

@@ -49,12 +49,13 @@ abbrev pub is_new : Pages → Pages → ℕ → Bool
 is_new old new k = nat_lt old.count k && nat_le k new.count
 
 -- Whatever was answered: each page that was put before is put still, and only numbers that were taken in between were put, with
--- `first` also page 1. Where the pages are told, those that were put before read as they did.
+-- `first` also page 1. At none of those numbers a page had been put before. Where the pages are told, those that were put before read as they did.
 pub record Keeps {S : Type 0} (pages : S → Pages) (limit : S → ℕ) (faults : S → Faults) (well : ℕ → S → Type 0) (first : Bool) (old new : S) : Type 0 where
   pub size : (pages new).usable ≡ (pages old).usable
   pub count : (pages old).count ≤ (pages new).count
   pub put : (k : ℕ) → (pages old).accepts k ≡ true → (pages new).accepts k ≡ true
   pub others : (k : ℕ) → (first && k == 1) ≡ false → is_new (pages old) (pages new) k ≡ false → (pages new).accepts k ≡ (pages old).accepts k
+  pub free : (k : ℕ) → is_new (pages old) (pages new) k ≡ true → (pages old).accepts k ≡ false
   pub page : (start : ℕ) → well start old → (k : ℕ) → (pages old).accepts k ≡ true → (pages new).page k ≡ (pages old).page k
   pub limit_is : limit new ≡ limit old
   pub disk : (faults old).disk ≤ (faults new).disk

@@ -1,10 +1,8 @@
 // The end of a tree: its levels end one by one, from the lowest up.
-ghost use Rattle.std.specs.Prelude.{◌≡◌, ℕ, suc, ℤ, ◌+◌, ◌*◌, ◌^◌, ◌≤◌, Err, true, false, List, [], ◌++◌, Option, Some, map, IfOk, IfErr, OnOk, ◌⊎◌, length};
-ghost use Rattle.std.specs.Option.{option_map};
+ghost use Rattle.std.specs.Prelude.{◌≡◌, ℕ, suc, ℤ, ◌+◌, ◌*◌, ◌^◌, ◌≤◌, Err, true, false, List, [], ◌++◌, Option, IfOk, IfErr, OnOk, ◌⊎◌, length};
 ghost use Rattle.btree_page.specs.Kind.{family_of};
 ghost use Rattle.btree_page.specs.Step.{Step, steps};
-ghost use Rattle.btree_model.specs.Content.{Entry, entry_of};
-ghost use Rattle.btree_model.specs.Tree.{tree};
+ghost use Rattle.btree_model.specs.Content.{Entry};
 ghost use Rattle.load_model.specs.Open.{at_height};
 ghost use Rattle.load_model.specs.Stands.{Stands};
 ghost use Rattle.page_build.specs.Written.{right_child};
@@ -12,6 +10,7 @@ ghost use Rattle.bulk_load.specs.Level.{IsReady, HoldsLevel};
 ghost use Rattle.bulk_load.specs.Levels.{AreReady, HoldLevels, opened};
 ghost use Rattle.db_format.specs.Pages.{Test};
 ghost use Rattle.bulk_load.specs.Count.{AreBack, CanEnd, held, load};
+ghost use Rattle.bulk_load.specs.Found.{HasTree};
 ghost use Rattle.bulk_load.specs.Own.{Covers, only};
 ghost use Rattle.bulk_load.specs.Out.{Follows, HasEndCause, Keeps, is_load_refusal};
 ghost use Rattle.bulk_load.specs.Settle.{up_kind};
@@ -50,7 +49,7 @@ pub fn end_levels<P: PageOut>(
         → HoldsLevel level.old (P.pages out.old).usable todo
         → HoldLevels above.old.items (P.pages out.old).usable kind todos
         → Stands (only own (P.pages out.old)) (family_of kind) last (opened (suc h) todos ++ (at_height h todo ++ at_height h (steps [] (right_child level.old.page.kind below)))) pushed
-        → IfOk result (λ root. option_map (map entry_of) (tree (only own (P.pages out.new)) (family_of kind) root) ≡ Some pushed) }
+        → IfOk result (λ root. HasTree (only own (P.pages out.new)) (family_of kind) root pushed) }
     ensures one { at_one ≡ true → IfOk result (λ root. root ≡ 1) }
     ensures count { CanEnd level.old.page level.old.waiting.items → AreBack above.old.items → (1 ≤ load level.old) ⊎ (length above.old.items ≡ 0)
         → (P.pages out.new).count ≤ (P.pages out.old).count + (load level.old + held above.old.items + 1) }

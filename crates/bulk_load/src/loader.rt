@@ -1,14 +1,12 @@
 // A loader: the open leaf and the levels above it.
-ghost use Rattle.std.specs.Prelude.{◌≡◌, ◌↔◌, ℕ, ℤ, ◌+◌, ◌*◌, ◌^◌, ◌≤◌, true, false, List, [], ◌∷◌, ◌++◌, length, max, Option, Some, None, map, Err, IfOk, IfErr, OnOk, OnErr, ◌-◌};
-ghost use Rattle.std.specs.Option.{option_map};
+ghost use Rattle.std.specs.Prelude.{◌≡◌, ◌↔◌, ℕ, ℤ, ◌+◌, ◌*◌, ◌^◌, ◌≤◌, true, false, List, [], ◌∷◌, ◌++◌, length, max, Option, Some, None, Err, IfOk, IfErr, OnOk, OnErr, ◌-◌};
 ghost use Rattle.db_format.specs.Pages.{IsUsable, Pages, Test};
 ghost use Rattle.btree_page.specs.declared.kind.Family.TheVariants.{Table, Index};
 ghost use Rattle.btree_page.specs.declared.kind.Kind.TheVariants.{IndexLeaf, TableLeaf};
 ghost use Rattle.btree_page.specs.Kind.{is_interior};
 ghost use Rattle.btree_page.specs.Payload.{local_len, max_payload};
-ghost use Rattle.btree_model.specs.Content.{Entry, entry_of};
-ghost use Rattle.btree_model.specs.Tree.{tree};
-ghost use Rattle.load_model.specs.Stands.{is_at_most, last_after};
+ghost use Rattle.btree_model.specs.Content.{Entry};
+ghost use Rattle.load_model.specs.Stands.{IsNonePut, is_at_most, last_after};
 ghost use Rattle.page_build.specs.Draft.{room_of};
 ghost use Rattle.bulk_load.specs.Chain.{IsPutChain};
 ghost use Rattle.bulk_load.specs.Count.{AreBack, KeepsBack, overflow_pages, pages_for, weight};
@@ -18,6 +16,7 @@ ghost use Rattle.bulk_load.specs.Cells.{row_len};
 ghost use Rattle.bulk_load.specs.Settle.{up_kind};
 ghost use Rattle.bulk_load.specs.Bound.{entry_weight};
 ghost use Rattle.bulk_load.specs.Few.{TookFew, load_pages};
+ghost use Rattle.bulk_load.specs.Found.{HasTree};
 ghost use Rattle.bulk_load.specs.Depth.{AreLevelsShort, IsShallow, KeepsShort, closed_below};
 ghost use Rattle.bulk_load.specs.Volume.{price, volume};
 
@@ -108,7 +107,7 @@ impl Loader {
         ensures void { IfOk result (λ loader. volume loader ≡ 0) }
         ensures shallow { (from : ℕ) → IfOk result (IsShallow usable from from) }
         ensures none { (from : ℕ) → IfOk result (TookFew Table usable from [] from) }
-        ensures empty { (pages : Pages) → pages.usable ≡ usable → IfOk result (λ loader. Loaded pages loader []) }
+        ensures empty { (pages : Pages) → pages.usable ≡ usable → IsNonePut pages → IfOk result (λ loader. Loaded pages loader []) }
         ensures cause { IfErr result (λ error. error ≡ LoadError.OutOfMemory) }
     {
         Loader::new(alloc, usable, Kind::TableLeaf, at_one)
@@ -127,7 +126,7 @@ impl Loader {
         ensures void { IfOk result (λ loader. volume loader ≡ 0) }
         ensures shallow { (from : ℕ) → IfOk result (IsShallow usable from from) }
         ensures none { (from : ℕ) → IfOk result (TookFew Index usable from [] from) }
-        ensures empty { (pages : Pages) → pages.usable ≡ usable → IfOk result (λ loader. Loaded pages loader []) }
+        ensures empty { (pages : Pages) → pages.usable ≡ usable → IsNonePut pages → IfOk result (λ loader. Loaded pages loader []) }
         ensures cause { IfErr result (λ error. error ≡ LoadError.OutOfMemory) }
     {
         Loader::new(alloc, usable, Kind::IndexLeaf, false)
@@ -145,7 +144,7 @@ impl Loader {
         ensures light { IfOk result (λ loader. weight loader ≡ 0) }
         ensures void { IfOk result (λ loader. volume loader ≡ 0) }
         ensures shallow { (from : ℕ) → IfOk result (IsShallow usable from from) }
-        ensures empty { (pages : Pages) → pages.usable ≡ usable → IfOk result (λ loader. Loaded pages loader []) }
+        ensures empty { (pages : Pages) → pages.usable ≡ usable → IsNonePut pages → IfOk result (λ loader. Loaded pages loader []) }
         ensures cause { IfErr result (λ error. error ≡ LoadError.OutOfMemory) }
     {
         let leaf = Level::new(alloc, usable, kind)?;
@@ -237,10 +236,10 @@ impl Loader {
     pub fn finish<P: PageOut>(mut self, out: &mut P) -> Result<u32, LoadError>
         requires ready { IsLoader self (P.pages out.old).usable }
         requires free { self.at_one ≡ true → (P.pages out.old).accepts 1 ≡ false }
-        // the tree from the root is the pushed list, and stands on pages that this loader took, and on page 1 with `at_one`
+        // the tree from the root is the pushed list, and stands on all pages that this loader took, and on page 1 with `at_one`
         ensures tree { (start : ℕ) → P.well start out.old → (own : Test) → Covers self.at_one own (P.pages out.old) (P.pages out.new)
             → (pushed : List Entry) → Loaded (only own (P.pages out.old)) self pushed
-            → IfOk result (λ root. option_map (map entry_of) (tree (only own (P.pages out.new)) (family_of_loader self) root) ≡ Some pushed) }
+            → IfOk result (λ root. HasTree (only own (P.pages out.new)) (family_of_loader self) root pushed) }
         // and whatever the answer, it takes one more at most beside what the loader holds
         ensures count { KeepsBack self → (P.pages out.new).count ≤ (P.pages out.old).count + (weight self + 1) }
         // the same by bytes: three pages more for each level, and page 1

@@ -1,16 +1,15 @@
 // The last page of a tree.
-ghost use Rattle.std.specs.Prelude.{◌≡◌, ◌≤◌, ℕ, ℤ, true, false, List, Option, Some, map, IfOk, IfErr, OnOk, ◌+◌};
-ghost use Rattle.std.specs.Option.{option_map};
+ghost use Rattle.std.specs.Prelude.{◌≡◌, ◌≤◌, ℕ, ℤ, true, false, List, Option, IfOk, IfErr, OnOk, ◌+◌};
 ghost use Rattle.btree_page.specs.Cell.{Cell};
 ghost use Rattle.btree_page.specs.Kind.{family_of};
 ghost use Rattle.btree_page.specs.Step.{steps};
-ghost use Rattle.btree_model.specs.Content.{Entry, entry_of};
-ghost use Rattle.btree_model.specs.Tree.{tree};
+ghost use Rattle.btree_model.specs.Content.{Entry};
 ghost use Rattle.load_model.specs.Open.{at_height};
 ghost use Rattle.load_model.specs.Stands.{Stands};
 ghost use Rattle.page_build.specs.Written.{right_child};
 ghost use Rattle.bulk_load.specs.Close.{HasCells, IsRoot};
 ghost use Rattle.db_format.specs.Pages.{Test};
+ghost use Rattle.bulk_load.specs.Found.{HasTree};
 ghost use Rattle.bulk_load.specs.Own.{Covers, only};
 ghost use Rattle.bulk_load.specs.Out.{Follows, HasCause, HasLoadCause, Keeps, is_load_refusal, is_refusal};
 ghost use Rattle.bulk_load.specs.Settle.{up_kind};
@@ -61,7 +60,7 @@ fn put_at_one<P: PageOut>(
         → up_kind page.old.kind ≡ kind
         → HasCells page.old (P.pages out.old).usable cells
         → Stands (only own (P.pages out.old)) (family_of kind) last (at_height h (steps cells (right_child page.old.kind right))) pushed
-        → OnOk result (option_map (map entry_of) (tree (only own (P.pages out.new)) (family_of kind) 1) ≡ Some pushed) }
+        → OnOk result (HasTree (only own (P.pages out.new)) (family_of kind) 1 pushed) }
     ensures count { (P.pages out.new).count ≤ (P.pages out.old).count + 1 }
     ensures asked { IfErr result (λ error. is_load_refusal error ≡ true → (P.pages out.new).count ≡ (P.pages out.old).count) }
     ensures keeps { Keeps P.pages P.limit P.faults P.well true out.old out.new }
@@ -109,7 +108,7 @@ pub fn put_root<P: PageOut>(
         → up_kind page.old.kind ≡ kind
         → HasCells page.old (P.pages out.old).usable cells
         → Stands (only own (P.pages out.old)) (family_of kind) last (at_height h (steps cells (right_child page.old.kind right))) pushed
-        → IfOk result (λ root. option_map (map entry_of) (tree (only own (P.pages out.new)) (family_of kind) root) ≡ Some pushed) }
+        → IfOk result (λ root. HasTree (only own (P.pages out.new)) (family_of kind) root pushed) }
     ensures one { at_one ≡ true → IfOk result (λ root. root ≡ 1) }
     ensures count { (P.pages out.new).count ≤ (P.pages out.old).count + 1 }
     ensures asked { IfErr result (λ error. is_load_refusal error ≡ true → (P.pages out.new).count ≡ (P.pages out.old).count) }

@@ -1,16 +1,17 @@
 -- An entry is pushed: its chain, its cell, and in a table the key behind a closed leaf.
-use Rattle.std.proofs.Common.{◌≡◌, ℕ, zero, suc, ℤ, true, false, List, [], ◌∷◌, ◌++◌, ◌||◌, ◌&&◌, ◌==◌, take, drop, Option, Some, map, refl, ap, sym, subst, ◌∙◌}
+use Rattle.std.proofs.Common.{◌≡◌, ℕ, zero, suc, ℤ, Bool, true, false, List, [], ◌∷◌, ◌++◌, ◌||◌, ◌&&◌, ◌==◌, if◌then◌else◌, take, drop, Option, Some, map, refl, ap, sym, subst, ◌∙◌}
 use Rattle.std.specs.List.{list_any, list_all}
 use Rattle.std.specs.Option.{option_to_list}
 use Rattle.std.proofs.Math.Dec.{eqb-suc-zero}
 use Rattle.std.proofs.lemmas.List.{append-nil, map-append}
 use Rattle.std.proofs.lemmas.List.Folds.{list_all-append}
 use Rattle.btree_page.specs.declared.kind.Family.{Family}
+use Rattle.db_format.specs.declared.defect.Defect.TheVariants.{ChainLong}
 use Rattle.db_format.specs.Bytes.{u32_at}
 use Rattle.btree_page.specs.Cell.{Stored}
 use Rattle.db_format.specs.Pages.{Pages, nothing}
 use Rattle.btree_model.specs.Range.{is_in_range}
-use Rattle.btree_model.specs.Finding.{Row, Finding, place, entry, key, places, entries, keys, is_sound}
+use Rattle.btree_model.specs.Finding.{Row, Finding, place, entry, key, fault, places, entries, keys, is_sound}
 use Rattle.btree_model.specs.Walk.{is_met, given, chain, chain_bytes, links_needed, late_faults}
 use Rattle.btree_page.specs.Step.{divider, entry as cell}
 use Rattle.btree_model.specs.Content.{Entry, entry_of}
@@ -19,10 +20,10 @@ use Rattle.btree_model.proofs.UnmarkedLemmas.{or_left, or_right}
 use Rattle.btree_model.proofs.ProperLemmas.{keys-append}
 use Rattle.btree_model.proofs.KeptLemmas.{AreSame, chain_kept, chain_bytes_kept}
 use Rattle.load_model.specs.Open.{Open, open_found}
-use Rattle.load_model.specs.Stands.{IsPut, Stands, IsChain, IsLinks, links, is_at_most, last_after}
+use Rattle.load_model.specs.Stands.{IsPut, Stands, StandsBut, IsChain, IsLinks, links, is_at_most, last_after}
 use Rattle.load_model.proofs.AlikeLemmas.{met-append}
 use Rattle.load_model.proofs.OpenLemmas.{open-append}
-use Rattle.load_model.proofs.StandsLemmas.{not_among, same_pages, still_put}
+use Rattle.load_model.proofs.StandsLemmas.{any_turned, not_among, same_pages, still_put}
 use Rattle.load_model.proofs.RowidLemmas.{IsAbove, no_order_fault, up_to_after, none_late, key_up_to}
 
 pub links_sound : (ns : List ℕ) → is_sound (links ns) ≡ true
@@ -41,9 +42,9 @@ links_keys : (ns : List ℕ) → keys (links ns) ≡ []
 links_keys [] = refl
 links_keys (n ∷ ns) = links_keys ns
 
--- an entry behind all that the open pages have
+-- an entry behind all that the open pages have, to whose chain nothing has led
 module _ (pages : Pages) (family : Family) (last : Option ℤ) (todo : List Open) (pushed : List Entry) (h : ℕ) (rowid : Option ℤ) (stored : Stored)
-    (ns payload : List ℕ) (s : Stands pages family last todo pushed) (above : IsAbove last rowid) (is : IsChain pages stored ns payload)
+    (ns payload : List ℕ) (s : StandsBut ns pages family last todo pushed) (above : IsAbove last rowid) (is : IsChain pages stored ns payload)
     (apart : (slack : ℕ) → list_any (is_met nothing (open_found pages family slack [] todo)) ns ≡ false) where
   abbrev found : ℕ → List Finding
   found slack = open_found pages family slack [] todo
@@ -84,6 +85,7 @@ module _ (pages : Pages) (family : Family) (last : Option ℤ) (todo : List Open
         ∙ ap (list_all (is_at_most (last_after last rowid)))
         (keys-append (found slack) behind ∙ ap (λ l. keys (found slack) ++ l) (keys-append (links ns) (entry row ∷ []) ∙ ap (λ l. l ++ (option_to_list rowid ++ [])) (links_keys ns) ∙ append-nil (option_to_list rowid)))
         ∙ up_to_after last rowid (keys (found slack)) above (s.order slack);
+    whole = λ slack n put. ap (list_any (λ k. k == n)) (cell_places slack) ∙ any_turned (λ k. k == n) (places (found slack)) ns ∙ s.whole slack n put;
   }
 
 -- in a table, the last rowid as a key behind all that the open pages have
@@ -107,6 +109,9 @@ module _ (pages : Pages) (family : Family) (k : ℤ) (todo : List Open) (pushed 
     order = λ slack.
         ap (λ l. list_all (is_at_most (Some k)) (keys l)) (key_found slack)
         ∙ ap (list_all (is_at_most (Some k))) (keys-append (met slack) (key k ∷ [])) ∙ key_up_to k (keys (met slack)) (s.order slack);
+    whole = λ slack n put.
+        ap (λ l. list_any (λ m. m == n) (places l)) (key_found slack)
+        ∙ ap (list_any (λ m. m == n)) (places-append (met slack) (key k ∷ []) ∙ append-nil (places (met slack))) ∙ s.whole slack n put;
   }
 
 pub no_links : (pages : Pages) → IsLinks pages 0 0 [] []
@@ -115,6 +120,15 @@ no_links pages = record { walk = λ met holder none. refl; bytes_are = refl; put
 none_met : (ns : List ℕ) → list_any (is_met nothing []) ns ≡ false
 none_met [] = refl
 none_met (n ∷ ns) = none_met ns
+
+-- a chain of no page
+pub no_chain : (pages : Pages) (n : ℕ) (ns bytes : List ℕ) → IsLinks pages 0 n ns bytes → ns ≡ []
+no_chain pages n [] bytes is = refl
+no_chain pages n (k ∷ ns) bytes is = absurd (never (n == 0) (is.walk [] 0 (none_met (k ∷ ns))))
+  where
+    never : (b : Bool) → (if b then [] else fault (ChainLong 0) ∷ []) ≡ links (k ∷ ns) → ⊥
+    never true same = cc
+    never false same = cc
 
 -- after a place that is none of these
 met_one_more : (m : ℕ) (met : List Finding) (ns : List ℕ) → list_any (λ n. m == n) ns ≡ false → list_any (is_met nothing met) ns ≡ false

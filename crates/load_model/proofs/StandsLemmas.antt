@@ -1,8 +1,8 @@
 -- What keeps the meaning of a loader: a page that is put, a page that is closed, an entry, a key, and the end.
 use Rattle.std.proofs.Common.{◌≡◌, ℕ, suc, ℤ, Bool, true, false, List, [], ◌∷◌, ◌++◌, ◌||◌, ◌&&◌, ◌==◌, Option, Ok, map, refl, ap, sym, ◌∙◌}
 use Rattle.std.specs.List.{list_any, list_all}
-use Rattle.std.proofs.Math.Bool.{or-false}
-use Rattle.std.proofs.lemmas.List.Folds.{list_all-append}
+use Rattle.std.proofs.Math.Bool.{or-false, or_comm}
+use Rattle.std.proofs.lemmas.List.Folds.{list_all-append, list_any-append}
 use Rattle.std.proofs.lemmas.Bool.{eq-eqb, eqb-true}
 use Rattle.btree_page.specs.declared.kind.Family.{Family}
 use Rattle.btree_page.specs.Page.{Node, read_node}
@@ -18,7 +18,7 @@ use Rattle.btree_model.proofs.ProperLemmas.{keys-append}
 use Rattle.btree_model.proofs.ContextLemmas.{and_left, and_right}
 use Rattle.btree_model.proofs.KeptLemmas.{AreSame}
 use Rattle.load_model.specs.Open.{Open, open_found, at_height, plain}
-use Rattle.load_model.specs.Stands.{IsPut, Stands, is_at_most}
+use Rattle.load_model.specs.Stands.{IsPut, Stands, StandsBut, is_at_most}
 use Rattle.load_model.proofs.PlainLemmas.{places-plain, sound-plain, entries-plain, keys-plain}
 use Rattle.load_model.proofs.OpenLemmas.{open-append, open_kept, contract}
 
@@ -63,23 +63,53 @@ still_put old new m put (n ∷ ns) all =
     here false is = put.stays_put n is ∙ and_left (old.accepts n) _ all
     here true is = ap new.accepts (sym (eqb-true m n is)) ∙ put.put
 
+-- ---- which numbers are in a list
+
+swap_or : (a b c : Bool) → (a || (b || c)) ≡ (b || (a || c))
+swap_or true true c = refl
+swap_or true false c = refl
+swap_or false true c = refl
+swap_or false false c = refl
+
+-- one number more in the midst of others
+pub any_middle : (p : Test) (xs ys : List ℕ) (m : ℕ) → list_any p (xs ++ (m ∷ ys)) ≡ (p m || list_any p (xs ++ ys))
+any_middle p [] ys m = refl
+any_middle p (x ∷ xs) ys m = ap (λ b. p x || b) (any_middle p xs ys m) ∙ swap_or (p x) (p m) (list_any p (xs ++ ys))
+
+pub any_turned : (p : Test) (xs ys : List ℕ) → list_any p (xs ++ ys) ≡ list_any p (ys ++ xs)
+any_turned p xs ys = list_any-append p xs ys ∙ or_comm (list_any p xs) (list_any p ys) ∙ sym (list_any-append p ys xs)
+
+-- a page that is put now is page m, or was put before
+pub put_listed : (old new : Pages) (m : ℕ) → IsPut old new m → (n : ℕ) → new.accepts n ≡ true → (b : Bool)
+    → (old.accepts n ≡ true → b ≡ true) → ((m == n) || b) ≡ true
+put_listed old new m put n now b before = here (m == n) refl
+  where
+    here : (e : Bool) → (m == n) ≡ e → ((m == n) || b) ≡ true
+    here true is = ap (λ c. c || b) is
+    here false is = ap (λ c. c || b) is ∙ before (sym (put.stays_put n is) ∙ now)
+
+-- ---- a page is put
+
 -- the findings are as they were after a page was put
-pub put_found : (old new : Pages) (family : Family) (last : Option ℤ) (todo : List Open) (pushed : List Entry) (m : ℕ) → IsPut old new m
-    → Stands old family last todo pushed → (slack : ℕ) → open_found new family slack [] todo ≡ open_found old family slack [] todo
-put_found old new family last todo pushed m put s slack =
+pub put_found : (loose : List ℕ) (old new : Pages) (family : Family) (last : Option ℤ) (todo : List Open) (pushed : List Entry) (m : ℕ) → IsPut old new m
+    → StandsBut loose old family last todo pushed → (slack : ℕ) → open_found new family slack [] todo ≡ open_found old family slack [] todo
+put_found loose old new family last todo pushed m put s slack =
     open_kept old new put.size put.range family slack todo [] (s.sound slack)
     (same_pages old new m put _ (s.put slack) (not_among old.accepts m _ put.fresh (s.put slack)))
 
--- a page that is put changes nothing
-pub put_stands : (old new : Pages) (family : Family) (last : Option ℤ) (todo : List Open) (pushed : List Entry) (m : ℕ) → IsPut old new m
-    → Stands old family last todo pushed → Stands new family last todo pushed
-put_stands old new family last todo pushed m put s = record {
-  sound = λ slack. ap is_sound (put_found old new family last todo pushed m put s slack) ∙ s.sound slack;
-  gives = λ slack. ap (λ l. map entry_of (entries l)) (put_found old new family last todo pushed m put s slack) ∙ s.gives slack;
+-- a page that is put changes nothing, and nothing leads to it yet
+pub put_stands : (loose : List ℕ) (old new : Pages) (family : Family) (last : Option ℤ) (todo : List Open) (pushed : List Entry) (m : ℕ) → IsPut old new m
+    → StandsBut loose old family last todo pushed → StandsBut (m ∷ loose) new family last todo pushed
+put_stands loose old new family last todo pushed m put s = record {
+  sound = λ slack. ap is_sound (put_found loose old new family last todo pushed m put s slack) ∙ s.sound slack;
+  gives = λ slack. ap (λ l. map entry_of (entries l)) (put_found loose old new family last todo pushed m put s slack) ∙ s.gives slack;
   put = λ slack.
-      ap (λ l. list_all new.accepts (places l)) (put_found old new family last todo pushed m put s slack)
+      ap (λ l. list_all new.accepts (places l)) (put_found loose old new family last todo pushed m put s slack)
       ∙ still_put old new m put _ (s.put slack);
-  order = λ slack. ap (λ l. list_all (is_at_most last) (keys l)) (put_found old new family last todo pushed m put s slack) ∙ s.order slack;
+  order = λ slack. ap (λ l. list_all (is_at_most last) (keys l)) (put_found loose old new family last todo pushed m put s slack) ∙ s.order slack;
+  whole = λ slack n now.
+      ap (λ l. list_any (λ k. k == n) ((m ∷ loose) ++ places l)) (put_found loose old new family last todo pushed m put s slack)
+      ∙ put_listed old new m put n now (list_any (λ k. k == n) (loose ++ places (open_found old family slack [] todo))) (s.whole slack n);
 }
 
 -- one place more in the midst of findings
@@ -135,15 +165,15 @@ module _ (old new : Pages) (family : Family) (last : Option ℤ) (front back : L
   abbrev behind : ℕ → List Finding
   behind slack = open_found new family slack (before slack) level
 
-  now : Stands new family last (front ++ level) pushed
-  now = put_stands old new family last (front ++ level) pushed m put s
+  now : StandsBut (m ∷ []) new family last (front ++ level) pushed
+  now = put_stands [] old new family last (front ++ level) pushed m put s
 
   is : (slack : ℕ) → found slack ≡ before slack ++ behind slack
   is slack = open-append new family slack [] front level
 
   -- the places were put before page m was
   old_put : (slack : ℕ) → list_all old.accepts (places (found slack)) ≡ true
-  old_put slack = ap (λ l. list_all old.accepts (places l)) (put_found old new family last (front ++ level) pushed m put s slack) ∙ s.put slack
+  old_put slack = ap (λ l. list_all old.accepts (places l)) (put_found [] old new family last (front ++ level) pushed m put s slack) ∙ s.put slack
 
   old_before : (slack : ℕ) → list_all old.accepts (places (before slack)) ≡ true
   old_before slack =
@@ -156,15 +186,6 @@ module _ (old new : Pages) (family : Family) (last : Option ℤ) (front back : L
       contract new family slack front back h m one range put.put reads (now.sound slack) (not_among old.accepts m _ put.fresh (old_put slack))
       (not_met old.accepts m (before slack) put.fresh (old_before slack))
 
-  pub close_stands : Stands new family last (front ++ (record { height = suc h; leads = child m } ∷ back)) pushed
-  close_stands =
-      record {
-        sound = λ slack. more_sound (found slack) (again slack) (before slack) (behind slack) m (is slack) (more slack) ∙ now.sound slack;
-        gives = λ slack. more_gives (found slack) (again slack) (before slack) (behind slack) m (is slack) (more slack) ∙ now.gives slack;
-        put = λ slack. more_put (found slack) (again slack) (before slack) (behind slack) m (is slack) (more slack) new.accepts put.put ∙ now.put slack;
-        order = λ slack. ap (list_all (is_at_most last)) (more_keys (found slack) (again slack) (before slack) (behind slack) m (is slack) (more slack)) ∙ now.order slack;
-      }
-
   -- which pages the loader's steps lead to: those of before, and page m
   pub close_places : (slack : ℕ) → places (again slack) ≡ places (before slack) ++ (m ∷ places (behind slack))
   close_places slack =
@@ -173,4 +194,17 @@ module _ (old new : Pages) (family : Family) (last : Option ℤ) (front back : L
 
   pub close_places_before : (slack : ℕ) → places (open_found old family slack [] (front ++ level)) ≡ places (before slack) ++ places (behind slack)
   close_places_before slack =
-      ap places (sym (put_found old new family last (front ++ level) pushed m put s slack) ∙ is slack) ∙ places-append (before slack) (behind slack)
+      ap places (sym (put_found [] old new family last (front ++ level) pushed m put s slack) ∙ is slack) ∙ places-append (before slack) (behind slack)
+
+  pub close_stands : Stands new family last (front ++ (record { height = suc h; leads = child m } ∷ back)) pushed
+  close_stands =
+      record {
+        sound = λ slack. more_sound (found slack) (again slack) (before slack) (behind slack) m (is slack) (more slack) ∙ now.sound slack;
+        gives = λ slack. more_gives (found slack) (again slack) (before slack) (behind slack) m (is slack) (more slack) ∙ now.gives slack;
+        put = λ slack. more_put (found slack) (again slack) (before slack) (behind slack) m (is slack) (more slack) new.accepts put.put ∙ now.put slack;
+        order = λ slack. ap (list_all (is_at_most last)) (more_keys (found slack) (again slack) (before slack) (behind slack) m (is slack) (more slack)) ∙ now.order slack;
+        whole = λ slack n put_now.
+            ap (list_any (λ k. k == n)) (close_places slack) ∙ any_middle (λ k. k == n) (places (before slack)) (places (behind slack)) m
+            ∙ put_listed old new m put n put_now (list_any (λ k. k == n) (places (before slack) ++ places (behind slack)))
+            (λ was. ap (list_any (λ k. k == n)) (sym (close_places_before slack)) ∙ s.whole slack n was);
+      }

@@ -1,5 +1,5 @@
 -- What a loader and the pages that it put stand for.
-use Rattle.std.specs.Prelude.{ℕ, ◌≡◌, true, false, ℤ, Bool, List, [], ◌∷◌, map, Option, Some, None, int_le, ◌==◌}
+use Rattle.std.specs.Prelude.{ℕ, ◌≡◌, true, false, ℤ, Bool, List, [], ◌∷◌, ◌++◌, map, Option, Some, None, int_le, ◌==◌}
 use Rattle.std.specs.List.{list_all, list_any}
 use Rattle.std.specs.Option.{option_map_or}
 use Rattle.btree_page.specs.declared.kind.Family.{Family}
@@ -24,12 +24,22 @@ pub record IsPut (old new : Pages) (m : ℕ) : Type 0 where
 abbrev pub is_at_most : Option ℤ → ℤ → Bool
 is_at_most last r = option_map_or (λ l. int_le r l) last false
 
--- the open pages, with what was put below them, give these entries in order, and this is the last rowid
-pub record Stands (pages : Pages) (family : Family) (last : Option ℤ) (todo : List Open) (pushed : List Entry) : Type 0 where
+-- no page was put
+abbrev pub IsNonePut : Pages → Type 0
+IsNonePut pages = (n : ℕ) → pages.accepts n ≡ false
+
+-- The open pages, with what was put below them, give these entries in order, and this is the last rowid. Each page that was put is one of
+-- those that they lead to, but for these loose ones, to which nothing leads yet.
+pub record StandsBut (loose : List ℕ) (pages : Pages) (family : Family) (last : Option ℤ) (todo : List Open) (pushed : List Entry) : Type 0 where
   pub sound : (slack : ℕ) → is_sound (open_found pages family slack [] todo) ≡ true
   pub gives : (slack : ℕ) → map entry_of (entries (open_found pages family slack [] todo)) ≡ pushed
   pub put : (slack : ℕ) → list_all pages.accepts (places (open_found pages family slack [] todo)) ≡ true
   pub order : (slack : ℕ) → list_all (is_at_most last) (keys (open_found pages family slack [] todo)) ≡ true
+  pub whole : (slack n : ℕ) → pages.accepts n ≡ true → list_any (λ m. m == n) (loose ++ places (open_found pages family slack [] todo)) ≡ true
+
+-- the same without a loose page
+abbrev pub Stands : Pages → Family → Option ℤ → List Open → List Entry → Type 0
+Stands pages family last todo pushed = StandsBut [] pages family last todo pushed
 
 abbrev pub links : List ℕ → List Finding
 links [] = []

@@ -21,7 +21,7 @@ use Rattle.bulk_load.proofs.CountLemmas.{back_can, back_some, can_few, held_none
 use Rattle.bulk_load.proofs.DepthLemmas.{power_more}
 use Rattle.bulk_load.proofs.VolumeLemmas.{price_le, price_then}
 use Rattle.bulk_load.proofs.EndLemmas.{IsNextLevel, end_is, last_page, next_level}
-use Rattle.bulk_load.proofs.PutLemmas.{covers_before, covers_behind, follows_all, keeps_after}
+use Rattle.bulk_load.proofs.PutLemmas.{covers_before, covers_behind, follows_all, keeps_after, keeps_more}
 use Rattle.bulk_load.proofs.SettleLemmas.{up_interior}
 use Rattle.bulk_load.proofs.ending.+end_levels.Goals as goal
 
@@ -75,6 +75,12 @@ returns-clause-tree g t c start well own covers todo todos h last pushed low up 
     let less : suc h + (c.args.left - 1) ≤ 18 = omega (arith, c.if-left-eq0.false) in
     c.end_levels.ensures.tree start (c.in-Ok.ensures.follows.told start told) own later n.todo n.todos (suc h) last pushed less n.is_kind
     (subst (λ u. HoldsLevel c.in-Some.next u n.todo) (sym size) n.hold) (subst (λ u. HoldLevels c.take_lowest.new.levels.items u kind n.todos) (sym size) n.holds) n.stands
+
+pub returns-in-Err-clause-keeps : goal.returns-in-Err-clause-keeps
+returns-in-Err-clause-keeps g t c =
+    let p = g.P.PageOut in
+    keeps_more p.pages p.limit p.faults p.well c.args.at_one c.args.out.now c.close.new.out
+    (keeps_after p.pages p.limit p.faults p.well false c.args.out.now c.drain.new.out c.close.new.out c.in_ok-drain.ensures.follows c.in-Err.ensures.keeps)
 
 pub returns-clause-keeps : goal.returns-clause-keeps
 returns-clause-keeps g t c =

@@ -1,18 +1,16 @@
-use Rattle.std.proofs.Common.{◌≡◌, ℕ, suc, [], ◌∷◌, Some, true, map, ap, sym, subst, ◌∙◌, arith}
-use Rattle.std.specs.Option.{option_map}
+use Rattle.std.proofs.Common.{◌≡◌, ◌≤◌, ℕ, suc, [], ◌∷◌, Some, true, ap, sym, subst, ◌∙◌, arith}
 use Rattle.db_format.specs.Pages.{Pages}
 use Rattle.btree_page.specs.declared.kind.Kind.{Kind}
 use Rattle.btree_page.specs.Kind.{family_of, is_interior}
 use Rattle.btree_page.specs.Page.{Node}
 use Rattle.btree_page.specs.Step.{child, steps}
-use Rattle.btree_model.specs.Content.{entry_of}
-use Rattle.btree_model.specs.Tree.{tree}
 use Rattle.load_model.specs.Open.{at_height}
 use Rattle.load_model.specs.Stands.{Stands}
-use Rattle.load_model.proofs.RootLemmas.{lone_root, root_tree}
+use Rattle.load_model.proofs.RootLemmas.{lone_root, lone_whole, root_tree, root_whole}
 use Rattle.page_build.specs.Draft.{as_first}
 use Rattle.page_build.specs.Written.{right_child}
 use Rattle.bulk_load.specs.Close.{HasCells, IsRoot}
+use Rattle.bulk_load.specs.Found.{HasTree}
 use Rattle.bulk_load.specs.Own.{only}
 use Rattle.bulk_load.proofs.PutLemmas.{covers_before, covers_behind}
 use Rattle.bulk_load.proofs.EndLemmas.{closed_tree}
@@ -32,9 +30,14 @@ returns-in-Ok-clause-tree g c start well own covers cells h last pushed low up h
     let root : IsRoot old new 1 one =
     subst (λ k. IsRoot old new 1 (record { kind = k; cells = cells; right = right_child k c.args.right })) (ap (λ d. d.kind) moved)
     (c.in-Ok.ensures.root start well own covers cells (subst (λ d. HasCells d old.usable cells) (sym moved) first)) in
-    subst (λ f. option_map (map entry_of) (tree new f 1) ≡ Some pushed) fam
-    (root_tree old new (family_of page.kind) last pushed h 1 one root.put root.reads (omega arith)
-    (subst (λ f. Stands old f last (at_height h (steps cells (right_child page.kind c.args.right))) pushed) (sym fam) st))
+    let least : h ≤ 19 = omega arith in
+    let ready : Stands old (family_of page.kind) last (at_height h (steps cells (right_child page.kind c.args.right))) pushed =
+    subst (λ f. Stands old f last (at_height h (steps cells (right_child page.kind c.args.right))) pushed) (sym fam) st in
+    subst (λ f. HasTree new f 1 pushed) fam
+    (record {
+      lists = root_tree old new (family_of page.kind) last pushed h 1 one root.put root.reads least ready;
+      whole = root_whole old new (family_of page.kind) last pushed h 1 one root.put root.reads least ready;
+    })
 
 pub returns-in-Ok-put_first-clause-tree : goal.returns-in-Ok-put_first-clause-tree
 returns-in-Ok-put_first-clause-tree g c start well own covers cells h last pushed low up has st =
@@ -56,4 +59,8 @@ returns-in-Ok-put_first-clause-tree g c start well own covers cells h last pushe
     let root : IsRoot mid new 1 (record { kind = kind; cells = []; right = Some m }) =
     subst (λ r. IsRoot mid new 1 (record { kind = kind; cells = []; right = r })) (right_is kind m inner)
     (subst (λ k. IsRoot mid new 1 (record { kind = k; cells = []; right = right_child k m })) is_kind (c.in-Ok-put_first.ensures.root start told own (covers_behind _ own _ _ _ c.in-Ok-close.ensures.keeps.count covers) [] empty)) in
-    lone_root mid new (family_of kind) kind last pushed (suc h) m root.put root.reads (omega arith) closed
+    let least : suc h ≤ 19 = omega arith in
+    record {
+      lists = lone_root mid new (family_of kind) kind last pushed (suc h) m root.put root.reads least closed;
+      whole = lone_whole mid new (family_of kind) kind last pushed (suc h) m root.put root.reads least closed;
+    }

@@ -1,16 +1,14 @@
-use Rattle.std.proofs.Common.{inl, inr, List, ℕ, ◌≤◌, ◌+◌, ◌*◌, ◌≡◌, ℤ, Option, Some, [], ◌++◌, map, IfOk, ap, sym, subst, ◌∙◌, arith}
-use Rattle.std.specs.Option.{option_map}
+use Rattle.std.proofs.Common.{inl, inr, List, ℕ, ◌≤◌, ◌+◌, ◌*◌, ◌≡◌, ℤ, Option, [], ◌++◌, IfOk, ap, sym, subst, ◌∙◌, arith}
 use Rattle.db_format.specs.Pages.{Pages}
 use Rattle.btree_page.specs.declared.kind.Kind.{Kind}
 use Rattle.btree_page.specs.Kind.{family_of}
 use Rattle.btree_page.specs.Step.{steps}
-use Rattle.btree_model.specs.Content.{entry_of}
-use Rattle.btree_model.specs.Tree.{tree}
 use Rattle.load_model.specs.Open.{at_height}
 use Rattle.load_model.specs.Stands.{Stands}
 use Rattle.page_build.specs.Written.{right_child}
 use Rattle.bulk_load.specs.Levels.{HoldLevels, opened}
 use Rattle.bulk_load.specs.Settle.{up_kind}
+use Rattle.bulk_load.specs.Found.{HasTree}
 use Rattle.bulk_load.specs.Own.{only}
 use Rattle.bulk_load.proofs.EndLemmas.{leaf_right}
 use Rattle.bulk_load.proofs.SettleLemmas.{family_up}
@@ -35,7 +33,7 @@ returns-clause-tree g c start well own covers pushed l =
     let is_up : up ≡ up_kind here = c.above-kind.ensures ∙ ap up_kind c.kind.ensures in
     let fam : family_of up ≡ family_of here = ap family_of is_up ∙ family_up here in
     let none : at_height 0 (steps [] (right_child here 0)) ≡ [] = ap (λ r. at_height 0 (steps [] r)) (leaf_right here 0 c.requires.ready.leaf_kind) in
-    subst (λ f. IfOk c.end_levels.result (λ root. option_map (map entry_of) (tree new f root) ≡ Some pushed)) fam
+    subst (λ f. IfOk c.end_levels.result (λ root. HasTree new f root pushed)) fam
     (c.end_levels.ensures.tree start well own covers l.todo l.todos 0 last pushed (omega arith) (sym is_up) l.hold
     (subst (λ k. HoldLevels c.args.self.levels.items old.usable k l.todos) (sym is_up) l.above)
     (subst (λ f. Stands old f last (opened 1 l.todos ++ (at_height 0 l.todo ++ at_height 0 (steps [] (right_child here 0)))) pushed) (sym fam)
