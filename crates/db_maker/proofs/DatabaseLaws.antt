@@ -1,11 +1,12 @@
 -- Three trees and their schema, each on pages of its own, are a database.
-use Rattle.std.proofs.Common.{◌≡◌, ◌≤◌, ◌<◌, ℕ, ◌^◌, true, false, [], ◌∷◌, ◌||◌, ◌==◌, pos, Some, None, refl, ap, ◌∙◌}
-use Rattle.db_format.specs.Pages.{Pages, Test}
+use Rattle.std.proofs.Common.{◌≡◌, ◌≤◌, ◌<◌, ℕ, ◌^◌, true, false, List, [], ◌∷◌, ◌||◌, ◌==◌, pos, Some, None, refl, ap, ◌∙◌}
+use Rattle.db_format.specs.Pages.{Pages, Test, is_page}
 use Rattle.btree_page.specs.declared.kind.Family.TheVariants.{Table}
 use Rattle.btree_model.specs.Range.{is_in_range}
-use Rattle.bulk_load.specs.Found.{Apart, HasTree, IsPlan, SchemaPlan, Within, either}
+use Rattle.bulk_load.specs.Found.{Apart, HasTree, IsPlan, IsTightBehind, SchemaPlan, Within, either}
+use Rattle.bulk_load.specs.Out.{AreAllPut}
 use Rattle.bulk_load.specs.Own.{only}
-use Rattle.bulk_load.proofs.DatabaseLemmas.{items_held}
+use Rattle.bulk_load.proofs.DatabaseLemmas.{IsSchemaTree, items_held, tight_held}
 use Rattle.bulk_load.proofs.NamedLemmas.{root_is}
 use Rattle.db_maker.specs.declared.part.Part.{Part}
 use Rattle.db_maker.specs.declared.part.Part.TheVariants.{Items, Names, Codes}
@@ -67,26 +68,37 @@ planned pages rowid part root rows own named few has within = record {
 from_both : (own one other : Test) → Apart own one → Apart own other → Apart own (either one other)
 from_both own one other p q n mine = ap (λ b. b || other n) (p n mine) ∙ q n mine
 
-pub database_is : (pages : Pages) (rows items names codes_root : ℕ) (of_items of_names of_codes of_schema : Test)
-    → AreApart pages rows items names codes_root of_items of_names of_codes of_schema → rows < 2 ^ 32 → IsMade pages rows
-database_is pages rows items names codes_root of_items of_names of_codes of_schema t few =
-    items_held pages of_schema
-    (part_plan 1 Items items rows of_items ∷ part_plan 2 Names names rows of_names ∷ part_plan 3 Codes codes_root rows of_codes ∷ view_plan ∷ [])
-    (record {
-      some = t.some;
-      within = t.schema_within;
-      has = t.has_schema;
-      rows = (
-        planned pages 1 Items items rows of_items t.items_named few t.has_items t.items_within,
-        t.items_from_schema,
+-- the rows of the schema
+abbrev plans : (rows items names codes_root : ℕ) (of_items of_names of_codes : Test) → List SchemaPlan
+plans rows items names codes_root of_items of_names of_codes =
+    part_plan 1 Items items rows of_items ∷ part_plan 2 Names names rows of_names ∷ part_plan 3 Codes codes_root rows of_codes ∷ view_plan ∷ []
+
+module _ (pages : Pages) (rows items names codes_root : ℕ) (of_items of_names of_codes of_schema : Test)
+    (t : AreApart pages rows items names codes_root of_items of_names of_codes of_schema) (few : rows < 2 ^ 32) where
+  schema_is : IsSchemaTree pages of_schema (plans rows items names codes_root of_items of_names of_codes)
+  schema_is = record {
+    some = t.some;
+    within = t.schema_within;
+    has = t.has_schema;
+    rows = (
+      planned pages 1 Items items rows of_items t.items_named few t.has_items t.items_within,
+      t.items_from_schema,
+      (
+        planned pages 2 Names names rows of_names t.names_named few t.has_names t.names_within,
+        from_both of_names of_items of_schema t.names_from_items t.names_from_schema,
         (
-          planned pages 2 Names names rows of_names t.names_named few t.has_names t.names_within,
-          from_both of_names of_items of_schema t.names_from_items t.names_from_schema,
-          (
-            planned pages 3 Codes codes_root rows of_codes t.codes_named few t.has_codes t.codes_within,
-            from_both of_codes of_names (either of_items of_schema) t.codes_from_names (from_both of_codes of_items of_schema t.codes_from_items t.codes_from_schema),
-            (record { reads = view_read; names = refl }, (λ n no. cc), tt),
-          ),
+          planned pages 3 Codes codes_root rows of_codes t.codes_named few t.has_codes t.codes_within,
+          from_both of_codes of_names (either of_items of_schema) t.codes_from_names (from_both of_codes of_items of_schema t.codes_from_items t.codes_from_schema),
+          (record { reads = view_read; names = refl }, (λ n no. cc), tt),
         ),
-      );
-    })
+      ),
+    );
+  }
+
+  pub database_is : IsMade pages rows
+  database_is = items_held pages of_schema (plans rows items names codes_root of_items of_names of_codes) schema_is
+
+  -- where each page is one of the four
+  pub database_tight : AreAllPut pages
+      → ((n : ℕ) → is_page pages n ≡ true → (of_schema n || (of_items n || (of_names n || (of_codes n || false)))) ≡ true) → IsTightBehind pages
+  database_tight put filled = tight_held pages of_schema (plans rows items names codes_root of_items of_names of_codes) schema_is put filled

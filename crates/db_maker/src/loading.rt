@@ -2,9 +2,9 @@
 ghost use Rattle.std.specs.Prelude.{◌≡◌, ◌≤◌, ◌+◌, ◌^◌, ℕ, true, false, List, [], ◌∷◌, ◌++◌, None, Err, IfOk, IfErr, OnOk, OnErr};
 ghost use Rattle.db_format.specs.Pages.{IsUsable, Pages, Test};
 ghost use Rattle.btree_model.specs.Content.{Entry};
-ghost use Rattle.load_model.specs.Stands.{last_after};
+ghost use Rattle.load_model.specs.Stands.{IsNonePut, last_after};
 ghost use Rattle.bulk_load.specs.Out.{Follows, HasEndCause, HasLoadCause, Keeps};
-ghost use Rattle.bulk_load.specs.Own.{Covers, only};
+ghost use Rattle.bulk_load.specs.Own.{Covers, CoversNew, only};
 ghost use Rattle.bulk_load.specs.Loader.{IsLoader, Loaded, family_of_loader, is_late};
 ghost use Rattle.db_maker.specs.Made.{HasPart};
 ghost use Rattle.db_maker.specs.Parts.{entries_in, entry_in, family_in};
@@ -25,7 +25,7 @@ pub(crate) fn load_part<P: PageOut>(
     part: Part,
     rows: u32,
 ) -> Result<u32, LoadError>
-    ensures tree { (start : ℕ) → P.well start out.old → (own : Test) → Covers false own (P.pages out.old) (P.pages out.new)
+    ensures tree { (start : ℕ) → P.well start out.old → (own : Test) → CoversNew false own (P.pages out.old) (P.pages out.new)
         → IfOk result (λ root. HasPart (only own (P.pages out.new)) part root rows) }
     ensures cause { IfErr result (HasEndCause P.pages P.limit P.faults out.old out.new) }
     ensures few { (P.pages out.new).count ≤ (P.pages out.old).count + part_pages (P.pages out.old).usable part rows }
@@ -47,7 +47,7 @@ fn new_loader(alloc: Global, usable: usize, part: Part) -> Result<Loader, LoadEr
     ensures family { IfOk result (λ loader. family_of_loader loader ≡ family_in part) }
     ensures at_one { IfOk result (λ loader. loader.at_one ≡ false) }
     ensures last { IfOk result (λ loader. loader.last ≡ None) }
-    ensures empty { (pages : Pages) → pages.usable ≡ usable → IfOk result (λ loader. Loaded pages loader []) }
+    ensures empty { (pages : Pages) → pages.usable ≡ usable → IsNonePut pages → IfOk result (λ loader. Loaded pages loader []) }
     ensures none { (from : ℕ) → IfOk result (TookFew (family_in part) usable from [] from) }
     ensures cause { IfErr result (λ error. error ≡ LoadError.OutOfMemory) }
 {

@@ -1,5 +1,6 @@
 // A whole database.
 ghost use Rattle.std.specs.Prelude.{◌≡◌, ◌≤◌, ◌+◌, ◌^◌, ℕ, false, true, Err, IfOk, IfErr, OnOk};
+ghost use Rattle.bulk_load.specs.Found.{IsTightBehind};
 ghost use Rattle.bulk_load.specs.Out.{AreAllPut, Follows, HasEndCause, Keeps, is_load_refusal};
 ghost use Rattle.db_maker.specs.Made.{IsMade};
 ghost use Rattle.db_maker.specs.Pages.{filled_pages};
@@ -26,6 +27,8 @@ pub struct Made {
 pub fn fill<P: PageOut>(alloc: Global, out: &mut P, n: u32) -> Result<Made, LoadError>
     requires free { (P.pages out.old).accepts 1 ≡ false }
     ensures made { (start : ℕ) → P.well start out.old → OnOk result (IsMade (P.pages out.new) n) }
+    // where no number had been taken before, it has no page beside the schema and the trees
+    ensures tight { (start : ℕ) → P.well start out.old → (P.pages out.old).count ≡ 1 → OnOk result (IsTightBehind (P.pages out.new)) }
     ensures told { IfOk result (λ made. (made.rows ≡ n) × (made.bytes ≡ total_len n)) }
     ensures cause { IfErr result (HasEndCause P.pages P.limit P.faults out.old out.new) }
     // no more pages are taken than such a database has at most beside page 1, also where one more was asked for
@@ -33,7 +36,7 @@ pub fn fill<P: PageOut>(alloc: Global, out: &mut P, n: u32) -> Result<Made, Load
     ensures asked { IfErr result (λ error. is_load_refusal error ≡ true → (P.pages out.new).count + 1 ≤ (P.pages out.old).count + filled_pages (P.pages out.old).usable n) }
     // and a tree is too deep only where as many pages are
     ensures deep { result ≡ Err LoadError.TooDeep → 2 ^ 28 ≤ (P.pages out.new).count }
-    // where no number had been taken before, no page is missing
+    // and no page is missing
     ensures whole { (P.pages out.old).count ≡ 1 → OnOk result (AreAllPut (P.pages out.new)) }
     ensures keeps { Keeps P.pages P.limit P.faults P.well true out.old out.new }
     ensures follows { OnOk result (Follows P.pages P.limit P.faults P.well true out.old out.new) }

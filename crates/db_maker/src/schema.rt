@@ -7,7 +7,7 @@ ghost use Rattle.db_format.specs.Row.{record_bytes};
 ghost use Rattle.db_format.specs.Pages.{Test};
 ghost use Rattle.bulk_load.specs.Few.{TookFew, load_pages};
 ghost use Rattle.bulk_load.specs.Out.{Follows, HasEndCause, HasLoadCause, Keeps, is_load_refusal};
-ghost use Rattle.bulk_load.specs.Own.{Covers, only};
+ghost use Rattle.bulk_load.specs.Own.{Covers, CoversNew, only};
 ghost use Rattle.bulk_load.specs.Loader.{IsLoader, Loaded, family_of_loader, is_late};
 ghost use Rattle.bulk_load.specs.Found.{HasTree};
 ghost use Rattle.db_maker.specs.Pages.{schema_pages};
@@ -36,7 +36,7 @@ pub(crate) fn load_schema<P: PageOut>(
     codes: u32,
 ) -> Result<(), LoadError>
     requires free { (P.pages out.old).accepts 1 ≡ false }
-    ensures tree { (start : ℕ) → P.well start out.old → (own : Test) → Covers true own (P.pages out.old) (P.pages out.new)
+    ensures tree { (start : ℕ) → P.well start out.old → (own : Test) → CoversNew true own (P.pages out.old) (P.pages out.new)
         → OnOk result (HasTree (only own (P.pages out.new)) Table 1 (schema_entries items names codes)) }
     ensures cause { IfErr result (HasEndCause P.pages P.limit P.faults out.old out.new) }
     ensures few { (P.pages out.new).count ≤ (P.pages out.old).count + schema_pages }

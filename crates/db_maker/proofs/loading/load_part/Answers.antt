@@ -15,12 +15,12 @@ returns-clause-tree g c start well own covers =
     let pushed = c.in_ok-push_rows.ensures in
     let at_one : c.push_rows.new.loader.at_one ≡ false = pushed.at_one ∙ c.in_ok-loader.ensures.at_one in
     let first : Covers false own (p c.args.out.now) (p c.push_rows.new.out) =
-    covers_before false own _ _ (p c.finish.new.out) c.finish.ensures.keeps.count covers in
-    let last : Covers false own (p c.push_rows.new.out) (p c.finish.new.out) = covers_behind false own (p c.args.out.now) _ _ pushed.keeps.count covers in
+    covers_before false own _ _ (p c.finish.new.out) c.finish.ensures.keeps.count covers.covers in
+    let last : Covers false own (p c.push_rows.new.out) (p c.finish.new.out) = covers_behind false own (p c.args.out.now) _ _ pushed.keeps.count covers.covers in
     subst (λ family. IfOk c.finish.result (λ root. HasTree (only own (p c.finish.new.out)) family root listed)) pushed.family
     (c.finish.ensures.tree start (pushed.follows.told start well) own
     (subst (λ first. Covers first own (p c.push_rows.new.out) (p c.finish.new.out)) (sym at_one) last) listed
-    (pushed.loaded start well own first (c.in_ok-loader.ensures.empty (only own (p c.args.out.now)) (sym c.usable.ensures.value))))
+    (pushed.loaded start well own first (c.in_ok-loader.ensures.empty (only own (p c.args.out.now)) (sym c.usable.ensures.value) covers.none)))
 
 pub returns-clause-deep : goal.returns-clause-deep
 returns-clause-deep g c is =
