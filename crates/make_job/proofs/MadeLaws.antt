@@ -8,6 +8,7 @@ use Rattle.db_format.specs.Header.{header_bytes, header_read}
 use Rattle.db_format.specs.Pages.{Pages}
 use Rattle.db_format.specs.declared.header.Header.{Header}
 use Rattle.db_maker.specs.Made.{IsMade, made_items}
+use Rattle.bulk_load.specs.Found.{IsTightBehind}
 use Rattle.bulk_load.proofs.FreeLemmas.{header_free}
 use Rattle.edge_model.specs.Causes.{Rose}
 use Rattle.edge_model.specs.Files.{File, Files}
@@ -58,8 +59,8 @@ module _ (keys : FileKeys) (header : Header) (state : FreshState) (rows start : 
   read_as = subst (λ (h : Header). header_read (header_bytes (sized h pages.count)) h.page_size h.reserve ≡ Ok (sized h pages.count)) head
 
   pub written : header_read (header_bytes (sized header (state.taken + 1))) header.page_size header.reserve ≡ Ok (sized header (state.taken + 1))
-      → IsMade pages rows → IsWritten keys rows fresh
-  written read made =
+      → IsMade pages rows → IsTightBehind pages → IsWritten keys rows fresh
+  written read made filled =
       let usable_is : pages.usable ≡ usable keys.profile = ap (λ (k : FileKeys). usable k.profile) codec in
       record {
         file = ended.file;
@@ -78,6 +79,9 @@ module _ (keys : FileKeys) (header : Header) (state : FreshState) (rows start : 
                 subst (λ (fields : List ℕ). HoldsContent (opened_pages keys ended.file pages.count) (record { kept = fields; rows = made_items rows })) kept
                 (made (header_bytes (made_header keys.profile pages.count)) (opened_pages keys ended.file pages.count) (header_free (made_header keys.profile pages.count) refl refl)
                 (is_headed keys (made_header keys.profile 0) start pages draws_tell fresh drawn listed ended state.counted usable_is));
+            tight =
+                filled (header_bytes (made_header keys.profile pages.count)) (opened_pages keys ended.file pages.count) (header_free (made_header keys.profile pages.count) refl refl)
+                (is_headed keys (made_header keys.profile 0) start pages draws_tell fresh drawn listed ended state.counted usable_is);
           };
         };
       }

@@ -1,6 +1,7 @@
 -- A made file: it opens, and holds so many rows.
 use Rattle.std.specs.Prelude.{◌≡◌, ℕ, ◌*◌, true, List, [], ◌∷◌, length, Ok}
 use Rattle.btree_model.specs.Content.{Content, HoldsContent}
+use Rattle.bulk_load.specs.Found.{IsTight}
 use Rattle.cipher_profile.specs.declared.keys.Secret.{Secret}
 use Rattle.cipher_profile.specs.declared.profile.Profile.{Profile}
 use Rattle.db_format.specs.declared.header.Header.{Header}
@@ -35,7 +36,7 @@ abbrev pub made_content : ℕ → Content
 made_content rows = record { kept = 1 ∷ 4 ∷ 0 ∷ 1 ∷ 0 ∷ 0 ∷ 3045000 ∷ []; rows = made_items rows }
 
 -- Under these keys the file opens with that header, and begins with its bytes. It is so many pages and no byte more, each of them is
--- accepted, no part of the database has a defect, and it holds so many rows.
+-- accepted, no part of the database has a defect, and it holds so many rows. No page of it is free, and none unused.
 pub record IsMadeUnder (keys : FileKeys) (rows : ℕ) (file : List ℕ) : Type 0 where
   pub count : ℕ
   pub opens : file_opened keys file ≡ Ok (record { header = made_header keys.profile count; count = count })
@@ -43,6 +44,7 @@ pub record IsMadeUnder (keys : FileKeys) (rows : ℕ) (file : List ℕ) : Type 0
   pub size : length file ≡ count * keys.profile.page_size
   pub accepted : (n : ℕ) → is_number count n ≡ true → accepts keys n (page_stored keys file n) ≡ true
   pub holds : HoldsContent (opened_pages keys file count) (made_content rows)
+  pub tight : IsTight (opened_pages keys file count)
 
 -- the same under the keys that the secret gives for the file
 abbrev pub IsMade : Profile → Secret → ℕ → List ℕ → Type 0

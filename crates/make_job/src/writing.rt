@@ -2,6 +2,7 @@
 ghost use Rattle.std.specs.Prelude.{◌≡◌, ◌≤◌, ◌<◌, ℕ, List, false, Some, Err, IfOk, IfErr, OnOk, IsTrue, length};
 ghost use Rattle.cipher_profile.specs.Profile.{IsListed, usable};
 ghost use Rattle.edge_model.specs.Causes.{Rose};
+ghost use Rattle.bulk_load.specs.Found.{IsTightBehind};
 ghost use Rattle.bulk_load.specs.Out.{AreAllPut};
 ghost use Rattle.db_format.specs.Header.{IsPageSize};
 ghost use Rattle.db_maker.specs.Made.{IsMade};
@@ -68,6 +69,8 @@ fn fill_state<T: Side>(
     ensures counts { IfOk result (λ made. (made.rows ≡ rows) × (made.bytes ≡ total_len rows)) }
     ensures made { (start : ℕ) → IsWellAs state.old start T.tells T.draws_tell (T.fresh side.old) (T.drawn side.old)
         → OnOk result (IsMade (pages_of state.new (T.fresh side.new)) rows) }
+    ensures tight { (start : ℕ) → IsWellAs state.old start T.tells T.draws_tell (T.fresh side.old) (T.drawn side.old)
+        → OnOk result (IsTightBehind (pages_of state.new (T.fresh side.new))) }
     ensures well { (start : ℕ) → IsWellAs state.old start T.tells T.draws_tell (T.fresh side.old) (T.drawn side.old)
         → OnOk result (IsWellAs state.new start T.tells T.draws_tell (T.fresh side.new) (T.drawn side.new)) }
     ensures whole { OnOk result (AreAllPut (pages_of state.new (T.fresh side.new))) }

@@ -15,6 +15,13 @@ returns-in-Ok-clause-made g c start was head whole free headed =
     let well = subst₂ (λ state t. IsWellAs state start side.tells side.draws_tell (side.fresh t) (side.drawn t)) (sym c.out-out.ensures.same.0) (sym c.out-out.ensures.same.1) was in
     c.in-Ok.ensures.made start well head whole free (search (rules, headed))
 
+pub returns-in-Ok-clause-tight : goal.returns-in-Ok-clause-tight
+returns-in-Ok-clause-tight g c start was head whole free headed =
+    let side = g.T.Side in
+    let well = subst₂ (λ state t. IsWellAs state start side.tells side.draws_tell (side.fresh t) (side.drawn t)) (sym c.out-out.ensures.same.0) (sym c.out-out.ensures.same.1) was in
+    let none = ap (λ (s : FreshState). s.taken + 1) c.out-out.ensures.same.0 ∙ c.requires.none.0 in
+    c.in-Ok.ensures.tight start well none head whole free (search (rules, headed))
+
 pub returns-in-Ok-clause-well : goal.returns-in-Ok-clause-well
 returns-in-Ok-clause-well g c start was =
     let side = g.T.Side in

@@ -23,7 +23,7 @@ returns-in-Ok-finish-clause-written g c told =
     let well = filled.well start (c.in-Ok.ensures.well told) in
     written c.args.codec _ c.fill_state.new.state c.args.rows start side.draws_tell (side.fresh c.fill_state.new.side) _ _ (subst (λ x. IsListed x) c.profile.ensures.value c.profile.ensures.listed) (filled.same.0 ∙ c.in-Ok.ensures.codec)
     (filled.same.1 ∙ c.in-Ok.ensures.limit) (search rules) (c.in-Ok-finish.ensures.file start well) c.finish.ensures.reads_back
-    (filled.made start (c.in-Ok.ensures.well told))
+    (filled.made start (c.in-Ok.ensures.well told)) (filled.tight start (c.in-Ok.ensures.well told))
 
 pub returns-in-Ok-finish-clause-own_draws : goal.returns-in-Ok-finish-clause-own_draws
 returns-in-Ok-finish-clause-own_draws g c told tell file is =
