@@ -1,9 +1,9 @@
 -- Trees that are copied one after another, and the schema that names them.
-use Rattle.std.proofs.Common.{◌≡◌, ◌≤◌, ℕ, ℤ, zero, suc, pos, Bool, true, false, List, [], ◌∷◌, ◌++◌, ◌||◌, Option, Some, None, length, map, refl, ap, sym, subst, ◌∙◌, arith}
-use Rattle.std.specs.Prelude.{unwrap_or}
+use Rattle.std.proofs.Common.{◌≡◌, ◌≤◌, ℕ, ℤ, zero, suc, pos, Bool, true, false, List, [], ◌∷◌, ◌++◌, ◌||◌, ◌&&◌, ◌==◌, Option, Some, None, length, map, refl, ap, sym, subst, ◌∙◌, arith}
+use Rattle.std.specs.Prelude.{nat_le, unwrap_or}
 use Rattle.std.specs.List.{All}
 use Rattle.std.proofs.lemmas.List.Elements.{All-head, All-tail}
-use Rattle.db_format.specs.Pages.{Pages, Test, nothing}
+use Rattle.db_format.specs.Pages.{Pages, Test, is_page, nothing}
 use Rattle.db_format.specs.Record.{columns}
 use Rattle.db_format.specs.Value.{Datum}
 use Rattle.btree_page.specs.declared.kind.Family.TheVariants.{Table}
@@ -11,13 +11,13 @@ use Rattle.btree_model.specs.Content.{SchemaItem, item_of, item_with, with_tree}
 use Rattle.btree_model.specs.Finding.{is_sound}
 use Rattle.btree_model.specs.Schema.{at_page, root_of}
 use Rattle.btree_model.specs.Tree.{root_family, tree_walk}
-use Rattle.bulk_load.specs.Found.{ArePlans, HasTree, HoldsItems, IsPlan, OwnTree, SchemaPlan, either, own_pages, plan_entry, plan_item}
-use Rattle.bulk_load.specs.Out.{Faults, Keeps}
+use Rattle.bulk_load.specs.Found.{ArePlans, HasTree, HoldsItems, IsPlan, IsTightBehind, OwnTree, SchemaPlan, either, own_pages, plan_entry, plan_item}
+use Rattle.bulk_load.specs.Out.{AreAllPut, Faults, Keeps}
 use Rattle.bulk_load.specs.Own.{between, only}
-use Rattle.bulk_load.proofs.DatabaseLemmas.{items_held}
+use Rattle.bulk_load.proofs.DatabaseLemmas.{IsSchemaTree, items_held, of_trees, tight_held}
 use Rattle.bulk_load.proofs.FoundLemmas.{tree_kept}
 use Rattle.bulk_load.proofs.NamedLemmas.{cons_same, root_is}
-use Rattle.bulk_load.proofs.TakenLemmas.{earlier_from_schema, in_range, later_apart, low_of, of_schema, root_own, schema_in}
+use Rattle.bulk_load.proofs.TakenLemmas.{between_same, earlier_from_schema, in_range, later_apart, low_of, of_schema, root_own, schema_in}
 use Rattle.schema_map.specs.declared.schema.SchemaRow.{SchemaRow}
 use Rattle.migrate_job.specs.Copied.{AreCopied, AreRenamed, IsCopiedTree, IsRenamed, IsRooted, IsSoundRow, new_entries, new_entry, old_entries, payload_with, row_values, values_of_payload}
 use Rattle.migrate_job.proofs.RowLaws.{row_values_rest}
@@ -38,27 +38,30 @@ copied_more before pages low middle high (first ∷ rows) [] row root are more i
 copied_more before pages low middle high (first ∷ rows) (r ∷ roots) row root (next, less, here, later) more is =
     (next, less, here, copied_more before pages next middle high rows roots row root later more is)
 
--- what is put beside them leaves them as they are
-module _ {S : Type 0} (pages : S → Pages) (limit : S → ℕ) (faults : S → Faults) (well : ℕ → S → Type 0) (before : Pages) (first : Bool) (a b : S) (start : ℕ)
-    (told : well start a) (kept : Keeps pages limit faults well first a b) where
-  one_kept : (low high root new : ℕ) → IsCopiedTree before (pages a) low high root new → IsCopiedTree before (pages b) low high root new
-  one_kept low high zero new is = is
-  one_kept low high (suc n) new is =
-      tree_kept pages limit faults well (between low high) first a b start told kept (root_family (suc n) (before.page (suc n))) new (old_entries before (suc n)) is
-
-  pub copied_kept : (low high : ℕ) (rows : List SchemaRow) (roots : List ℕ) → AreCopied before (pages a) low high rows roots → AreCopied before (pages b) low high rows roots
-  copied_kept low high [] [] are = are
-  copied_kept low high [] (r ∷ roots) are = are
-  copied_kept low high (row ∷ rows) [] are = are
-  copied_kept low high (row ∷ rows) (root ∷ roots) (middle, less, here, later) =
-      (middle, less, one_kept low middle row.root root here, copied_kept middle high rows roots later)
-
 pub copied_ordered : (before pages : Pages) (low high : ℕ) (rows : List SchemaRow) (roots : List ℕ) → AreCopied before pages low high rows roots → low ≤ high
 copied_ordered before pages low high [] [] at = omega arith
 copied_ordered before pages low high [] (r ∷ roots) are = absurd are
 copied_ordered before pages low high (row ∷ rows) [] are = absurd are
 copied_ordered before pages low high (row ∷ rows) (root ∷ roots) (middle, less, here, later) =
     let behind : middle ≤ high = copied_ordered before pages middle high rows roots later in omega arith
+
+-- what is put beside them leaves them as they are
+module _ {S : Type 0} (pages : S → Pages) (limit : S → ℕ) (faults : S → Faults) (well : ℕ → S → Type 0) (before : Pages) (first : Bool) (a b : S) (start : ℕ)
+    (told : well start a) (kept : Keeps pages limit faults well first a b) where
+  one_kept : (low high : ℕ) → 1 ≤ low → high ≤ (pages a).count → (root new : ℕ) → IsCopiedTree before (pages a) low high root new → IsCopiedTree before (pages b) low high root new
+  one_kept low high some most zero new is = is
+  one_kept low high some most (suc n) new is =
+      tree_kept pages limit faults well (between low high) first a b start told kept (between_same pages limit faults well first a b kept low high some most)
+      (root_family (suc n) (before.page (suc n))) new (old_entries before (suc n)) is
+
+  pub copied_kept : (low high : ℕ) → 1 ≤ low → high ≤ (pages a).count → (rows : List SchemaRow) (roots : List ℕ)
+      → AreCopied before (pages a) low high rows roots → AreCopied before (pages b) low high rows roots
+  copied_kept low high some most [] [] are = are
+  copied_kept low high some most [] (r ∷ roots) are = are
+  copied_kept low high some most (row ∷ rows) [] are = are
+  copied_kept low high some most (row ∷ rows) (root ∷ roots) (middle, less, here, later) =
+      let behind : middle ≤ high = copied_ordered before (pages a) middle high rows roots later in
+      (middle, less, one_kept low middle some (omega arith) row.root root here, copied_kept middle high (omega arith) most rows roots later)
 
 -- ---- the rows as plans
 
@@ -167,6 +170,44 @@ module _ (before pages : Pages) (some : 1 ≤ pages.count) where
             (free n (rest_in low middle high n less is))),
       )
 
+-- ---- all numbers
+
+none_between : (low high n : ℕ) → low ≡ high → between low high n ≡ false
+none_between low high n same = grind (arith, same)
+
+rest_between : (low middle high n : ℕ) → between low middle n ≡ false → between low high n ≡ true → between middle high n ≡ true
+rest_between low middle high n other is = grind (arith, other, is)
+
+left_over : (low middle high n : ℕ) → low ≡ 1 → (n == 1 || between middle high n) ≡ false → (nat_le 1 n && nat_le n high) ≡ true → between low middle n ≡ true
+left_over low middle high n one other is = grind (arith, one, other, is)
+
+-- a row took the numbers of its tree alone
+own_all : (before pages : Pages) (low middle old new n : ℕ) → IsCopiedTree before pages low middle old new → between low middle n ≡ true
+    → own_pages (tree_by before low middle old new) n ≡ true
+own_all before pages low middle zero new n (none, same) is = let no : true ≡ false = sym is ∙ none_between low middle n same in cc
+own_all before pages low middle (suc k) new n copied is = is
+
+or_later : (a b : Bool) → b ≡ true → (a || b) ≡ true
+or_later true b h = refl
+or_later false b h = h
+
+-- it is one of the row's tree, or of those behind it
+by_row : (before pages : Pages) (low middle high old new n : ℕ) (more : Bool) → IsCopiedTree before pages low middle old new → between low high n ≡ true
+    → (between middle high n ≡ true → more ≡ true) → (b : Bool) → between low middle n ≡ b → (own_pages (tree_by before low middle old new) n || more) ≡ true
+by_row before pages low middle high old new n more copied is later true mine = ap (λ b. b || more) (own_all before pages low middle old new n copied mine)
+by_row before pages low middle high old new n more copied is later false other =
+    or_later (own_pages (tree_by before low middle old new) n) more (later (rest_between low middle high n other is))
+
+-- each number between the counts is one of a tree
+copied_full : (before pages : Pages) (low high : ℕ) (rows : List SchemaRow) (roots : List ℕ) (are : AreCopied before pages low high rows roots) (n : ℕ)
+    → between low high n ≡ true → of_trees (plans_of before pages low high rows roots are) n ≡ true
+copied_full before pages low high [] [] at n is = let no : true ≡ false = sym is ∙ none_between low high n at in cc
+copied_full before pages low high [] (r ∷ roots) are n is = absurd are
+copied_full before pages low high (row ∷ rows) [] are n is = absurd are
+copied_full before pages low high (row ∷ rows) (root ∷ roots) (middle, less, here, later) n is =
+    by_row before pages low middle high row.root root n (of_trees (plans_of before pages middle high rows roots later) n) here is
+    (λ behind. copied_full before pages middle high rows roots later n behind) (between low middle n) refl
+
 -- ---- the items
 
 abbrev pub kept_item : Pages → SchemaRow → SchemaItem
@@ -201,20 +242,36 @@ plans_items before pages low high (row ∷ rows) (root ∷ roots) (middle, less,
 -- ---- the whole
 
 -- the trees stand on the numbers that were taken first, and the schema that names them on page 1 and those that were taken then
-pub copied_holds : (before first pages : Pages) (low : ℕ) (rows : List SchemaRow) (roots : List ℕ) → 1 ≤ low → first.count ≤ pages.count
-    → AreCopied before pages low first.count rows roots → All (IsSoundRow before) rows → AreRenamed rows roots
-    → HasTree (only (of_schema first pages) pages) Table 1 (new_entries rows roots) → HoldsItems pages (map (kept_item before) rows)
-copied_holds before first pages low rows roots least more are sound renamed has =
-    let listed : List SchemaPlan = plans_of before pages low first.count rows roots are in
-    let ordered : low ≤ first.count = copied_ordered before pages low first.count rows roots are in
-    subst (HoldsItems pages) (plans_items before pages low first.count rows roots are sound renamed)
-    (items_held pages (of_schema first pages) listed (record {
-      some = omega arith;
-      within = λ n is other. schema_in first.count pages.count n (omega arith) is other;
-      has = subst (HasTree (only (of_schema first pages) pages) Table 1) (sym (plans_entries before pages low first.count rows roots are)) has;
-      rows = are_plans before pages (omega arith) low first.count (of_schema first pages) rows roots are least more sound renamed
-          (λ n is. earlier_from_schema low first.count first.count pages.count n least (omega arith) is);
-    }))
+module _ (before first pages : Pages) (low : ℕ) (rows : List SchemaRow) (roots : List ℕ) (least : 1 ≤ low) (more : first.count ≤ pages.count)
+    (are : AreCopied before pages low first.count rows roots) (sound : All (IsSoundRow before) rows) (renamed : AreRenamed rows roots)
+    (has : HasTree (only (of_schema first pages) pages) Table 1 (new_entries rows roots)) where
+  abbrev listed : List SchemaPlan
+  listed = plans_of before pages low first.count rows roots are
+
+  schema_is : IsSchemaTree pages (of_schema first pages) listed
+  schema_is =
+      let ordered : low ≤ first.count = copied_ordered before pages low first.count rows roots are in
+      record {
+        some = omega arith;
+        within = λ n is other. schema_in first.count pages.count n (omega arith) is other;
+        has = subst (HasTree (only (of_schema first pages) pages) Table 1) (sym (plans_entries before pages low first.count rows roots are)) has;
+        rows = are_plans before pages (omega arith) low first.count (of_schema first pages) rows roots are least more sound renamed
+            (λ n is. earlier_from_schema low first.count first.count pages.count n least (omega arith) is);
+      }
+
+  pub copied_holds : HoldsItems pages (map (kept_item before) rows)
+  copied_holds =
+      subst (HoldsItems pages) (plans_items before pages low first.count rows roots are sound renamed) (items_held pages (of_schema first pages) listed schema_is)
+
+  -- where no number had been taken before, each was taken by one of them
+  pub copied_tight : low ≡ 1 → AreAllPut pages → IsTightBehind pages
+  copied_tight none put = tight_held pages (of_schema first pages) listed schema_is put (λ n is. by_schema n is (of_schema first pages n) refl)
+    where
+      by_schema : (n : ℕ) → is_page pages n ≡ true → (b : Bool) → of_schema first pages n ≡ b → (of_schema first pages n || of_trees listed n) ≡ true
+      by_schema n is true of = ap (λ b. b || of_trees listed n) of
+      by_schema n is false of =
+          ap (λ b. b || of_trees listed n) of
+          ∙ copied_full before pages low first.count rows roots are n (left_over low first.count pages.count n none of is)
 
 -- a row's tree has no defect
 pub rooted_sound : (before : Pages) (values : List Datum) (root : ℕ) → (root ≡ 0 → ⊥) → IsRooted before values root

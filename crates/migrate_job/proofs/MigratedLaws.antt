@@ -4,7 +4,7 @@ use Rattle.std.specs.Prelude.{IsTrue}
 use Rattle.std.proofs.Math.Path.{subst₂}
 use Rattle.btree_model.specs.Content.{HoldsContent, content, kept_fields}
 use Rattle.btree_model.specs.Parts.{is_database}
-use Rattle.bulk_load.specs.Found.{HoldsItems}
+use Rattle.bulk_load.specs.Found.{HoldsItems, IsTightBehind}
 use Rattle.bulk_load.proofs.FreeLemmas.{header_free}
 use Rattle.cipher_profile.specs.Profile.{IsListed, usable}
 use Rattle.db_format.specs.Header.{header_bytes, header_fields, header_read, header_rules}
@@ -66,9 +66,9 @@ module _ (keys : FileKeys) (old header : Header) (before : Pages) (state : Fresh
   read_as = subst (λ (h : Header). header_read (header_bytes (sized h pages.count)) h.page_size h.reserve ≡ Ok (sized h pages.count)) head
 
   pub written : header_read (header_bytes (sized header (state.taken + 1))) header.page_size header.reserve ≡ Ok (sized header (state.taken + 1))
-      → old ≡ header_fields (before.page 1) → is_database before ≡ true → HoldsItems pages (content before).rows
+      → old ≡ header_fields (before.page 1) → is_database before ≡ true → HoldsItems pages (content before).rows → IsTightBehind pages
       → IsWritten (IsSalted keys (IsMigratedUnder keys old before)) fresh
-  written read fields sound copied =
+  written read fields sound copied filled =
       let usable_is : pages.usable ≡ usable keys.profile = ap (λ (k : FileKeys). usable k.profile) codec in
       let counted = migrated_header keys.profile old pages.count in
       let whole = opened_pages keys ended.file pages.count in
@@ -91,6 +91,9 @@ module _ (keys : FileKeys) (old header : Header) (before : Pages) (state : Fresh
                 (kept_is counted keys.profile.page_size keys.profile.reserve (read_as read) ∙ kept_as old (before.page 1) fields)
                 (copied (header_bytes counted) whole (header_free counted refl refl)
                 (is_headed keys new_header start pages draws_tell fresh drawn listed ended state.counted usable_is));
+            tight =
+                filled (header_bytes counted) whole (header_free counted refl refl)
+                (is_headed keys new_header start pages draws_tell fresh drawn listed ended state.counted usable_is);
           };
         };
       }

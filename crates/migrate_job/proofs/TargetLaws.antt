@@ -37,6 +37,7 @@ module _ {T : Type 0} (tells draws_tell : Bool) (fresh : T → Option (List ℕ)
     count = k.count;
     put = k.put;
     others = k.others;
+    free = k.free;
     page = k.page;
     limit_is = k.limit_is;
     disk = k.disk;
@@ -83,6 +84,7 @@ module _ {tells : Bool} {D : Type 0} {reads : D → Files} {images : D → Files
       count = omega arith;
       put = λ k h. h;
       others = λ k free h. refl;
+      free = λ k h. let no : true ≡ false = sym h ∙ none_new (state.taken + 1) k in cc;
       page = λ start well k h. ap (λ file. (pages_of state file).page k) (fresh_read read well.told);
       limit_is = refl;
       disk = read.later;

@@ -103,13 +103,13 @@ pub record IsSoundRow (before : Pages) (row : SchemaRow) : Type 0 where
 
 -- ---- the trees
 
--- the old tree with this root has a new one, on the numbers between two counts; 0 stands for no tree
+-- the old tree with this root has a new one, on all numbers between two counts; 0 stands for no tree, which takes no number
 abbrev pub IsCopiedTree : Pages → Pages → ℕ → ℕ → ℕ → ℕ → Type 0
-IsCopiedTree before pages low high zero new = new ≡ 0
+IsCopiedTree before pages low high zero new = (new ≡ 0) × (low ≡ high)
 IsCopiedTree before pages low high (suc n) new =
     HasTree (only (between low high) pages) (root_family (suc n) (before.page (suc n))) new (old_entries before (suc n))
 
--- these are the new roots of the rows' trees, each on the numbers that it took, of those between two counts
+-- these are the new roots of the rows' trees, each on the numbers that it took: in all, those between two counts
 abbrev pub AreCopied : Pages → Pages → ℕ → ℕ → List SchemaRow → List ℕ → Type 0
 AreCopied before pages low high [] [] = low ≡ high
 AreCopied before pages low high [] (root ∷ roots) = ⊥

@@ -2,6 +2,7 @@
 use Rattle.std.specs.Prelude.{◌≡◌, ℕ, ◌*◌, true, List, length, Ok}
 use Rattle.btree_model.specs.Content.{HoldsContent, content}
 use Rattle.btree_model.specs.Parts.{is_database}
+use Rattle.bulk_load.specs.Found.{IsTight}
 use Rattle.cipher_profile.specs.declared.keys.Secret.{Secret}
 use Rattle.cipher_profile.specs.declared.profile.Profile.{Profile}
 use Rattle.db_format.specs.Pages.{Pages}
@@ -34,7 +35,7 @@ migrated_header profile old count = record {
 
 -- No part of the old pages has a defect. Under these keys the file opens with that header, and begins with its bytes. It is so many pages
 -- and no byte more, each of them is accepted, no part of the database has a defect, and it has the content of the old pages: the kept
--- fields, every schema row but for the number of its root page, and every entry in its order.
+-- fields, every schema row but for the number of its root page, and every entry in its order. No page of it is free, and none unused.
 pub record IsMigratedUnder (keys : FileKeys) (old : Header) (before : Pages) (file : List ℕ) : Type 0 where
   pub sound : is_database before ≡ true
   pub count : ℕ
@@ -43,6 +44,7 @@ pub record IsMigratedUnder (keys : FileKeys) (old : Header) (before : Pages) (fi
   pub size : length file ≡ count * keys.profile.page_size
   pub accepted : (n : ℕ) → is_number count n ≡ true → accepts keys n (page_stored keys file n) ≡ true
   pub holds : HoldsContent (opened_pages keys file count) (content before)
+  pub tight : IsTight (opened_pages keys file count)
 
 -- the same under the keys that the secret gives for the file
 abbrev pub IsMigrated : Profile → Secret → Header → Pages → List ℕ → Type 0

@@ -6,9 +6,9 @@ ghost use Rattle.btree_model.specs.Finding.{entries};
 ghost use Rattle.btree_model.specs.Parts.{is_database};
 ghost use Rattle.btree_page.specs.declared.kind.Family.TheVariants.{Table};
 ghost use Rattle.bulk_load.specs.Few.{load_pages};
-ghost use Rattle.bulk_load.specs.Found.{HasTree, HoldsItems};
+ghost use Rattle.bulk_load.specs.Found.{HasTree, HoldsItems, IsTightBehind};
 ghost use Rattle.bulk_load.specs.Out.{AreAllPut, Follows, Keeps};
-ghost use Rattle.bulk_load.specs.Own.{Covers, only};
+ghost use Rattle.bulk_load.specs.Own.{CoversNew, only};
 ghost use Rattle.cipher_profile.specs.Profile.{IsListed, usable};
 ghost use Rattle.db_format.specs.Pages.{Test};
 ghost use Rattle.db_format.specs.Source.{no_pins};
@@ -54,6 +54,10 @@ pub(crate) fn copy_database<'d, D: Disk, E: Entropy>(
     ensures copied { (start : ℕ) → IsWellAs state.old start D.tells E.tells (bytes_of (D.reads pager.old.disk.now).fresh) (E.drawn pager.old.entropy.now)
         → is_database (opened_pages pager.old.codec (main_of (D.reads pager.old.disk.now)) pager.old.count) ≡ true → schema.now ≡ map schema_row (entries (schema_after (opened_pages pager.old.codec (main_of (D.reads pager.old.disk.now)) pager.old.count)))
         → OnOk result (HoldsItems (pages_of state.new (bytes_of (D.reads pager.new.disk.now).fresh)) (content (opened_pages pager.old.codec (main_of (D.reads pager.old.disk.now)) pager.old.count)).rows) }
+    // and that none of them stands beside the schema and the trees
+    ensures tight { (start : ℕ) → IsWellAs state.old start D.tells E.tells (bytes_of (D.reads pager.old.disk.now).fresh) (E.drawn pager.old.entropy.now)
+        → is_database (opened_pages pager.old.codec (main_of (D.reads pager.old.disk.now)) pager.old.count) ≡ true → schema.now ≡ map schema_row (entries (schema_after (opened_pages pager.old.codec (main_of (D.reads pager.old.disk.now)) pager.old.count)))
+        → OnOk result (IsTightBehind (pages_of state.new (bytes_of (D.reads pager.new.disk.now).fresh))) }
     ensures well { (start : ℕ) → IsWellAs state.old start D.tells E.tells (bytes_of (D.reads pager.old.disk.now).fresh) (E.drawn pager.old.entropy.now)
         → OnOk result (IsWellAs state.new start D.tells E.tells (bytes_of (D.reads pager.new.disk.now).fresh) (E.drawn pager.new.entropy.now)) }
     ensures whole { OnOk result (AreAllPut (pages_of state.new (bytes_of (D.reads pager.new.disk.now).fresh))) }
@@ -165,7 +169,7 @@ fn load_schema<T: Side>(
     requires free { (pages_of state.old (T.fresh side.old)).accepts 1 ≡ false }
     requires each { length roots.now ≡ length rows.now }
     ensures tree { (start : ℕ) → IsWellAs state.old start T.tells T.draws_tell (T.fresh side.old) (T.drawn side.old)
-        → (own : Test) → Covers true own (pages_of state.old (T.fresh side.old)) (pages_of state.new (T.fresh side.new))
+        → (own : Test) → CoversNew true own (pages_of state.old (T.fresh side.old)) (pages_of state.new (T.fresh side.new))
         → OnOk result (HasTree (only own (pages_of state.new (T.fresh side.new))) Table 1 (new_entries rows.now roots.now)) }
     ensures renamed { OnOk result (AreRenamed rows.now roots.now) }
     ensures late { IfErr result (λ error. is_early error ≡ false) }

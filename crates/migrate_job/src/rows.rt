@@ -7,8 +7,9 @@ ghost use Rattle.bulk_load.specs.Few.{TookFew, load_pages};
 ghost use Rattle.bulk_load.specs.Found.{HasTree};
 ghost use Rattle.bulk_load.specs.Loader.{IsLoader, Loaded, family_of_loader};
 ghost use Rattle.bulk_load.specs.Out.{Follows, Keeps};
-ghost use Rattle.bulk_load.specs.Own.{Covers, only};
+ghost use Rattle.bulk_load.specs.Own.{Covers, CoversNew, only};
 ghost use Rattle.bulk_load.specs.declared.out.OutError.TheVariants.{TooManyPages};
+ghost use Rattle.load_model.specs.Stands.{IsNonePut};
 ghost use Rattle.db_format.specs.Pages.{IsUsable, Pages, Test};
 ghost use Rattle.db_format.specs.Record.{columns};
 ghost use Rattle.db_format.specs.Row.{record_bytes};
@@ -39,7 +40,7 @@ pub(crate) fn load_rows<P: PageOut>(
 ) -> Result<(), RowsError>
     requires free { (P.pages out.old).accepts 1 ≡ false }
     requires each { length roots.now ≡ length rows.now }
-    ensures tree { (start : ℕ) → P.well start out.old → (own : Test) → Covers true own (P.pages out.old) (P.pages out.new)
+    ensures tree { (start : ℕ) → P.well start out.old → (own : Test) → CoversNew true own (P.pages out.old) (P.pages out.new)
         → OnOk result (HasTree (only own (P.pages out.new)) Table 1 (new_entries rows.now roots.now)) }
     ensures renamed { OnOk result (AreRenamed rows.now roots.now) }
     // where no number is left, or a row is too long, the schema wants that much
@@ -68,7 +69,7 @@ fn new_loader(alloc: Global, usable: usize) -> Result<Loader, LoadError>
     ensures ready { IfOk result (λ loader. IsLoader loader usable) }
     ensures family { IfOk result (λ loader. family_of_loader loader ≡ Table) }
     ensures at_one { IfOk result (λ loader. loader.at_one ≡ true) }
-    ensures empty { (pages : Pages) → pages.usable ≡ usable → IfOk result (λ loader. Loaded pages loader []) }
+    ensures empty { (pages : Pages) → pages.usable ≡ usable → IsNonePut pages → IfOk result (λ loader. Loaded pages loader []) }
     ensures none { (from : ℕ) → IfOk result (TookFew Table usable from [] from) }
     ensures memory { IfErr result (λ error. error ≡ LoadError.OutOfMemory) }
 {

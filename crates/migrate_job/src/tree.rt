@@ -9,7 +9,8 @@ ghost use Rattle.bulk_load.specs.Depth.{IsShallow};
 ghost use Rattle.bulk_load.specs.Few.{TookFew, load_pages};
 ghost use Rattle.bulk_load.specs.Loader.{IsLoader, Loaded, family_of_loader};
 ghost use Rattle.bulk_load.specs.Found.{HasTree};
-ghost use Rattle.bulk_load.specs.Own.{Covers, only};
+ghost use Rattle.bulk_load.specs.Own.{Covers, CoversNew, only};
+ghost use Rattle.load_model.specs.Stands.{IsNonePut};
 ghost use Rattle.cipher_profile.specs.Profile.{usable};
 ghost use Rattle.db_format.specs.Pages.{IsUsable, Pages, Test, nothing};
 ghost use Rattle.db_format.specs.Seen.{marked};
@@ -46,9 +47,9 @@ pub(crate) fn copy_tree<'d, D: Disk, E: Entropy>(
     requires low { 1 ≤ root }
     requires high { root ≤ pager.old.count }
     requires unpinned { pins_of pager.old.cache.held ≡ no_pins }
-    // the new tree stands on pages that were taken for it, and has the entries of the old one, which has no defect
+    // the new tree stands on the pages that were taken for it, and has the entries of the old one, which has no defect
     ensures tree { (start : ℕ) → IsWellAs state.old start D.tells E.tells (bytes_of (D.reads pager.old.disk.now).fresh) (E.drawn pager.old.entropy.now)
-        → (own : Test) → Covers false own (pages_of state.old (bytes_of (D.reads pager.old.disk.now).fresh)) (pages_of state.new (bytes_of (D.reads pager.new.disk.now).fresh))
+        → (own : Test) → CoversNew false own (pages_of state.old (bytes_of (D.reads pager.old.disk.now).fresh)) (pages_of state.new (bytes_of (D.reads pager.new.disk.now).fresh))
         → IfOk result (λ new_root. HasTree (only own (pages_of state.new (bytes_of (D.reads pager.new.disk.now).fresh)))
         (root_family root ((opened_pages pager.old.codec (main_of (D.reads pager.old.disk.now)) pager.old.count).page root)) new_root
         (map entry_of (entries (tree_walk (opened_pages pager.old.codec (main_of (D.reads pager.old.disk.now)) pager.old.count)
@@ -100,7 +101,7 @@ fn copy_family<'d, D: Disk, E: Entropy>(
     requires high { root ≤ pager.old.count }
     requires unpinned { pins_of pager.old.cache.held ≡ no_pins }
     ensures tree { (start : ℕ) → IsWellAs state.old start D.tells E.tells (bytes_of (D.reads pager.old.disk.now).fresh) (E.drawn pager.old.entropy.now)
-        → (own : Test) → Covers false own (pages_of state.old (bytes_of (D.reads pager.old.disk.now).fresh)) (pages_of state.new (bytes_of (D.reads pager.new.disk.now).fresh))
+        → (own : Test) → CoversNew false own (pages_of state.old (bytes_of (D.reads pager.old.disk.now).fresh)) (pages_of state.new (bytes_of (D.reads pager.new.disk.now).fresh))
         → IfOk result (λ new_root. HasTree (only own (pages_of state.new (bytes_of (D.reads pager.new.disk.now).fresh))) family new_root
         (map entry_of (entries (tree_walk (opened_pages pager.old.codec (main_of (D.reads pager.old.disk.now)) pager.old.count) family nothing root)))) }
     ensures sound { OnOk result (IsTrue D.tells → is_sound (tree_walk (opened_pages pager.old.codec (main_of (D.reads pager.old.disk.now)) pager.old.count) family nothing root) ≡ true) }
@@ -147,7 +148,7 @@ fn new_loader(alloc: Global, usable: usize, family: Family) -> Result<Loader, Lo
     ensures last { IfOk result (λ loader. loader.last ≡ None) }
     ensures shallow { (from : ℕ) → IfOk result (IsShallow usable from from) }
     ensures none { (from : ℕ) → IfOk result (TookFew family usable from [] from) }
-    ensures empty { (pages : Pages) → pages.usable ≡ usable → IfOk result (λ loader. Loaded pages loader []) }
+    ensures empty { (pages : Pages) → pages.usable ≡ usable → IsNonePut pages → IfOk result (λ loader. Loaded pages loader []) }
 {
     match family {
         Family::Table => Loader::table(alloc, usable, false),

@@ -52,7 +52,7 @@ migrate_error DrawFails = EntropyFault
 migrate_error MemoryEnds = Stopped StopMemory
 
 -- Both files open, each under its own keys, to one content. The new one has a header of its own with the kept fields of the old one's,
--- and is a whole number of pages, each accepted.
+-- and is a whole number of pages, each accepted, none of them free and none unused.
 pub record IsMigratedSo (old_keys new_keys : FileKeys) (before after : List ℕ) : Type 0 where
   pub held : Content
   pub was : Opens old_keys before held

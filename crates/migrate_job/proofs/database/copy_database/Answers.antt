@@ -1,4 +1,4 @@
-use Rattle.std.proofs.Common.{◌≡◌, ◌≤◌, ◌+◌, ◌*◌, ◌^◌, rules, ℕ, List, true, ap, sym, subst, ◌∙◌, arith}
+use Rattle.std.proofs.Common.{◌≡◌, ◌≤◌, ◌+◌, ◌*◌, ◌^◌, rules, ℕ, List, true, ap, refl, sym, subst, ◌∙◌, arith}
 use Rattle.std.specs.Prelude.{◌⊎◌}
 use Rattle.std.specs.List.{All}
 use Rattle.std.proofs.lemmas.Result.{on_ok_weaker}
@@ -6,10 +6,11 @@ use Rattle.db_format.specs.Pages.{Pages}
 use Rattle.edge_model.specs.Files.{bytes_of}
 use Rattle.btree_model.specs.Content.{content}
 use Rattle.btree_page.specs.declared.kind.Family.TheVariants.{Table}
-use Rattle.bulk_load.specs.Found.{HasTree, HoldsItems}
+use Rattle.bulk_load.specs.Found.{HasTree, HoldsItems, IsTightBehind}
+use Rattle.bulk_load.specs.Out.{AreAllPut}
 use Rattle.bulk_load.specs.Own.{only}
-use Rattle.bulk_load.proofs.PutLemmas.{on_ok_both, still_free}
-use Rattle.bulk_load.proofs.TakenLemmas.{of_schema, took_first}
+use Rattle.bulk_load.proofs.PutLemmas.{all_put_then, on_ok_both, still_free}
+use Rattle.bulk_load.proofs.TakenLemmas.{of_schema, took_after}
 use Rattle.bulk_load.specs.Few.{load_pages}
 use Rattle.cipher_profile.specs.Profile.{usable}
 use Rattle.fresh_file.specs.State.{pages_of}
@@ -20,7 +21,7 @@ use Rattle.schema_map.specs.declared.schema.SchemaRow.{SchemaRow}
 use Rattle.migrate_job.specs.Copied.{AreCopied, AreRenamed, HasLongRow, IsSoundRow, new_entries, trees_most}
 use Rattle.migrate_job.specs.Copying.{IsTargetWell, Outside, beside_main, target_faults, target_limit, target_pages}
 use Rattle.migrate_job.proofs.AskedLaws.{listed_usable, room_of, schema_asked, trees_asked}
-use Rattle.migrate_job.proofs.CopiedLaws.{copied_holds, copied_kept}
+use Rattle.migrate_job.proofs.CopiedLaws.{copied_holds, copied_kept, copied_tight}
 use Rattle.migrate_job.proofs.SoundRows.{items_kept, rows_sound}
 use Rattle.migrate_job.proofs.TargetLaws.{moved}
 use Rattle.migrate_job.proofs.database.copy_database.Goals as goal
@@ -62,9 +63,10 @@ returns-in-Ok-clause-copied g c start was sound is =
     let known : All (IsSoundRow before) rows = rows_sound before sound rows schema in
     let least : 1 ≤ first.count = omega arith in
     let copied : AreCopied before middle first.count middle.count rows roots = c.in-Ok.ensures.trees start was in
-    let has = c.load_schema.ensures.tree start well (of_schema middle last) (took_first middle last) in
+    let has = c.load_schema.ensures.tree start well (of_schema middle last) (took_after c.in-Ok.ensures.keeps least c.requires.none.1 last) in
     on_ok_both c.load_schema.result
-    (λ follows. λ (whole : middle.count ≤ last.count → AreCopied before last first.count middle.count rows roots → HoldsItems last (content before).rows). whole follows.keeps.count (copied_kept _ _ _ _ before true _ _ start well follows.keeps first.count middle.count rows roots copied))
+    (λ follows. λ (whole : middle.count ≤ last.count → AreCopied before last first.count middle.count rows roots → HoldsItems last (content before).rows). whole follows.keeps.count
+    (copied_kept _ _ _ _ before true _ _ start well follows.keeps first.count middle.count least (omega arith) rows roots copied))
     c.load_schema.ensures.follows
     (on_ok_both c.load_schema.result
     (λ tree renamed. λ (more : middle.count ≤ last.count) (are : AreCopied before last first.count middle.count rows roots).
@@ -72,6 +74,34 @@ returns-in-Ok-clause-copied g c start was sound is =
     (copied_holds before middle last first.count rows roots least more are known
     (subst (λ l. AreRenamed rows l) c.deref.ensures.value renamed)
     (subst (λ l. HasTree (only (of_schema middle last) last) Table 1 (new_entries rows l)) c.deref.ensures.value tree)))
+    has c.load_schema.ensures.renamed)
+
+pub returns-in-Ok-clause-tight : goal.returns-in-Ok-clause-tight
+returns-in-Ok-clause-tight g c start was sound is =
+    let d = g.D.Disk in
+    let before : Pages = opened_pages c.args.pager.now.codec (main_of (d.reads c.args.pager.now.disk.now)) c.args.pager.now.count in
+    let first : Pages = pages_of c.args.state.now (bytes_of (d.reads c.args.pager.now.disk.now).fresh) in
+    let middle : Pages = pages_of c.copy_trees.new.state (bytes_of (d.reads c.copy_trees.new.pager.disk.now).fresh) in
+    let last : Pages = pages_of c.load_schema.new.state (bytes_of (d.reads c.load_schema.new.side.disk.now).fresh) in
+    let rows : List SchemaRow = c.rows-rows.result.now in
+    let roots : List ℕ = c.in-Ok.roots.items in
+    let schema = c.rows-rows.ensures ∙ is in
+    let well = c.in-Ok.ensures.follows.told start was in
+    let known : All (IsSoundRow before) rows = rows_sound before sound rows schema in
+    let there : middle ≡ middle = refl in
+    let least : 1 ≤ first.count = omega arith in
+    let copied : AreCopied before middle first.count middle.count rows roots = c.in-Ok.ensures.trees start was in
+    let has = c.load_schema.ensures.tree start well (of_schema middle last) (took_after c.in-Ok.ensures.keeps least c.requires.none.1 last) in
+    on_ok_both c.load_schema.result
+    (λ follows. λ (whole : middle.count ≤ last.count → AreCopied before last first.count middle.count rows roots → AreAllPut last → IsTightBehind last). whole follows.keeps.count
+    (copied_kept _ _ _ _ before true _ _ start well follows.keeps first.count middle.count least (omega arith) rows roots copied)
+    (all_put_then c.in-Ok.ensures.follows follows there c.requires.none.0))
+    c.load_schema.ensures.follows
+    (on_ok_both c.load_schema.result
+    (λ tree renamed. λ (more : middle.count ≤ last.count) (are : AreCopied before last first.count middle.count rows roots) (put : AreAllPut last).
+    copied_tight before middle last first.count rows roots least more are known
+    (subst (λ l. AreRenamed rows l) c.deref.ensures.value renamed)
+    (subst (λ l. HasTree (only (of_schema middle last) last) Table 1 (new_entries rows l)) c.deref.ensures.value tree) c.requires.none.0 put)
     has c.load_schema.ensures.renamed)
 
 pub returns-in-Err-clause-few : goal.returns-in-Err-clause-few

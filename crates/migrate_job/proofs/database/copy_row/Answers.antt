@@ -23,7 +23,7 @@ returns-clause-tree g c start well =
     let new = pages_of c.copy_tree.new.state (bytes_of (d.reads c.copy_tree.new.pager.disk.now).fresh) in
     let some : c.args.root ≡ 0 → ⊥ = λ none. grind (arith, none, c.if-root-eq0.false) in
     IfOk-weaker c.copy_tree.result _ _ (λ root has. copied_tree before new old.count new.count c.args.root root some has)
-    (c.copy_tree.ensures.tree start well (between old.count new.count) (took old new))
+    (c.copy_tree.ensures.tree start well (between old.count new.count) (took old new c.copy_tree.ensures.keeps.free))
 
 pub returns-clause-late : goal.returns-clause-late
 returns-clause-late g c =

@@ -77,7 +77,8 @@ loop-i-preserved g c =
           let one : IsCopiedTree before (pages to) (pages from).count (pages to).count row.root c.in-Ok.root =
           subst (λ (p : Pages). IsCopiedTree p (pages to) (pages from).count (pages to).count row.root c.in-Ok.root) same (tree.tree start told) in
           let earlier : AreCopied before (pages to) (pages first).count (pages from).count (take n c.args.rows.now) c.loop-i.roots.items =
-          copied_kept pages target_limit faults well before false from to start told tree.keeps (pages first).count (pages from).count (take n c.args.rows.now) c.loop-i.roots.items (i.trees start was) in
+          copied_kept pages target_limit faults well before false from to start told tree.keeps (pages first).count (pages from).count (omega arith) (omega arith) (take n c.args.rows.now)
+          c.loop-i.roots.items (i.trees start was) in
           subst (λ rows. AreCopied before (pages to) (pages first).count (pages to).count rows c.push.new.self.items)
           (sym (take_more c.args.rows.now n c.index-rows-i.result c.loop-i-test.true))
           (subst (λ roots. AreCopied before (pages to) (pages first).count (pages to).count (take n c.args.rows.now ++ row ∷ []) roots) (sym c.in-Ok-push.ensures.items)

@@ -4,7 +4,7 @@ use Rattle.btree_page.specs.declared.kind.Family.TheVariants.{Table}
 use Rattle.bulk_load.specs.Few.{load_pages}
 use Rattle.bulk_load.specs.Found.{HasTree}
 use Rattle.bulk_load.specs.Out.{Follows}
-use Rattle.bulk_load.specs.Own.{Covers, only}
+use Rattle.bulk_load.specs.Own.{CoversNew, only}
 use Rattle.cipher_profile.specs.Profile.{usable}
 use Rattle.fresh_file.specs.State.{IsWellAs, pages_of}
 use Rattle.fresh_file.specs.declared.state.FreshState.{FreshState}
@@ -25,11 +25,11 @@ returns-in-Ok-clause-tree g c start was own =
     let listed = new_entries c.args.rows.now c.args.roots.now in
     let well = moved (λ state t. IsWellAs state start side.tells side.draws_tell (side.fresh t) (side.drawn t)) _ out.state.now _ out.side.now same.0 same.1 was in
     moved
-    (λ state t. Covers true own (pages_of c.args.state.now (side.fresh c.args.side.now)) (pages_of state (side.fresh t))
+    (λ state t. CoversNew true own (pages_of c.args.state.now (side.fresh c.args.side.now)) (pages_of state (side.fresh t))
     → HasTree (only own (pages_of state (side.fresh t))) Table 1 listed)
     to.state.now c.state-1.given.0 to.side.now c.side-1.given.0 (search rules) (search rules)
     (λ covered. c.in-Ok.ensures.tree start well own
-    (moved (λ state t. Covers true own (pages_of state (side.fresh t)) (pages_of to.state.now (side.fresh to.side.now))) _ out.state.now _ out.side.now same.0 same.1 covered))
+    (moved (λ state t. CoversNew true own (pages_of state (side.fresh t)) (pages_of to.state.now (side.fresh to.side.now))) _ out.state.now _ out.side.now same.0 same.1 covered))
 
 pub returns-in-Ok-clause-follows : goal.returns-in-Ok-clause-follows
 returns-in-Ok-clause-follows g c =

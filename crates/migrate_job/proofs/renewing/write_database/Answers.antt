@@ -68,7 +68,7 @@ returns-in-Ok-finish-clause-written g c told =
     written c.args.codec p.header c.new_header-header.result pages state start g.E.Entropy.tells (bytes_of (d.reads r.disk.now).fresh) _ _ (subst (λ x. IsListed x) c.profile.ensures.value c.profile.ensures.listed)
     (copy.same.0 ∙ c.in-Ok.ensures.codec) (copy.same.1 ∙ c.in-Ok.ensures.limit) (search rules) (c.in-Ok-finish.ensures.file start (copy.well start well))
     c.finish.ensures.reads_back (c.requires.header told) (c.requires.sound told)
-    (subst (λ x. HoldsItems (pages_of state (bytes_of (d.reads r.disk.now).fresh)) (content x).rows) same (copy.copied start well sound schema))
+    (subst (λ x. HoldsItems (pages_of state (bytes_of (d.reads r.disk.now).fresh)) (content x).rows) same (copy.copied start well sound schema)) (copy.tight start well sound schema)
 
 pub returns-in-Ok-finish-clause-size : goal.returns-in-Ok-finish-clause-size
 returns-in-Ok-finish-clause-size g c told =

@@ -21,13 +21,13 @@ returns-in-Ok-finish-clause-tree g c start well own covers =
     let end = c.in-Ok-finish.ensures in
     let at_one : c.push_rows.new.loader.at_one ≡ true = pushed.at_one ∙ c.in-Ok.ensures.at_one in
     let first : Covers false own (p c.args.out.now) (p c.push_rows.new.out) =
-    covers_before true own _ _ (p c.finish.new.out) end.keeps.count covers in
-    let last : Covers true own (p c.push_rows.new.out) (p c.finish.new.out) = covers_behind true own (p c.args.out.now) _ _ pushed.keeps.count covers in
+    covers_before true own _ _ (p c.finish.new.out) end.keeps.count covers.covers in
+    let last : Covers true own (p c.push_rows.new.out) (p c.finish.new.out) = covers_behind true own (p c.args.out.now) _ _ pushed.keeps.count covers.covers in
     subst (λ root. HasTree (only own (p c.finish.new.out)) Table root listed) (end.one at_one)
     (subst (λ family. HasTree (only own (p c.finish.new.out)) family c.in-Ok-finish.field-0 listed) pushed.family
     (end.tree start (pushed.follows.told start well) own
     (subst (λ first. Covers first own (p c.push_rows.new.out) (p c.finish.new.out)) (sym at_one) last) listed
-    (pushed.loaded start well own first (c.in-Ok.ensures.empty (only own (p c.args.out.now)) (sym c.usable.ensures.value)))))
+    (pushed.loaded start well own first (c.in-Ok.ensures.empty (only own (p c.args.out.now)) (sym c.usable.ensures.value) covers.none))))
 
 pub returns-in-Ok-finish-clause-follows : goal.returns-in-Ok-finish-clause-follows
 returns-in-Ok-finish-clause-follows g c =

@@ -58,12 +58,13 @@ returns-clause-tree g c start was own covers =
     let mid : Pages = pages_of c.copy_entries.new.state (bytes_of (d.reads c.copy_entries.new.pager.disk.now).fresh) in
     let new : Pages = pages_of c.finish_tree.new.state (bytes_of (d.reads c.finish_tree.new.side.disk.now).fresh) in
     let loaded : Loaded (only own mid) c.copy_entries.new.loader (map entry_of (entries (walked before nothing cursor))) =
-    copied.loaded start was own (covers_before false own old mid new finished.keeps.count covers) nothing [] at (c.in-Ok-new_loader.ensures.empty (only own old) (sym c.usable.ensures.value)) in
+    copied.loaded start was own (covers_before false own old mid new finished.keeps.count covers.covers) nothing [] at
+    (c.in-Ok-new_loader.ensures.empty (only own old) (sym c.usable.ensures.value) covers.none) in
     subst (λ l. IfOk c.finish_tree.result (λ root. HasTree (only own new) c.args.family root (map entry_of (entries l))))
     (walked_of before nothing cursor c.args.root c.args.family made.root_is made.asked_is)
     (subst (λ family. IfOk c.finish_tree.result (λ root. HasTree (only own new) family root (map entry_of (entries (walked before nothing cursor)))))
     (copied.family ∙ c.in-Ok-new_loader.ensures.family)
-    (finished.tree start (copied.follows.told start was) own (covers_behind false own old mid new copied.follows.keeps.count covers) (map entry_of (entries (walked before nothing cursor))) loaded))
+    (finished.tree start (copied.follows.told start was) own (covers_behind false own old mid new copied.follows.keeps.count covers.covers) (map entry_of (entries (walked before nothing cursor))) loaded))
 
 pub returns-clause-sound : goal.returns-clause-sound
 returns-clause-sound g c =

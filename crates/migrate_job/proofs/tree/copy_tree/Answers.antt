@@ -14,7 +14,7 @@ use Rattle.bulk_load.specs.Few.{load_pages}
 use Rattle.cipher_profile.specs.Profile.{usable}
 use Rattle.migrate_job.specs.declared.error.MigrateError.TheVariants.{TooManyPages}
 use Rattle.migrate_job.proofs.FewLaws.{if_err_at}
-use Rattle.bulk_load.specs.Own.{Covers, only}
+use Rattle.bulk_load.specs.Own.{CoversNew, only}
 use Rattle.bulk_load.proofs.PutLemmas.{follows_all, keeps_after}
 use Rattle.fresh_file.specs.State.{pages_of}
 use Rattle.pager.specs.Beside.{beside_joins, read_beside}
@@ -44,7 +44,7 @@ returns-in-Ok-clause-tree g c start was own covers =
     subst (λ f. IfOk c.copy_family.result (λ new_root. HasTree (only own new) f new_root (map entry_of (entries (tree_walk before f nothing root))))) (c.in-Ok.ensures.value was.told)
     (subst (λ p. IfOk c.copy_family.result (λ new_root. HasTree (only own new) c.in-Ok.family new_root (map entry_of (entries (tree_walk p c.in-Ok.family nothing root))))) same
     (c.copy_family.ensures.tree start (well_read e.tells e.drawn read.0 read.1 c.args.state.now start was) own
-    (moved_one (λ file. Covers false own (pages_of c.args.state.now file) new) (bytes_of (d.reads pager.disk.now).fresh) (bytes_of (d.reads mid.disk.now).fresh) (fresh_read read.0 was.told) covers)))
+    (moved_one (λ file. CoversNew false own (pages_of c.args.state.now file) new) (bytes_of (d.reads pager.disk.now).fresh) (bytes_of (d.reads mid.disk.now).fresh) (fresh_read read.0 was.told) covers)))
 
 pub returns-in-Ok-clause-late : goal.returns-in-Ok-clause-late
 returns-in-Ok-clause-late g c =
