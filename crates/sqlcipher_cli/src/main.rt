@@ -1,6 +1,16 @@
 //! The program: the top call over the files of a folder, the standard streams and the system's random bytes.
 #![tactic(auto)]
 
+ghost use Rattle.std.specs.Prelude.{◌≡◌, ◌⊎◌, ◌≤◌, map, None, Some, IfOk, IsErr, string_bytes};
+ghost use Rattle.std.specs.Process.{exit_status};
+ghost use Rattle.sqlcipher_cli.specs.Exit.{EndsAs, EndsOn, ExitsAs, asks_help, asks_version, behind_file};
+ghost use Rattle.sqlcipher_tool.specs.Answer.{code_of};
+ghost use Rattle.sqlcipher_tool.specs.Due.{word_refusal};
+ghost use Rattle.sqlcipher_tool.specs.Promises.{AreWordsThat, takes_keys};
+ghost use Rattle.sqlcipher_tool.specs.Words.{draws, form, texts};
+ghost use Rattle.sqlcipher_tool.specs.declared.command.Command.{Command as Asked};
+ghost use Rattle.sqlcipher_tool.specs.declared.status.Refusal.{Refusal as Refused};
+
 mod advice;
 mod failure;
 mod folder;
@@ -25,25 +35,34 @@ use folder_disk::FolderDisk;
 use paths::Paths;
 use progress::Progress;
 use sqlcipher_tool::{Status, run};
+use std::alloc::{AllocError, Global};
 use std::process::ExitCode;
 use std::{env, io};
 use streams::{DeviceEntropy, InputSource, OutputSink, StandIns};
 
 fn main(rt: HostRuntime) -> ExitCode {
     let _stand_ins = StandIns::new(&rt);
-    ExitCode::from(status_of(&rt))
+    let words = arguments(&rt);
+    exit_on(&rt, words)
 }
 
-// The exit status. Where memory does not suffice for the words and the paths, standard output has nothing.
-fn status_of(rt: &HostRuntime) -> u8 {
-    match arguments(rt) {
-        Ok(words) => answer(rt, words.as_slice()),
-        Err(error) if error.kind() == io::ErrorKind::OutOfMemory => out_of_memory(rt),
-        // A word is not UTF-8, so the words are no command.
-        Err(_) => serve(rt, "", &[]),
-    }
+// The exit status on these words of the command line, or where they could not be read.
+fn exit_on(rt: &HostRuntime, words: io::Result<Vec<String>>) -> ExitCode
+    ensures read { IfOk words (λ list. ExitsAs (EndsOn (map string_bytes list.items)) (exit_status result)) }
+    ensures unread { IsErr words → ExitsAs (EndsAs Status.Usage) (exit_status result) }
+    ensures codes { exit_status result ≤ 8 }
+{
+    report(status_of(rt, words))
 }
 
+// The code of a status. No other exit status is made.
+fn report(status: Status) -> ExitCode
+    ensures { exit_status result ≡ code_of status }
+{
+    ExitCode::from(status.code())
+}
+
+// The words of the command line, without the program's name.
 fn arguments(rt: &HostRuntime) -> io::Result<Vec<String>> {
     let mut words = Vec::new(rt.alloc());
     for word in env::args(rt)?.skip(1) {
@@ -52,38 +71,113 @@ fn arguments(rt: &HostRuntime) -> io::Result<Vec<String>> {
     Ok(words)
 }
 
-fn answer(rt: &HostRuntime, words: &[String]) -> u8 {
-    let Ok(words) = words
-        .iter()
-        .map(|word| word.as_str())
-        .collect::<Vec<&str>>(rt.alloc())
-    else {
-        return out_of_memory(rt);
-    };
-    match words.as_slice() {
-        ["--help" | "-h" | "help"] | [_, "--help"] => print(rt, help::HELP),
-        ["--version"] => print(rt, help::VERSION),
-        [] => serve(rt, "", &[]),
-        [file, rest @ ..] => serve(rt, file, rest),
+// How the program ends on these words, or where they could not be read. Where memory does not suffice for the words and the paths,
+// standard output has nothing.
+fn status_of(rt: &HostRuntime, words: io::Result<Vec<String>>) -> Status
+    ensures read { IfOk words (λ list. EndsOn (map string_bytes list.items) result) }
+    ensures unread { IsErr words → EndsAs Status.Usage result }
+{
+    match words {
+        Ok(words) => answer(rt, words.as_slice()),
+        Err(error) if error.kind() == io::ErrorKind::OutOfMemory => out_of_memory(rt),
+        // A word is not UTF-8, so the words are no command.
+        Err(_) => serve(rt, "", &[]),
     }
 }
 
-fn out_of_memory(rt: &HostRuntime) -> u8 {
-    advice::say(rt, advice::OUT_OF_MEMORY);
-    Status::OutOfMemory.code()
+fn answer(rt: &HostRuntime, words: &[String]) -> Status
+    ensures { EndsOn (map string_bytes words.now) result }
+{
+    match borrowed(rt.alloc(), words) {
+        Ok(words) => carry_out(rt, words.as_slice()),
+        Err(_) => out_of_memory(rt),
+    }
 }
 
-fn print(rt: &HostRuntime, text: &str) -> u8 {
+// The words, as they are lent.
+fn borrowed<'w>(alloc: Global, words: &'w [String]) -> Result<Vec<&'w str>, AllocError>
+    ensures { IfOk result (λ list. texts list.items ≡ map string_bytes words.now) }
+{
+    let mut list = Vec::new(alloc);
+    for word in words {
+        list.push(word.as_str())?;
+    }
+    Ok(list)
+}
+
+// Prints a text, or serves the command behind FILE.
+fn carry_out(rt: &HostRuntime, words: &[&str]) -> Status
+    ensures { EndsOn (texts words.now) result }
+{
+    if asks_help(words) {
+        return print(rt, help::HELP);
+    }
+    if asks_version(words) {
+        return print(rt, help::VERSION);
+    }
+    let file = words.first().copied().unwrap_or("");
+    serve(rt, file, behind_file(words))
+}
+
+// The words of a command.
+fn behind_file<'w, 't>(words: &'w [&'t str]) -> &'w [&'t str]
+    ensures { texts result.now ≡ behind_file (texts words.now) }
+{
+    match words {
+        [] => words,
+        [_, rest @ ..] => rest,
+    }
+}
+
+// Whether the words ask for the text of `--help`.
+fn asks_help(words: &[&str]) -> bool
+    ensures { result ≡ asks_help (texts words.now) }
+{
+    match words {
+        [word] => *word == "--help" || *word == "-h" || *word == "help",
+        [_, word] => *word == "--help",
+        _ => false,
+    }
+}
+
+// Whether they ask for the version.
+fn asks_version(words: &[&str]) -> bool
+    ensures { result ≡ asks_version (texts words.now) }
+{
+    match words {
+        [word] => *word == "--version",
+        _ => false,
+    }
+}
+
+fn out_of_memory(rt: &HostRuntime) -> Status
+    ensures { result ≡ Status.OutOfMemory }
+{
+    advice::say(rt, advice::OUT_OF_MEMORY);
+    Status::OutOfMemory
+}
+
+fn print(rt: &HostRuntime, text: &str) -> Status
+    ensures { (result ≡ Status.Done) ⊎ (result ≡ Status.OutputFault) }
+{
     match rt.print(text) {
-        Ok(()) => Status::Done.code(),
+        Ok(()) => Status::Done,
         Err(error) => {
             advice::say(rt, failed("standard output", "write", error));
-            Status::OutputFault.code()
+            Status::OutputFault
         }
     }
 }
 
-fn serve(rt: &HostRuntime, file: &str, words: &[&str]) -> u8 {
+// A command on the file, and what is to be said of it. The clauses are those of `run` that go by the words alone.
+fn serve(rt: &HostRuntime, file: &str, words: &[&str]) -> Status
+    ensures usage { form (texts words.now) ≡ None → EndsAs Status.Usage result }
+    ensures refused { (command : Asked) (refusal : Refused) → form (texts words.now) ≡ Some command → word_refusal command ≡ Some refusal
+        → EndsAs (Status.Refused refusal) result }
+    ensures no_usage { result ≡ Status.Usage → form (texts words.now) ≡ None }
+    ensures input_fault { result ≡ Status.InputFault → AreWordsThat takes_keys (texts words.now) }
+    ensures entropy_fault { result ≡ Status.EntropyFault → AreWordsThat draws (texts words.now) }
+{
     let Ok(paths) = Paths::new(rt, file) else {
         return out_of_memory(rt);
     };
@@ -113,5 +207,5 @@ fn serve(rt: &HostRuntime, file: &str, words: &[&str]) -> u8 {
         failure,
     };
     advice::explain(rt, &run, &input, &mut disk.folder);
-    status.code()
+    status
 }
