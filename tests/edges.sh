@@ -313,8 +313,14 @@ if can_trace; then
     row 0 '' '' 'cmp partly.db file.db && [ ! -e partly.db-migrated ]'
     row 0 "migrated: $pages pages" "$raw" '"$tool" partly.db migrate 4 4 < keys'
     row 1 '' '' '[ -e partly.db-migrated ]'
+    # Without random bytes no page is written, and the journal of the old ones is left.
+    cp file.db drawn.db
+    row 7 '' $'/dev/urandom: open: Input/output error\ndrawn.db: it was not touched\ndrawn.db-journal: it was not begun to be used; `recover 4` removes it' \
+        'strace -f -qq -o /dev/null -P /dev/urandom -e trace=open,openat -e inject=open,openat:error=EIO "$tool" drawn.db rekey 4 4 < keys'
+    row 0 "played: $pages" "drawn.db-journal: $pages pages were played back from it into the file, and it was removed" '"$tool" drawn.db recover 4'
+    row 0 '' '' 'cmp drawn.db file.db'
 else
-    leave_out "a write that fails in the midst of a migration, since strace is missing or cannot trace"
+    leave_out "a call that fails in the midst of a migration or a rekey, since strace is missing or cannot trace"
 fi
 
 # What has the name of the new file is removed only where it is an unfinished one. Three commands speak of it.

@@ -298,7 +298,7 @@ fn explain_state(rt: &HostRuntime, run: &Ended, folder: &Folder) {
         explain_taken(rt, run, folder);
     } else if deeds.has_changed || deeds.has_renamed {
         explain_either(rt, run, folder);
-    } else if run.status == Status::DiskFault {
+    } else if matches!(run.status, Status::DiskFault | Status::EntropyFault) {
         explain_untouched(rt, run, folder);
     }
 }
