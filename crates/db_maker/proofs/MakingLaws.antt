@@ -63,44 +63,44 @@ module _ {S : Type 0} (pages : S → Pages) (limit : S → ℕ) (faults : S → 
       (w : HasTree (only (of_schema (pages d) (pages e)) (pages e)) Table 1 (schema_entries items names codes_root)) where
     apart : AreApart (pages e) rows items names codes_root (is_new (pages a) (pages b)) (is_new (pages b) (pages c)) (is_new (pages c) (pages d)) (of_schema (pages d) (pages e))
     apart =
-      let well_b = ab.told start well_a in
-      let well_c = bc.told start well_b in
-      let well_d = cd.told start well_c in
-      let one : (pages a).count ≤ (pages b).count = ab.keeps.count in
-      let two : (pages b).count ≤ (pages c).count = bc.keeps.count in
-      let three : (pages c).count ≤ (pages d).count = cd.keeps.count in
-      let four : (pages d).count ≤ (pages e).count = de.count in
-      let own_t : Test = is_new (pages a) (pages b) in
-      let own_u : Test = is_new (pages b) (pages c) in
-      let own_v : Test = is_new (pages c) (pages d) in
-      let kept = tree_kept pages limit faults well in
-      let same = between_same pages limit faults well in
-      let at_t : own_t items ≡ true = root_own (pages b) own_t Table items (entries_in Items rows) t in
-      let at_u : own_u names ≡ true = root_own (pages c) own_u Index names (entries_in Names rows) u in
-      let at_v : own_v codes_root ≡ true = root_own (pages d) own_v Index codes_root (entries_in Codes rows) v in
-      record {
-        has_items = kept own_t true d e start well_d de (same true d e de (pages a).count (pages b).count some (omega arith)) Table items (entries_in Items rows)
-            (kept own_t false c d start well_c cd.keeps (same false c d cd.keeps (pages a).count (pages b).count some (omega arith)) Table items (entries_in Items rows)
-            (kept own_t false b c start well_b bc.keeps (same false b c bc.keeps (pages a).count (pages b).count some (omega arith)) Table items (entries_in Items rows) t));
-        has_names = kept own_u true d e start well_d de (same true d e de (pages b).count (pages c).count (omega arith) (omega arith)) Index names (entries_in Names rows)
-            (kept own_u false c d start well_c cd.keeps (same false c d cd.keeps (pages b).count (pages c).count (omega arith) (omega arith)) Index names (entries_in Names rows) u);
-        has_codes = kept own_v true d e start well_d de (same true d e de (pages c).count (pages d).count (omega arith) (omega arith)) Index codes_root (entries_in Codes rows) v;
-        has_schema = w;
-        items_named = record { low = low_of (pages a).count (pages b).count items some at_t; small = omega arith; range = in_range (pages a).count (pages b).count (pages e).count items some (omega arith) at_t };
-        names_named = record { low = low_of (pages b).count (pages c).count names (omega arith) at_u; small = omega arith; range = in_range (pages b).count (pages c).count (pages e).count names (omega arith) (omega arith) at_u };
-        codes_named = record { low = low_of (pages c).count (pages d).count codes_root (omega arith) at_v; small = omega arith; range = in_range (pages c).count (pages d).count (pages e).count codes_root (omega arith) (omega arith) at_v };
-        items_from_schema = λ n is. earlier_from_schema (pages a).count (pages b).count (pages d).count (pages e).count n some (omega arith) is;
-        names_from_schema = λ n is. earlier_from_schema (pages b).count (pages c).count (pages d).count (pages e).count n (omega arith) (omega arith) is;
-        codes_from_schema = λ n is. earlier_from_schema (pages c).count (pages d).count (pages d).count (pages e).count n (omega arith) (omega arith) is;
-        names_from_items = λ n is. later_apart (pages a).count (pages b).count (pages b).count (pages c).count n (omega arith) is;
-        codes_from_items = λ n is. later_apart (pages a).count (pages b).count (pages c).count (pages d).count n two is;
-        codes_from_names = λ n is. later_apart (pages b).count (pages c).count (pages c).count (pages d).count n (omega arith) is;
-        some = omega arith;
-        items_within = λ n is. in_range (pages a).count (pages b).count (pages e).count n some (omega arith) is;
-        names_within = λ n is. in_range (pages b).count (pages c).count (pages e).count n (omega arith) (omega arith) is;
-        codes_within = λ n is. in_range (pages c).count (pages d).count (pages e).count n (omega arith) (omega arith) is;
-        schema_within = λ n is other. schema_in (pages d).count (pages e).count n (omega arith) is other;
-      }
+        let well_b = ab.told start well_a in
+        let well_c = bc.told start well_b in
+        let well_d = cd.told start well_c in
+        let one : (pages a).count ≤ (pages b).count = ab.keeps.count in
+        let two : (pages b).count ≤ (pages c).count = bc.keeps.count in
+        let three : (pages c).count ≤ (pages d).count = cd.keeps.count in
+        let four : (pages d).count ≤ (pages e).count = de.count in
+        let own_t : Test = is_new (pages a) (pages b) in
+        let own_u : Test = is_new (pages b) (pages c) in
+        let own_v : Test = is_new (pages c) (pages d) in
+        let kept = tree_kept pages limit faults well in
+        let same = between_same pages limit faults well in
+        let at_t : own_t items ≡ true = root_own (pages b) own_t Table items (entries_in Items rows) t in
+        let at_u : own_u names ≡ true = root_own (pages c) own_u Index names (entries_in Names rows) u in
+        let at_v : own_v codes_root ≡ true = root_own (pages d) own_v Index codes_root (entries_in Codes rows) v in
+        record {
+          has_items = kept own_t true d e start well_d de (same true d e de (pages a).count (pages b).count some (omega arith)) Table items (entries_in Items rows)
+              (kept own_t false c d start well_c cd.keeps (same false c d cd.keeps (pages a).count (pages b).count some (omega arith)) Table items (entries_in Items rows)
+              (kept own_t false b c start well_b bc.keeps (same false b c bc.keeps (pages a).count (pages b).count some (omega arith)) Table items (entries_in Items rows) t));
+          has_names = kept own_u true d e start well_d de (same true d e de (pages b).count (pages c).count (omega arith) (omega arith)) Index names (entries_in Names rows)
+              (kept own_u false c d start well_c cd.keeps (same false c d cd.keeps (pages b).count (pages c).count (omega arith) (omega arith)) Index names (entries_in Names rows) u);
+          has_codes = kept own_v true d e start well_d de (same true d e de (pages c).count (pages d).count (omega arith) (omega arith)) Index codes_root (entries_in Codes rows) v;
+          has_schema = w;
+          items_named = record { low = low_of (pages a).count (pages b).count items some at_t; small = omega arith; range = in_range (pages a).count (pages b).count (pages e).count items some (omega arith) at_t };
+          names_named = record { low = low_of (pages b).count (pages c).count names (omega arith) at_u; small = omega arith; range = in_range (pages b).count (pages c).count (pages e).count names (omega arith) (omega arith) at_u };
+          codes_named = record { low = low_of (pages c).count (pages d).count codes_root (omega arith) at_v; small = omega arith; range = in_range (pages c).count (pages d).count (pages e).count codes_root (omega arith) (omega arith) at_v };
+          items_from_schema = λ n is. earlier_from_schema (pages a).count (pages b).count (pages d).count (pages e).count n some (omega arith) is;
+          names_from_schema = λ n is. earlier_from_schema (pages b).count (pages c).count (pages d).count (pages e).count n (omega arith) (omega arith) is;
+          codes_from_schema = λ n is. earlier_from_schema (pages c).count (pages d).count (pages d).count (pages e).count n (omega arith) (omega arith) is;
+          names_from_items = λ n is. later_apart (pages a).count (pages b).count (pages b).count (pages c).count n (omega arith) is;
+          codes_from_items = λ n is. later_apart (pages a).count (pages b).count (pages c).count (pages d).count n two is;
+          codes_from_names = λ n is. later_apart (pages b).count (pages c).count (pages c).count (pages d).count n (omega arith) is;
+          some = omega arith;
+          items_within = λ n is. in_range (pages a).count (pages b).count (pages e).count n some (omega arith) is;
+          names_within = λ n is. in_range (pages b).count (pages c).count (pages e).count n (omega arith) (omega arith) is;
+          codes_within = λ n is. in_range (pages c).count (pages d).count (pages e).count n (omega arith) (omega arith) is;
+          schema_within = λ n is other. schema_in (pages d).count (pages e).count n (omega arith) is other;
+        }
 
     pub made_of : IsMade (pages e) rows
     made_of =
