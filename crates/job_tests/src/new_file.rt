@@ -53,7 +53,7 @@ fn fill_two<P: PageOut>(out: &mut P, plain: &[u8]) -> Result<(), OutError>
     out.put(1, plain)
 }
 
-fn fill_state<T: Side>(state: &mut FreshState, side: &mut T, plain: &[u8]) -> Result<(), OutError>
+fn fill_state<T: Side>(state: &mut FreshState, side: &mut T, plain: &[u8]) -> Result<(), Stopped>
     requires size { length plain.now ≡ usable state.old.codec.profile }
     requires none { state.old.taken ≡ 0 }
     ensures count { OnOk result (state.new.taken ≡ 1) }
@@ -61,17 +61,18 @@ fn fill_state<T: Side>(state: &mut FreshState, side: &mut T, plain: &[u8]) -> Re
     ensures second { OnOk result (marked state.new.put 2 ≡ true) }
 {
     let mut out = state.out(side);
-    fill_two(&mut out, plain)?;
-    Ok(())
+    match fill_two(&mut out, plain) {
+        Ok(()) => Ok(()),
+        Err(error) => Err(Stopped::Put(error)),
+    }
 }
 
-#[tactic(auto, using(fresh_file::proofs::FreshLaws::two_put))]
 fn write_two<T: Side>(alloc: Global, rt: &impl Abort, side: &mut T) -> Result<u32, Stopped> {
     let codec = codec_of(rt, "3", 5);
     let plain = [6; 976];
     assert!(rt; plain.len() == codec.profile().usable());
     let mut state = FreshState::start(alloc, side, codec).map_err(Stopped::Start)?;
-    fill_state(&mut state, side, &plain).map_err(Stopped::Put)?;
+    fill_state(&mut state, side, &plain)?;
     state.finish(side, &HEADER).map_err(Stopped::Finish)
 }
 
