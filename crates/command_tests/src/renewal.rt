@@ -84,21 +84,26 @@ fn fresh_after(alloc: Global, old: &[u8], calls: u64) -> Result<(Vec<u8>, Status
     Ok((file_in(alloc, &disk, Role::Fresh)?, status))
 }
 
-// A body that first reads a whole tree would make nothing but writes to Fresh from the first page of `items` to its last.
+// How many calls lie between two stops that are tried.
+const STRIDE: u64 = 32;
+
+// Pages are held back until 64 can be sealed side by side. A body that first reads a whole tree would then make nothing but writes to
+// Fresh from the first page of `items` to its last, which is on more pages than that.
 #[test]
 fn between_two_writes_of_one_tree_the_old_file_is_read(rt: HostRuntime) -> Result<(), Fail> {
     let alloc = rt.alloc();
-    let old = made(alloc, "1", "70")?;
-    let mut before = Vec::new(alloc);
+    let old = made(alloc, "1", "120")?;
     let mut read = false;
-    for calls in 0..MOST_CALLS {
-        let (after, status) = fresh_after(alloc, old.as_slice(), calls)?;
+    let mut calls = 0u64;
+    for _ in 0..MOST_CALLS / STRIDE {
+        let (before, status) = fresh_after(alloc, old.as_slice(), calls)?;
+        let (after, _) = fresh_after(alloc, old.as_slice(), calls.saturating_add(1))?;
         let pages = before.len() / 4096;
-        read = pages >= 5 && pages <= 30 && before.as_slice() == after.as_slice();
-        before = after;
+        read = pages >= 60 && pages <= 70 && before.as_slice() == after.as_slice();
         if read || status != Status::DiskFault {
             break;
         }
+        calls = calls.saturating_add(STRIDE);
     }
     assert!(rt; read);
     Ok(())
