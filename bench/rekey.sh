@@ -1,5 +1,6 @@
 #!/usr/bin/env bash
-# Times `rekey` on files of about 113 MiB of versions 3 and 4 beside `PRAGMA rekey` of the product that made them, in one run; beside
+# Times `rekey` on files of about 113 MiB of versions 3 and 4, the latter also with pages of 1,024 and 65,536 bytes, beside `PRAGMA rekey`
+# of the product that made them, in one run; beside
 # these the same file's `verify`, which opens each page once, and its `tags`, which only hashes. Each run has a fresh copy of the file.
 # Times are of the processor and by the clock, since a rekey also waits for the disk. Last a file of 1 GiB of version 3 is rekeyed within
 # LIMIT bytes of address space; LARGE=0 leaves it out.
@@ -33,10 +34,16 @@ def once(command, line, limit=None):
     subprocess.run(command, input=line, stdout=subprocess.DEVNULL, check=True, preexec_fn=within)
     return used() - before, time.perf_counter() - start
 
-def make(product, path, rows):
-    subprocess.run([product, "-batch", path], input=MAKE.replace("ROWS", str(rows)).encode(), check=True, stdout=subprocess.DEVNULL)
+def sized(version):
+    """The statement that gives version 4 another page size."""
+    return f"PRAGMA cipher_page_size = {version[2:]};\n" if ":" in version else ""
+
+def make(product, path, rows, size=""):
+    statements = MAKE.replace("ROWS", str(rows)).replace("SIZE\n", size)
+    subprocess.run([product, "-batch", path], input=statements.encode(), check=True, stdout=subprocess.DEVNULL)
 
 MAKE = f"""PRAGMA key = '{OLD}';
+SIZE
 PRAGMA journal_mode = OFF;
 PRAGMA synchronous = OFF;
 PRAGMA cache_size = -200000;
@@ -47,38 +54,38 @@ WITH RECURSIVE n(i) AS (SELECT 1 UNION ALL SELECT i + 1 FROM n WHERE i < ROWS)
 INSERT INTO t SELECT i, 'name ' || (i * 7919 % 1000003), randomblob(i * 31 % 1500 + 200) FROM n;
 COMMIT;
 """
-REKEY = f"PRAGMA key = '{OLD}';\nPRAGMA rekey = '{NEW}';\n"
-COUNT = f"PRAGMA key = '{NEW}';\nSELECT count(*) FROM t;\n"
+REKEY = f"PRAGMA key = '{OLD}';\nSIZE\nPRAGMA rekey = '{NEW}';\n"
+COUNT = f"PRAGMA key = '{NEW}';\nSIZE\nSELECT count(*) FROM t;\n"
 
 def product_of(version):
-    if version == 3:
+    if version == "3":
         return "sqlcipher"
     return os.environ.get("SQLCIPHER4") or shutil.which("sqlcipher4") or (
         "out/product/sqlcipher4" if os.path.exists("out/product/sqlcipher4") else None)
 
 with tempfile.TemporaryDirectory() as folder:
-    for version in (3, 4):
+    for version in ("3", "4", "4:1024", "4:65536"):
         product = product_of(version)
         if product is None:
             print(f"version {version} is left out: its product is not there")
             continue
         path, copy = os.path.join(folder, f"{version}.db"), os.path.join(folder, "copy.db")
-        make(product, path, ROWS)
+        make(product, path, ROWS, sized(version))
         size = os.path.getsize(path) / 2 ** 20
         best = {}
         # One after another in each round, so that a busy moment of the machine does not fall on one alone.
         for _ in range(RUNS):
             for name, command, line in (
-                ("rekey", [TOOL, copy, "rekey", str(version), str(version)], LINES),
-                ("PRAGMA rekey", [product, "-batch", copy], REKEY.encode()),
-                ("verify", [TOOL, path, "verify", str(version)], LINE),
-                ("tags", [TOOL, path, "tags", str(version)], LINE),
+                ("rekey", [TOOL, copy, "rekey", version, version], LINES),
+                ("PRAGMA rekey", [product, "-batch", copy], REKEY.replace("SIZE\n", sized(version)).encode()),
+                ("verify", [TOOL, path, "verify", version], LINE),
+                ("tags", [TOOL, path, "tags", version], LINE),
             ):
                 shutil.copyfile(path, copy)
                 found = once(command, line)
                 best[name] = tuple(map(min, best.get(name, found), found))
                 if "rekey" in name:
-                    said = subprocess.run([product, "-batch", copy], input=COUNT.encode(), check=True, capture_output=True).stdout
+                    said = subprocess.run([product, "-batch", copy], input=COUNT.replace("SIZE\n", sized(version)).encode(), check=True, capture_output=True).stdout
                     assert said.split()[-1] == str(ROWS).encode(), said
         ours, peer = best["rekey"], best["PRAGMA rekey"]
         print(f"version {version}, {size:.0f} MiB: rekey {ours[0]:.3f} s of the processor and {ours[1]:.3f} s by the clock, "
@@ -88,7 +95,7 @@ with tempfile.TemporaryDirectory() as folder:
         os.remove(copy)
     if os.environ.get("LARGE") != "0":
         path = os.path.join(folder, "large.db")
-        make(product_of(3), path, LARGE_ROWS)
+        make(product_of("3"), path, LARGE_ROWS)
         size = os.path.getsize(path) / 2 ** 20
         used, spent = once([TOOL, path, "rekey", "3", "3"], LINES, LIMIT)
         print(f"version 3, {size:.0f} MiB: rekey {used:.1f} s of the processor and {spent:.1f} s by the clock, within {LIMIT // 2 ** 20} MiB of address space")

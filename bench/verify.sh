@@ -1,9 +1,9 @@
 #!/usr/bin/env bash
-# Times `verify` on files of about 113 MiB of versions 3 and 4 beside `PRAGMA integrity_check` of the product that made them, in
-# one run; beside these the same file's `tags`, which only hashes, and the keys alone, so that the shares of hashing, and of
-# deciphering and walking, can be told. Needs python3 and the product `sqlcipher`; version 4 is left out where its product is
-# not there: SQLCIPHER4, `sqlcipher4` or out/product/sqlcipher4. Last a file of 1 GiB of version 3 is verified within LIMIT
-# bytes of address space; LARGE=0 leaves it out.
+# Times `verify` on files of about 113 MiB of versions 3 and 4, the latter also with pages of 1,024 and 65,536 bytes, beside `PRAGMA
+# integrity_check` of the product that made them, in one run; beside these the same file's `tags`, which only hashes, and the keys alone,
+# so that the shares of hashing, and of deciphering and walking, can be told. Needs python3 and the product `sqlcipher`; version 4 is left
+# out where its product is not there: SQLCIPHER4, `sqlcipher4` or out/product/sqlcipher4. Last a file of 1 GiB of version 3 is verified
+# within LIMIT bytes of address space; LARGE=0 leaves it out.
 set -eu
 cd "$(dirname "$0")/.."
 command -v python3 > /dev/null || { echo "verify.sh: python3 is missing" >&2; exit 1; }
@@ -35,10 +35,16 @@ def within(limit, command, line):
                              preexec_fn=lambda: resource.setrlimit(resource.RLIMIT_AS, (limit, limit)))
     return limited.stdout.decode()
 
-def make(product, path, rows):
-    subprocess.run([product, "-batch", path], input=MAKE.replace("ROWS", str(rows)).encode(), check=True, stdout=subprocess.DEVNULL)
+def sized(version):
+    """The statement that gives version 4 another page size."""
+    return f"PRAGMA cipher_page_size = {version[2:]};\n" if ":" in version else ""
+
+def make(product, path, rows, size=""):
+    statements = MAKE.replace("ROWS", str(rows)).replace("SIZE\n", size)
+    subprocess.run([product, "-batch", path], input=statements.encode(), check=True, stdout=subprocess.DEVNULL)
 
 MAKE = f"""PRAGMA key = '{KEY}';
+SIZE
 PRAGMA journal_mode = OFF;
 PRAGMA synchronous = OFF;
 PRAGMA cache_size = -200000;
@@ -49,28 +55,28 @@ WITH RECURSIVE n(i) AS (SELECT 1 UNION ALL SELECT i + 1 FROM n WHERE i < ROWS)
 INSERT INTO t SELECT i, 'name ' || (i * 7919 % 1000003), randomblob(i * 31 % 1500 + 200) FROM n;
 COMMIT;
 """
-CHECK = f"PRAGMA key = '{KEY}';\nPRAGMA integrity_check;\n"
+CHECK = f"PRAGMA key = '{KEY}';\nSIZE\nPRAGMA integrity_check;\n"
 
 def product_of(version):
-    if version == 3:
+    if version == "3":
         return "sqlcipher"
     return os.environ.get("SQLCIPHER4") or shutil.which("sqlcipher4") or (
         "out/product/sqlcipher4" if os.path.exists("out/product/sqlcipher4") else None)
 
 with tempfile.TemporaryDirectory() as folder:
-    for version in (3, 4):
+    for version in ("3", "4", "4:1024", "4:65536"):
         product = product_of(version)
         if product is None:
             print(f"version {version} is left out: its product is not there")
             continue
         path = os.path.join(folder, f"{version}.db")
-        make(product, path, ROWS)
+        make(product, path, ROWS, sized(version))
         size = os.path.getsize(path) / 2 ** 20
-        peer, said = least([product, "-batch", path], CHECK.encode())
+        peer, said = least([product, "-batch", path], CHECK.replace("SIZE\n", sized(version)).encode())
         assert said.split()[-1] == "ok", said
-        verify, said = least([TOOL, path, "verify", str(version)], LINE)
-        tags, _ = least([TOOL, path, "tags", str(version)], LINE)
-        keys, _ = least([TOOL, path, "header", str(version)], LINE)
+        verify, said = least([TOOL, path, "verify", version], LINE)
+        tags, _ = least([TOOL, path, "tags", version], LINE)
+        keys, _ = least([TOOL, path, "header", version], LINE)
         print(said.strip())
         print(f"version {version}, {size:.0f} MiB: verify {verify:.3f} s, PRAGMA integrity_check {peer:.3f} s, ratio {verify / peer:.2f}")
         print(f"  of it the keys and the start {keys:.3f} s, hashing {tags - keys:.3f} s, deciphering and walking {verify - tags:.3f} s")

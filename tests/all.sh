@@ -22,6 +22,7 @@ make.sh
 real_files.sh
 stamp.sh
 hostile_files.sh
+find.sh
 two_runs.sh
 beside_an_app.sh
 renames.sh

@@ -20,8 +20,11 @@ has_reference() { python3 -c 'import cryptography' 2> /dev/null; }      # the re
 four=${SQLCIPHER4:-$(command -v sqlcipher4 || true)}
 [ -n "$four" ] || { [ ! -x "$top/out/product/sqlcipher4" ] || four=$top/out/product/sqlcipher4; }
 
-product() { # product VERSION: the product that writes this version, or nothing
-    if [ "$1" = 4 ]; then echo "$four"; elif has sqlcipher; then echo sqlcipher; fi
+product() { # product PROFILE: the product that writes this version, or nothing
+    case $1 in
+        4*) echo "$four" ;;
+        *) ! has sqlcipher || echo sqlcipher ;;
+    esac
 }
 
 # The product's files, in `files`, with their table in `table`: those that tests/all.sh made, else they are made here, in a minute.
@@ -37,13 +40,17 @@ find_files() {
     [ -s "$table" ]
 }
 
+# Version 4 with pages of other sizes than its own.
+sizes='4:1024 4:2048 4:8192 4:16384 4:32768 4:65536'
+
 quoted() { printf '%s' "$1" | sed "s/'/''/g"; }
 
-opening() { # opening VERSION KEY: the statements with which the product opens a file
+opening() { # opening PROFILE KEY: the statements with which the product opens a file
     printf "PRAGMA key = '%s';\n" "$(quoted "$2")"
     case $1 in
         1) echo "PRAGMA cipher_use_hmac = OFF; PRAGMA kdf_iter = 4000;" ;;
         2) echo "PRAGMA kdf_iter = 4000;" ;;
+        4:*) echo "PRAGMA cipher_page_size = ${1#4:};" ;;
     esac
 }
 

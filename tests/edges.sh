@@ -105,12 +105,28 @@ row 1 usage 'unknown command `chek`; --help lists' '"$tool" file.db chek 4 < key
 row 1 usage 'unknown command `?[31mred`; --help' '"$tool" file.db $'"'\e[31mred'"' < key'
 row 1 usage '`verify` takes the version that wrote the file, 1, 2, 3 or 4, which `probe` finds' '"$tool" file.db verify < key'
 row 1 usage '`verify` takes a version and nothing else' '"$tool" file.db verify 4 4 < key'
-row 1 usage '`v4` is no version: there are 1, 2, 3 and 4, and `probe` finds that of a file' '"$tool" file.db verify v4 < key'
+row 1 usage '`v4` is no version: there are 1, 2, 3, 4 and 4:SIZE, and `probe` finds that of a file' '"$tool" file.db verify v4 < key'
+row 1 usage '`4:512` is no version: the pages of version 4 have 1024, 2048, 4096,' '"$tool" file.db tags 4:512 < key'
+row 1 usage '`4:` is no version: the pages of version 4 have' '"$tool" file.db rekey 4 4: < key'
+row 1 usage '`3:1024` is no version: there are' '"$tool" file.db migrate 4:8192 3:1024 < key'
+row 1 usage '`make` takes a version, and how many rows' '"$tool" new.db make 4:8192 many < key'
 row 1 usage '`5` is no version' '"$tool" file.db rekey 4 5 < key'
 row 1 usage '`0` is no version' '"$tool" file.db stamp 0 user-version 7 < key'
 row 1 usage '`stamp` takes a version, `user-version` or `application-id`' '"$tool" file.db stamp 4 user_version 7 < key'
 row 1 usage '`migrate` takes two versions' '"$tool" file.db migrate 4 < key'
 row 1 usage '`make` takes a version, and how many rows' '"$tool" new.db make 4 many < key'
+find_words='`find` takes a version, the name of a table, and'
+for words in '4' '4 items' '4 items 1' '4 items 1 2 3' '4 "" 1' '4 items "" 1' '4 items 1 ""' '4 items - 1' '4 items +1 2' '4 items --1 2' '4 items 1- 2' \
+    '4 items 1.0 2' '4 items 1e3 2' '4 items 0x1 2' '4 items "1 " 2' '4 items " 1" 2' '4 items 1 "2 "' '4 items 1 1,000' '4 items one 2' '4 items 1 １' '4 items −1 1' \
+    '4 items 9223372036854775808 9223372036854775808' '4 items 1 9223372036854775808' '4 items -9223372036854775809 1' '4 items 1 9999999999999999999' \
+    '4 items 00000000000000000001 1' '4 items 1 -00000000000000000001' '4 items 1 $'"'1\n'"; do
+    row 1 usage "$find_words" "\"\$tool\" file.db find $words < key"
+done
+row 1 usage '`find` takes a version, the name of a table, and' '"$tool" file.db find < key'
+row 1 usage '`5` is no version' '"$tool" file.db find 5 items 1 1 < key'
+row 1 usage '`items` is no version' '"$tool" file.db find items 1 1 < key'
+row 1 usage "$usage" '"$tool" file.db find 4 $'"'\xff'"' 1 1 < key'
+row 1 usage 'unknown command `Find`' '"$tool" file.db Find 4 items 1 1 < key'
 row 1 usage '`probe` takes no further word' '"$tool" file.db probe 4 < key'
 row 0 'sqlcipher-tool 0.1.0' '' '"$tool" --version'
 "$tool" --help > "$folder/help" 2> "$folder/errors"
@@ -118,6 +134,29 @@ for asked in '-h' 'help' 'file.db --help'; do
     row 0 "$(cat "$folder/help")" '' "\"\$tool\" $asked"
 done
 row 2 'profile has no tags' '' '"$tool" file.db tags 1 <&-'
+
+# Rows by rowid. In every tenth row of `file.db` the string of bytes is empty.
+ten="row 10 null 'item-0000000010' x'' 0"
+for words in '10 10' '0000000000000000010 010'; do
+    row 0 "$ten"$'\n''found: 1 rows' '' "\"\$tool\" file.db find 4 items $words < key"
+done
+for words in '10 -0' '-0 0' '5 4' '41 9223372036854775807' '-9223372036854775808 0' '-9223372036854775808 -9223372036854775808' \
+    '9223372036854775807 9223372036854775807' '9223372036854775807 -9223372036854775808'; do
+    row 0 'found: 0 rows' '' "\"\$tool\" file.db find 4 items $words < key"
+done
+row 0 'found: 40 rows' '' '"$tool" file.db find 4 items -9223372036854775808 9223372036854775807 < key | tail -n 1'
+row 0 '' '' '"$tool" file.db find 4 items -9223372036854775808 9223372036854775807 < key > found; "$tool" file.db export 4 < key > exported; grep "^row " exported | cmp - <(sed "\$d" found)'
+row 5 '' 'standard output: write: No space left on device' '"$tool" file.db find 4 items 1 9 < key > /dev/full'
+row 3 'key refused' 'does not fit under version 4' 'echo other | "$tool" file.db find 4 none 1 1'
+row 2 'key missing' 'take two, the old key and the new one' '"$tool" file.db find 4 none 1 1 < /dev/null'
+row 2 'file is empty' 'absent.db: there is no such file' '"$tool" absent.db find 4 items 1 1 < key'
+# A name that is an index, a table WITHOUT ROWID, a view, of another case, or nothing of the schema.
+no_table='the schema has no table of this name'
+for name in items_name codes names Items ITEMS item 'items ' ' items' '"items"' "'items'" main.items sqlite_master sqlite_schema '' "it's" ïtems table; do
+    row 2 'no such table' "$no_table" "\"\$tool\" file.db find 4 $(printf %q "$name") 1 1 < key"
+done
+rm -f found exported
+kept
 
 # Where the file lies.
 mkdir real linked
@@ -238,7 +277,7 @@ fi
 # Why the key is refused. No byte of the key is printed.
 digits=${k0:2:64}
 refused='key refused'
-row 3 "$refused" 'does not fit under version 4: `probe` finds the version. The README'"'"'s section "When the key is refused"' \
+row 3 "$refused" 'does not fit under version 4: `probe` finds the version and the size of its pages. The README'"'"'s section "When the key is refused"' \
     'echo other | "$tool" file.db tags 4'
 row 3 "$refused" 'the key fits under no version' 'echo other | "$tool" file.db probe'
 row 3 "$refused" 'The first line is the old key' '(echo other; cat key) | "$tool" file.db rekey 4 4'
@@ -248,6 +287,7 @@ row 3 "$refused" 'ends in a space' 'printf "%s \n" "$k0" | "$tool" file.db tags 
 row 3 "$refused" 'begins and ends with a quote' 'printf "\"%s\"\n" "$k0" | "$tool" file.db tags 4'
 row 3 "$refused" 'begins and ends with a quote' "echo \"'old'\" | \"\$tool\" file.db tags 4"
 row 3 "$refused" 'under version 3' '"$tool" file.db header 3 < key'
+row 3 "$refused" 'under version 4:1024' '"$tool" file.db header 4:1024 < key'
 { printf 'SQLite format 3\0'; tail -c +17 file.db; } > plain.db
 row 3 "$refused" 'it is not encrypted' '"$tool" plain.db tags 4 < key'
 row 3 "$refused" 'it is not encrypted' "echo $digits | \"\$tool\" plain.db probe"
@@ -267,6 +307,7 @@ row 2 'key missing' 'the file of the first key has no line feed at its end' '(he
 row 2 'key empty' 'a key line is empty' 'echo | "$tool" rekeyed.db tags 4'
 row 2 'key too long' 'at most 1,024 bytes' 'head -c 1025 /dev/zero | "$tool" rekeyed.db tags 4'
 row 2 'layout differs' '`migrate` writes the database anew' '"$tool" rekeyed.db rekey 4 3 < keys'
+row 2 'layout differs' '`migrate` writes the database anew' '"$tool" rekeyed.db rekey 4 4:8192 < keys'
 row 2 'file is there' '`make` takes a new name' '"$tool" rekeyed.db make 4 1 < key'
 raw='the new key was taken as a raw key'
 pass='the new key was taken as a passphrase'
@@ -352,9 +393,76 @@ else
     leave_out "rows without /proc, since unshare -m is not allowed"
 fi
 
+# Version 4 with pages of other sizes: probe names the size, and each command goes by it.
+"$tool" sized.db make 4:65536 7 < key > made 2> "$folder/errors" || exit 1
+row 0 'profile 4:65536' '' '"$tool" sized.db probe < key'
+row 3 "$refused" 'and the size of its pages' '"$tool" sized.db tags 4 < key'
+row 0 'tags hold: 4 pages' '' '"$tool" sized.db tags 4:65536 < key'
+row 0 'stamped' '' '"$tool" sized.db stamp 4:65536 user-version 7 < key'
+row 0 'found: 0 rows' '' '"$tool" sized.db find 4:65536 items 8 9223372036854775807 < key'
+row 0 'found: 7 rows' '' '"$tool" sized.db find 4:65536 items 1 7 < key | tail -n 1'
+row 0 'rekeyed: 4 pages' "$raw" '"$tool" sized.db rekey 4:65536 4:65536 < keys'
+row 0 '' "$raw" 'tac keys | "$tool" sized.db migrate 4:65536 4:1024 > lines.txt'
+row 0 'profile 4:1024' '' '"$tool" sized.db probe < key'
+row 0 'profile 4' '' '"$tool" file.db probe < key'
+row 0 "$hold" '' '"$tool" file.db tags 4:4096 < key'
+
+# A hot journal of pages of another size: the line says which version has them. Bytes 24 to 27 are the size.
+hot_journal() { # hot_journal SIZE: beside a copy of the file, its size in hex
+    cp file.db hot.db
+    { printf '\xd9\xd5\x05\xf9\x20\xa1\x63\xd7\0\0\0\0\0\0\0\1\0\0\0\4\0\0\2\0'; printf "\\x${1:0:2}\\x${1:2:2}\\x${1:4:2}\\x${1:6:2}"; head -c 484 /dev/zero; } > hot.db-journal
+}
+hot_journal 00000400
+row 2 'journal page size 1024' 'give 3, 2, 1 or 4:1024' '"$tool" hot.db recover 4'
+row 2 'journal page size 1024' 'give 3, 2, 1 or 4:1024' '"$tool" hot.db tags 4:8192 < key'
+row 0 'played: 0' 'it had nothing to play back' '"$tool" hot.db recover 4:1024'
+hot_journal 00001000
+row 2 'journal page size 4096' 'another size: give 4;' '"$tool" hot.db recover 3'
+hot_journal 00010000
+row 2 'journal page size 65536' 'give 4:65536' '"$tool" hot.db recover 4'
+hot_journal 00000200
+row 2 'journal page size 512' 'no version has such pages' '"$tool" hot.db recover 4'
+rm -f hot.db hot.db-journal
+
 # A file that was cut.
 head -c 10000 file.db > cut.db
 row 2 'file is short: 10000 bytes' 'it was cut' '"$tool" cut.db verify 4 < key'
+
+# A table of any name: it is compared byte for byte, as it is stored.
+if has_reference; then
+    python3 "$oracle" file.db decrypt 4 named < key > made
+    python3 - <<'PY'
+import sqlite3
+db = sqlite3.connect("named")
+for number, name in enumerate(("it's \"so\"", "tàble ☃ ẞ", "-x", "", "Table", "5", "two\nlines", "a" * 900)):
+    db.execute('CREATE TABLE "%s"(v)' % name.replace('"', '""'))
+    db.execute('INSERT INTO "%s"(rowid, v) VALUES(?, ?)' % name.replace('"', '""'), (-number, name[:4]))
+db.execute("CREATE TABLE altered(v)")
+db.execute("INSERT INTO altered(rowid, v) VALUES(-9223372036854775808, 'least'), (9223372036854775807, 'most')")
+db.execute("ALTER TABLE altered ADD COLUMN w DEFAULT 7")
+db.execute("CREATE INDEX other ON altered(v)")
+db.commit()
+PY
+    python3 "$oracle" named.db encrypt 4 named < key
+    row 0 $'row 0 \'it\\x27s\'\nfound: 1 rows' '' '"$tool" named.db find 4 "it'"'"'s \"so\"" 0 0 < key'
+    row 0 $'row -1 \'t\\xc3\\xa0bl\'\nfound: 1 rows' '' '"$tool" named.db find 4 "tàble ☃ ẞ" -1 -1 < key'
+    row 2 'no such table' "$no_table" '"$tool" named.db find 4 "tàble ☃ ß" -1 -1 < key'
+    row 2 'no such table' "$no_table" '"$tool" named.db find 4 $'"'ta\\xcc\\x80ble ☃ ẞ'"' -1 -1 < key'
+    row 0 $'row -2 \'-x\'\nfound: 1 rows' '' '"$tool" named.db find 4 -x -2 -2 < key'
+    row 0 $'row -3 \'\'\nfound: 1 rows' '' '"$tool" named.db find 4 "" -3 -3 < key'
+    row 0 $'row -4 \'Tabl\'\nfound: 1 rows' '' '"$tool" named.db find 4 Table -9 9 < key'
+    row 2 'no such table' "$no_table" '"$tool" named.db find 4 table -9 9 < key'
+    row 0 $'row -5 \'5\'\nfound: 1 rows' '' '"$tool" named.db find 4 5 -5 -5 < key'
+    row 0 $'row -6 \'two\\x0a\'\nfound: 1 rows' '' '"$tool" named.db find 4 $'"'two\\nlines'"' -6 -6 < key'
+    row 0 $'row -7 \'aaaa\'\nfound: 1 rows' '' '"$tool" named.db find 4 "$(printf "a%.0s" {1..900})" -7 -7 < key'
+    row 2 'no such table' "$no_table" '"$tool" named.db find 4 "$(printf "a%.0s" {1..899})" -7 -7 < key'
+    # A column that was added later is not in the rows from before.
+    row 0 $'row -9223372036854775808 \'least\'\nfound: 1 rows' '' '"$tool" named.db find 4 altered -9223372036854775808 -9223372036854775808 < key'
+    row 0 $'row 9223372036854775807 \'most\'\nfound: 1 rows' '' '"$tool" named.db find 4 altered -9223372036854775807 9223372036854775807 < key'
+    row 2 'no such table' "$no_table" '"$tool" named.db find 4 other 1 1 < key'
+else
+    leave_out "tables of any name, since Python's cryptography is missing"
+fi
 
 # A write-ahead log is kept.
 if has_reference; then

@@ -1,5 +1,5 @@
 #!/usr/bin/env bash
-# `make` for the four versions and several numbers of rows: the product opens the file by the key, finds it sound and reads the rows
+# `make` for the four versions, each size of pages and several numbers of rows: the product opens the file by the key, finds it sound and reads the rows
 # that the rule says; the program's own verify and export agree with the reference in tests/reference. Then the built program is
 # stopped at each writing call of the system of a `make 4 7`: there is no file, or the whole one.
 #
@@ -95,7 +95,7 @@ stops() { # a stop at each writing call of `make 4 7`
     echo "make: $stopped stops, $none leave no file and the others the whole one"
 }
 
-for version in 1 2 3 4; do
+for version in 1 2 3 4 $sizes; do
     [ -n "$(product "$version")" ] || leave_out "the product's reading of made files of version $version, since it is missing"
     for rows in 0 1 7 70 1000; do made "$version" "$rows"; done
 done

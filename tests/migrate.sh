@@ -1,7 +1,8 @@
 #!/usr/bin/env bash
-# `migrate` on files that the product itself makes, of versions 1 to 4, to each of the four versions: the product of that version then
+# `migrate` on files that the product itself makes, of versions 1 to 4 and of each size of pages, to each of the four versions and to
+# version 4 with pages of 1,024 and of 65,536 bytes: the product of that version then
 # opens the new file by the new key, finds it sound and dumps the same rows, the program exports the same text, and the old key is
-# refused. Then the built program is stopped at each writing call of the system of a `migrate 3 4` and of a `migrate 4 1` of some 100
+# refused. Then the built program is stopped at each writing call of the system of a `migrate 3 4`, a `migrate 4 1` and a `migrate 4:65536 4:1024` of some 100
 # pages with a hot journal beside them: what is left is the old content by the old key and version or the new by the new, to the program
 # and on a copy to the product.
 #
@@ -186,7 +187,7 @@ stops() { # stops VERSION NEW_VERSION ROWS: a stop at each writing call of a mig
 
 if find_files; then
     look_at_files
-    for version in 1 2 3 4; do
+    for version in 1 2 3 4 4:1024 4:65536; do
         if [ -n "$(product "$version")" ]; then migrate_files "$version" & else leave_out "migrations to version $version, since its product is missing"; fi
     done
     wait
@@ -198,6 +199,7 @@ elif [ -z "$four" ]; then
 else
     stops 3 4 480 &
     stops 4 1 900 &
+    stops 4:65536 4:1024 900 &
     wait
 fi
 

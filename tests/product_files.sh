@@ -32,7 +32,7 @@ make_files() {
     cp "$top/tests/reference/real_files.tsv" "$folder/table.tsv"
     if [ -z "$SQLCIPHER4" ]; then
         leave_out "the product's files of version 4, since its product can't be built here"
-        keep_rows '$2 != 4'
+        keep_rows '$2 !~ /^4/'
     fi
     if ! command -v strace > /dev/null; then
         leave_out "the product's files that a stop at a system call leaves, since strace is missing"

@@ -168,7 +168,7 @@ reference_files() {
     compare "$unfit" "$k0" tags 4
 
     # Each profile under a raw key and a passphrase, with the command for the header and the search for the profile.
-    for profile in 1 2 3 4; do
+    for profile in 1 2 3 4 $sizes; do
         for key in "$k0" "it's a pässwörd"; do
             file=$folder/profile-$profile.db
             make "$file" "$key" "$profile" 40
@@ -180,10 +180,18 @@ reference_files() {
         compare "$file" "$k1" header "$profile"
     done
 
+    # The largest pages under the words of the others, and `4:4096` for `4`.
+    for words in "tags 4" "header 4:32768" "verify 4:1024"; do
+        # shellcheck disable=SC2086
+        compare "$folder/profile-4:65536.db" "$key" $words
+    done
+    compare "$sound" "$k0" verify 4:4096
+
     # Lengths: nothing, one byte, and beside a page.
     for len in 0 1 1023 1024 4095 4096 4097; do
         head -c "$len" "$sound" > "$folder/cut.db"
         compare "$folder/cut.db" "$k0" tags 4
+        compare "$folder/cut.db" "$k0" tags 4:1024
         compare "$folder/cut.db" "$k0" header 4
         compare "$folder/cut.db" "$k0" verify 4
         compare "$folder/cut.db" "$k0" export 4

@@ -1,5 +1,5 @@
 #!/usr/bin/env bash
-# `rekey` on files that the product itself makes, of versions 1 to 4: the product then opens them by the new key, finds them
+# `rekey` on files that the product itself makes, of versions 1 to 4 and of each size of pages: the product then opens them by the new key, finds them
 # sound and dumps the same rows, and the old key is refused. Then the built program is stopped at each writing call of the
 # system of a `rekey` of some 150 pages: what is left is recovered by the program, and on a copy by the product, to the old
 # file by the old key or to the new one by the new key.
@@ -109,7 +109,10 @@ which_key() { # which_key VERSION FILE LINE: as the program verifies it
 stops() { # stops VERSION: a stop at each writing call of a rekey
     local version=$1 folder=$scratch/stops-$1 count=370 name number line found key stopped=0 old=0
     mkdir "$folder" "$folder/whole"
-    [ "$version" != 4 ] || count=1300
+    case $version in
+        4) count=1300 ;;
+        4:*) count=240 ;;
+    esac
     rows | sed "s/ROWS/$count/" | sql "$version" "$k1" "$folder/file"
     line=$(verified "$version" "$k1" "$folder/file") || { say "version $version: the product makes no such file"; return; }
     dump "$version" "$k1" "$folder/file" > "$folder/dump"
@@ -145,7 +148,7 @@ stops() { # stops VERSION: a stop at each writing call of a rekey
 
 ! find_files || rekey_files
 if can_trace; then
-    for version in 1 2 3 4; do
+    for version in 1 2 3 4 4:1024; do
         if [ -n "$(product "$version")" ]; then stops "$version" & else leave_out "the stops of rekey on version $version, since its product is missing"; fi
     done
     wait

@@ -1,5 +1,5 @@
 #!/usr/bin/env bash
-# `stamp` on files that the product itself makes, of versions 1 to 4: the product then reads the new numbers, finds the file
+# `stamp` on files that the product itself makes, of versions 1 to 4 and of each size of pages: the product then reads the new numbers, finds the file
 # sound, and dumps the same rows. Then the built program is stopped at each writing call of the system of a `stamp`: what is
 # left is recovered by the program, and on a copy by the product, to the old number or the new one, and is sound to both.
 #
@@ -76,7 +76,7 @@ stops() { # stops VERSION FILE: a stop at each writing call of a stamp
     echo "stamp: version $version: $stopped stops"
 }
 
-for version in 1 2 3 4; do
+for version in 1 2 3 4 $sizes; do
     if [ -z "$(product "$version")" ]; then
         leave_out "stamp on files of version $version, since its product is missing"
         continue

@@ -1,3 +1,5 @@
+pub mod Beside
 pub mod Layouts
 pub mod Lines
 pub mod Literals
+pub mod Names

@@ -1,5 +1,5 @@
 -- Profiles: the page layouts and key derivations of SQLCipher's versions (SQLCipher API, "cipher_compatibility").
-use Rattle.std.specs.Prelude.{◌≡◌, ◌⊎◌, ◌≤◌, ℕ, ◌+◌, ◌-◌, ◌%◌, List, Option, Some, None, codes, if◌then◌else◌}
+use Rattle.std.specs.Prelude.{◌≡◌, ◌⊎◌, ◌≤◌, ℕ, ◌+◌, ◌-◌, ◌%◌, ◌||◌, List, [], ◌∷◌, Option, Some, None, codes, if◌then◌else◌}
 use Rattle.std.specs.Str.{bytes_eq}
 use Rattle.cipher_profile.specs.declared.profile.Profile.{Profile}
 use Rattle.cipher_profile.specs.declared.profile.HashKind.TheVariants.{Sha1, Sha512}
@@ -17,31 +17,59 @@ sqlcipher_2 = record { version = 2; page_size = 1024; reserve = 48; hash = Sha1;
 abbrev pub sqlcipher_3 : Profile
 sqlcipher_3 = record { version = 3; page_size = 1024; reserve = 48; hash = Sha1; rounds = 64000; tag_len = 20 }
 
--- compatibility 4: pages of 4,096 bytes, HMAC-SHA-512, PBKDF2 with 256,000 rounds
-abbrev pub sqlcipher_4 : Profile
-sqlcipher_4 = record { version = 4; page_size = 4096; reserve = 80; hash = Sha512; rounds = 256000; tag_len = 64 }
+-- compatibility 4 with pages of this size (SQLCipher API, "cipher_page_size"): HMAC-SHA-512, PBKDF2 with 256,000 rounds
+abbrev pub sqlcipher_4_of : ℕ → Profile
+sqlcipher_4_of size = record { version = 4; page_size = size; reserve = 80; hash = Sha512; rounds = 256000; tag_len = 64 }
 
--- the profile that a word of the command line names
-abbrev pub profile_named : List ℕ → Option Profile
+-- and as it is by itself: pages of 4,096 bytes
+abbrev pub sqlcipher_4 : Profile
+sqlcipher_4 = sqlcipher_4_of 4096
+
+-- the sizes of pages in version 4, in bytes: from 1,024 on, since pages of 512 would have too few bytes for content
+abbrev pub IsSize4 : ℕ → Type 0
+IsSize4 size =
+    (size ≡ 1024) ⊎ (size ≡ 2048) ⊎ (size ≡ 4096) ⊎ (size ≡ 8192) ⊎ (size ≡ 16384) ⊎ (size ≡ 32768) ⊎ (size ≡ 65536)
+
+-- the profile that a word of the command line names. Every one is listed (`named_listed`)
+unfoldable pub profile_named : List ℕ → Option Profile
 profile_named word =
     if bytes_eq word (codes "1") then Some sqlcipher_1
     else (if bytes_eq word (codes "2") then Some sqlcipher_2
     else (if bytes_eq word (codes "3") then Some sqlcipher_3
-    else (if bytes_eq word (codes "4") then Some sqlcipher_4 else None)))
+    else (if bytes_eq word (codes "4") || bytes_eq word (codes "4:4096") then Some sqlcipher_4
+    else (if bytes_eq word (codes "4:1024") then Some (sqlcipher_4_of 1024)
+    else (if bytes_eq word (codes "4:2048") then Some (sqlcipher_4_of 2048)
+    else (if bytes_eq word (codes "4:8192") then Some (sqlcipher_4_of 8192)
+    else (if bytes_eq word (codes "4:16384") then Some (sqlcipher_4_of 16384)
+    else (if bytes_eq word (codes "4:32768") then Some (sqlcipher_4_of 32768)
+    else (if bytes_eq word (codes "4:65536") then Some (sqlcipher_4_of 65536) else None)))))))))
 
--- one of the profiles
-abbrev pub IsListed : Profile → Type 0
-IsListed profile = (profile ≡ sqlcipher_1) ⊎ (profile ≡ sqlcipher_2) ⊎ (profile ≡ sqlcipher_3) ⊎ (profile ≡ sqlcipher_4)
+-- one of the profiles. What holds of each of them is in `IsLaidOut`
+unfoldable pub IsListed : Profile → Type 0
+IsListed profile =
+    (profile ≡ sqlcipher_1) ⊎ (profile ≡ sqlcipher_2) ⊎ (profile ≡ sqlcipher_3)
+    ⊎ (IsSize4 profile.page_size × (profile ≡ sqlcipher_4_of profile.page_size))
+
+-- the profiles in the order in which a file is tried with them
+abbrev pub probed_profiles : List Profile
+probed_profiles =
+    sqlcipher_4 ∷ sqlcipher_4_of 1024 ∷ sqlcipher_4_of 2048 ∷ sqlcipher_4_of 8192 ∷ sqlcipher_4_of 16384
+    ∷ sqlcipher_4_of 32768 ∷ sqlcipher_4_of 65536 ∷ sqlcipher_3 ∷ sqlcipher_2 ∷ sqlcipher_1 ∷ []
 
 -- U: how many bytes of a stored page hold content
 abbrev pub usable : Profile → ℕ
 usable profile = profile.page_size - profile.reserve
 
--- how the lengths of a profile go together: a page has room for its content, an IV and a tag, and the content is whole
--- blocks of the cipher, of which page 1 gives the first to the salt
+-- how the lengths of a profile go together: a page has room for its content, an IV and a tag, and both are whole blocks of the
+-- cipher, of which page 1 gives the first to the salt
 pub record IsLaidOut (profile : Profile) : Type 0 where
-  pub size : (profile.page_size ≡ 1024) ⊎ (profile.page_size ≡ 4096)
+  pub least : 1024 ≤ profile.page_size
+  pub most : profile.page_size ≤ 65536
+  pub content : 480 ≤ usable profile
+  pub reserve : profile.reserve ≤ 255
   pub room : usable profile + 16 + profile.tag_len ≤ profile.page_size
   pub blocks : usable profile % 16 ≡ 0
+  pub stride : profile.page_size % 16 ≡ 0
   pub salt : 16 ≤ usable profile
   pub tag : profile.tag_len ≤ digest_len profile.hash
+  pub untagged : profile.tag_len ≡ 0 → profile.page_size ≡ 1024

@@ -1,5 +1,5 @@
 // The keys of a file, from a secret and the file's salt.
-ghost use Rattle.std.specs.Prelude.{◌≡◌, ◌≤◌};
+ghost use Rattle.std.specs.Prelude.{◌≡◌, ◌≤◌, ◌↔◌, IsTrue};
 ghost use Rattle.hmac_core.specs.Hmac.{xor_each};
 ghost use Rattle.cipher_profile.specs.Keys.{cipher_key, page_keys, stretched, tag_key};
 ghost use Rattle.cipher_profile.specs.Profile.{IsListed};
@@ -42,6 +42,34 @@ pub fn derive(secret: &Secret, profile: &Profile, salt: &[u8; 16]) -> PageKeys
     PageKeys { enc, mac }
 }
 
+/// The same, where the keys that the secret gives for this salt under another profile are known: a passphrase is stretched only where the
+/// two profiles stretch it otherwise, which takes most of the time.
+pub fn derive_beside(
+    secret: &Secret,
+    profile: &Profile,
+    salt: &[u8; 16],
+    known: &Profile,
+    keys: &PageKeys,
+) -> PageKeys
+    requires listed { IsListed profile.now }
+    requires known { keys.now ≡ page_keys known.now secret.now salt.now }
+    ensures { result ≡ page_keys profile.now secret.now salt.now }
+{
+    if stretch_alike(profile, known) {
+        *keys
+    } else {
+        derive(secret, profile, salt)
+    }
+}
+
+// Whether both profiles stretch a passphrase alike: with one hash, and as many rounds.
+fn stretch_alike(one: &Profile, other: &Profile) -> bool
+    ensures { IsTrue result ↔ ((one.now.hash ≡ other.now.hash) × (one.now.rounds ≡ other.now.rounds)) }
+{
+    one.hash == other.hash && one.rounds == other.rounds
+}
+
+#[tactic(auto, unfolding(crate::specs::Profile::IsListed))]
 fn cipher_key(profile: &Profile, secret: &Secret, salt: &[u8; 16]) -> [u8; 32]
     requires { IsListed profile.now }
     ensures { result ≡ cipher_key profile.now secret.now salt.now }

@@ -8,6 +8,6 @@ mod passphrase;
 mod profile;
 
 pub use key_line::{KeyError, read_key};
-pub use keys::{PageKeys, Secret, derive};
+pub use keys::{PageKeys, Secret, derive, derive_beside};
 pub use passphrase::PassBytes;
-pub use profile::{HashKind, PROFILES, Profile, profile_of};
+pub use profile::{HashKind, Profile, probed_profiles, profile_of};

@@ -1,6 +1,6 @@
 // The profiles of SQLCipher's versions, as one table.
-ghost use Rattle.std.specs.Prelude.{◌≡◌, IfSome};
-ghost use Rattle.cipher_profile.specs.Profile.{IsLaidOut, IsListed, profile_named, usable};
+ghost use Rattle.std.specs.Prelude.{◌≡◌, IfSome, All};
+ghost use Rattle.cipher_profile.specs.Profile.{IsLaidOut, IsListed, IsSize4, profile_named, probed_profiles, sqlcipher_4_of, usable};
 
 /// The hash of a profile.
 #[derive(Clone, Copy, Debug, PartialEq, Eq)]
@@ -14,7 +14,7 @@ pub enum HashKind {
 /// A version of SQLCipher: how its pages are laid out and how its keys are made. Lengths are in bytes.
 #[derive(Clone, Copy, Debug, PartialEq, Eq)]
 pub struct Profile {
-    /// The version, which is also the profile's word.
+    /// The version.
     pub version: u8,
     /// The length of a stored page.
     pub page_size: u32,
@@ -55,19 +55,25 @@ const SQLCIPHER_3: Profile = Profile {
     tag_len: 20,
 };
 
-const SQLCIPHER_4: Profile = Profile {
-    version: 4,
-    page_size: 4096,
-    reserve: 80,
-    hash: HashKind::Sha512,
-    rounds: 256_000,
-    tag_len: 64,
-};
-
-/// The profiles, oldest first.
-pub const PROFILES: [Profile; 4] = [SQLCIPHER_1, SQLCIPHER_2, SQLCIPHER_3, SQLCIPHER_4];
+// Version 4 with pages of this size.
+#[tactic(auto, unfolding(crate::specs::Profile::IsListed))]
+fn sqlcipher_4_of(page_size: u32) -> Profile
+    requires { IsSize4 page_size }
+    ensures value { result ≡ sqlcipher_4_of page_size }
+    ensures listed { IsListed result }
+{
+    Profile {
+        version: 4,
+        page_size,
+        reserve: 80,
+        hash: HashKind::Sha512,
+        rounds: 256_000,
+        tag_len: 64,
+    }
+}
 
 /// The profile that a word of the command line names.
+#[tactic(auto, unfolding(crate::specs::Profile::IsListed, crate::specs::Profile::profile_named))]
 pub fn profile_of(word: &str) -> Option<Profile>
     ensures value { result ≡ profile_named word.now }
     ensures listed { IfSome result IsListed }
@@ -76,9 +82,35 @@ pub fn profile_of(word: &str) -> Option<Profile>
         "1" => Some(SQLCIPHER_1),
         "2" => Some(SQLCIPHER_2),
         "3" => Some(SQLCIPHER_3),
-        "4" => Some(SQLCIPHER_4),
+        "4" | "4:4096" => Some(sqlcipher_4_of(4096)),
+        "4:1024" => Some(sqlcipher_4_of(1024)),
+        "4:2048" => Some(sqlcipher_4_of(2048)),
+        "4:8192" => Some(sqlcipher_4_of(8192)),
+        "4:16384" => Some(sqlcipher_4_of(16384)),
+        "4:32768" => Some(sqlcipher_4_of(32768)),
+        "4:65536" => Some(sqlcipher_4_of(65536)),
         _ => None,
     }
+}
+
+/// The profiles that a file is tried with where none is named, in this order: of version 4 the size that is the default
+/// first, then the others from the least on, and then the older versions.
+pub fn probed_profiles() -> [Profile; 10]
+    ensures value { result ≡ probed_profiles }
+    ensures listed { All IsListed result }
+{
+    [
+        sqlcipher_4_of(4096),
+        sqlcipher_4_of(1024),
+        sqlcipher_4_of(2048),
+        sqlcipher_4_of(8192),
+        sqlcipher_4_of(16384),
+        sqlcipher_4_of(32768),
+        sqlcipher_4_of(65536),
+        SQLCIPHER_3,
+        SQLCIPHER_2,
+        SQLCIPHER_1,
+    ]
 }
 
 impl Profile {

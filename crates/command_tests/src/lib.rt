@@ -5,6 +5,8 @@
 #[cfg(test)]
 mod exports;
 #[cfg(test)]
+mod finds;
+#[cfg(test)]
 mod moved_pages;
 #[cfg(test)]
 mod pages;
@@ -16,6 +18,8 @@ mod rows;
 mod scripts;
 #[cfg(test)]
 mod served;
+#[cfg(test)]
+mod sizes;
 #[cfg(test)]
 mod stops;
 #[cfg(test)]

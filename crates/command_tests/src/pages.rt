@@ -59,7 +59,8 @@ fn seal(rt: &impl Abort, codec: &Codec, n: u32, plain: &[u8], stored: &mut [u8])
 {
     assert!(rt; n >= 1 && plain.len() >= 16);
     assert!(rt; n != 1 || plain[..16] == MAGIC[..]);
-    let zeros = [0u8; 80];
+    let _usable = codec.profile().usable();
+    let zeros = [0u8; 255];
     codec.seal_page(n, plain, &zeros[..codec.profile().reserve as usize], stored);
 }
 
@@ -88,9 +89,9 @@ pub fn sealed(
     let profile = *codec.profile();
     let mut file = Vec::new(alloc);
     for n in 1..=pages {
-        let mut plain = [0u8; 4096];
+        let mut plain = [0u8; 65536];
         let plain = &mut plain[..profile.usable()];
-        let mut stored = [0u8; 4096];
+        let mut stored = [0u8; 65536];
         let stored = &mut stored[..profile.page_size as usize];
         lay(&profile, pages, n, changes, plain);
         seal(rt, &codec, n, plain, stored);

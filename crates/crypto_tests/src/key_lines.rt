@@ -1,6 +1,8 @@
 // What no clause says: that the tables are those of SQLCipher, known keys, and what key lines of each kind give.
 use crate::hex_text::is_hex_of;
-use cipher_profile::{HashKind, KeyError, Secret, derive, profile_of, read_key};
+use cipher_profile::{
+    HashKind, KeyError, Secret, derive, derive_beside, probed_profiles, profile_of, read_key,
+};
 use edge_model::{MemSource, SilentSource, Source};
 use std::alloc::Global;
 use std::test::Fail;
@@ -8,12 +10,19 @@ use std::test::Fail;
 // SQLCipher API, "cipher_compatibility", and the sizes that follow from its settings: the length of a page, its usable
 // bytes, the rounds and the length of a tag.
 #[test]
-fn four_words_name_profiles(rt: HostRuntime) {
+fn words_name_profiles(rt: HostRuntime) {
     let table = [
         ("1", 1, 1024, 1008, HashKind::Sha1, 4_000, 0),
         ("2", 2, 1024, 976, HashKind::Sha1, 4_000, 20),
         ("3", 3, 1024, 976, HashKind::Sha1, 64_000, 20),
         ("4", 4, 4096, 4016, HashKind::Sha512, 256_000, 64),
+        ("4:1024", 4, 1024, 944, HashKind::Sha512, 256_000, 64),
+        ("4:2048", 4, 2048, 1968, HashKind::Sha512, 256_000, 64),
+        ("4:4096", 4, 4096, 4016, HashKind::Sha512, 256_000, 64),
+        ("4:8192", 4, 8192, 8112, HashKind::Sha512, 256_000, 64),
+        ("4:16384", 4, 16384, 16304, HashKind::Sha512, 256_000, 64),
+        ("4:32768", 4, 32768, 32688, HashKind::Sha512, 256_000, 64),
+        ("4:65536", 4, 65536, 65456, HashKind::Sha512, 256_000, 64),
     ];
     for (word, version, page_size, usable, hash, rounds, tag_len) in table {
         let Some(profile) = profile_of(word) else {
@@ -25,8 +34,22 @@ fn four_words_name_profiles(rt: HostRuntime) {
             && profile.tag_len == tag_len;
         assert!(rt; profile.version == version && sizes && settings, "{word}");
     }
-    for word in ["", "0", "5", "10", "04", " 4", "four"] {
+    for word in [
+        "", "0", "5", "10", "04", " 4", "four", "4:", "4:512", "4:04096", "4:3000", "4:131072",
+        "3:1024", "4:4096 ",
+    ] {
         assert!(rt; profile_of(word).is_none(), "{word}");
+    }
+}
+
+// The order in which a file is tried, by the words that name the profiles.
+#[test]
+fn profiles_are_tried_in_their_order(rt: HostRuntime) {
+    let words = [
+        "4", "4:1024", "4:2048", "4:8192", "4:16384", "4:32768", "4:65536", "3", "2", "1",
+    ];
+    for (word, profile) in words.iter().zip(probed_profiles().iter()) {
+        assert!(rt; profile_of(word) == Some(*profile), "{word}");
     }
 }
 
@@ -82,6 +105,9 @@ fn known_keys_are_derived(rt: HostRuntime) -> Result<(), Fail> {
                 let keys = derive(&secret, &profile, &SALT);
                 assert!(rt; is_hex_of(enc, &keys.enc), "the cipher's key of {word}");
                 assert!(rt; is_hex_of(mac, &keys.mac), "the tags' key of {word}");
+                // The same beside the keys of a profile that makes its keys alike.
+                let again = derive_beside(&secret, &profile, &SALT, &profile, &keys);
+                assert!(rt; again == keys, "the keys of {word} again");
             }
             _ => assert!(rt; false, "{word}"),
         }

@@ -10,6 +10,8 @@ mod hex_text;
 #[cfg(test)]
 mod key_lines;
 #[cfg(test)]
+mod lanes;
+#[cfg(test)]
 mod macs;
 #[cfg(test)]
 mod sealed_pages;

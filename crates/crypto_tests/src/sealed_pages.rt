@@ -11,6 +11,9 @@ const SALT: &[u8; 16] = b"@ABCDEFGHIJKLMNO";
 
 const SALT_IN_HEX: &str = "404142434445464748494a4b4c4d4e4f";
 
+// The longest page, in bytes.
+const MAX_PAGE: usize = 65_536;
+
 const MAGIC: &[u8; 16] = b"SQLite format 3\0";
 
 const DIGITS: &[u8; 16] = b"0123456789abcdef";
@@ -78,7 +81,8 @@ fn seal(rt: &impl Abort, codec: &Codec, n: u32, plain: &[u8], stored: &mut [u8])
 {
     assert!(rt; n >= 1 && plain.len() >= 16);
     assert!(rt; n != 1 || plain[..16] == MAGIC[..]);
-    let mut buffer = [0u8; 80];
+    let _usable = codec.profile().usable();
+    let mut buffer = [0u8; 255];
     let draw = &mut buffer[..codec.profile().reserve as usize];
     ascending(0, draw);
     codec.seal_page(n, plain, draw, stored);
@@ -97,9 +101,9 @@ fn check_sealed(rt: &impl Abort, word: &str, n: u32, first: &str, last: &str, re
     let codec = codec_of(rt, word, 0);
     let profile = codec.profile();
     let usable = profile.usable();
-    let mut plain = [0u8; 4096];
+    let mut plain = [0u8; MAX_PAGE];
     let plain = &mut plain[..usable];
-    let mut stored = [0u8; 4096];
+    let mut stored = [0u8; MAX_PAGE];
     let stored = &mut stored[..profile.page_size as usize];
     put_leaf(rt, profile, n, plain);
     seal(rt, &codec, n, plain, stored);
@@ -119,7 +123,7 @@ fn check_sealed(rt: &impl Abort, word: &str, n: u32, first: &str, last: &str, re
         "reserve in profile {word}"
     );
 
-    let mut opened = [0xaau8; 4096];
+    let mut opened = [0xaau8; MAX_PAGE];
     let opened = &mut opened[..usable];
     assert!(rt; n >= 1);
     assert!(rt;
@@ -194,13 +198,14 @@ fn seals_pages_as_the_reference_does(rt: HostRuntime) {
 // it was.
 fn opens_after_change(rt: &impl Abort, codec: &Codec, n: u32, stored: &[u8], at: usize) -> bool {
     let profile = codec.profile();
+    let usable = profile.usable();
     assert!(rt; n >= 1 && stored.len() == profile.page_size as usize && at < stored.len());
-    let mut changed = [0u8; 4096];
+    let mut changed = [0u8; MAX_PAGE];
     let changed = &mut changed[..stored.len()];
     changed.copy_from_slice(stored);
     changed[at] ^= 1;
-    let mut plain = [0xaau8; 4096];
-    let plain = &mut plain[..profile.usable()];
+    let mut plain = [0xaau8; MAX_PAGE];
+    let plain = &mut plain[..usable];
     match codec.open_page(n, changed, plain) {
         Ok(()) => true,
         Err(refused) => {
@@ -223,9 +228,9 @@ fn refuses_what_the_tag_covers_and_nothing_else(rt: HostRuntime) {
         let usable = profile.usable();
         let size = profile.page_size as usize;
         let tag_len = profile.tag_len as usize;
-        let mut plain = [0u8; 4096];
+        let mut plain = [0u8; MAX_PAGE];
         let plain = &mut plain[..usable];
-        let mut stored = [0u8; 4096];
+        let mut stored = [0u8; MAX_PAGE];
         let stored = &mut stored[..size];
         put_leaf(&rt, profile, 1, plain);
         seal(&rt, &codec, 1, plain, stored);
@@ -251,7 +256,7 @@ fn refuses_what_the_tag_covers_and_nothing_else(rt: HostRuntime) {
                 "the number in profile {word}"
             );
             assert!(rt;
-                !codec.tag_holds(2, &[0u8; 4096][..size]),
+                !codec.tag_holds(2, &[0u8; MAX_PAGE][..size]),
                 "zeros in profile {word}"
             );
         }
@@ -273,9 +278,9 @@ fn a_key_fits_its_own_file(rt: HostRuntime) {
     for word in ["1", "2", "3", "4"] {
         let codec = codec_of(&rt, word, 0);
         let profile = codec.profile();
-        let mut plain = [0u8; 4096];
+        let mut plain = [0u8; MAX_PAGE];
         let plain = &mut plain[..profile.usable()];
-        let mut stored = [0u8; 4096];
+        let mut stored = [0u8; MAX_PAGE];
         let stored = &mut stored[..profile.page_size as usize];
         put_leaf(&rt, profile, 1, plain);
         seal(&rt, &codec, 1, plain, stored);

@@ -66,14 +66,14 @@ pages_few size bytes most some few =
     let rest : (if bytes % size == 0 then 0 else 1) ≤ 1 = at_most_one (bytes % size == 0) in
     omega arith
 
-item_chain : (usable i : ℕ) → 976 ≤ usable → overflow_pages Table usable (length (entry_in Items i).payload) ≤ 5
+item_chain : (usable i : ℕ) → 512 ≤ usable → overflow_pages Table usable (length (entry_in Items i).payload) ≤ 9
 item_chain usable i large =
     let len : ℕ = length (entry_in Items i).payload in
     let short : len ≤ 4568 = item_len i in
-    pages_few (usable - 4) (len - local_len Table usable len) 5 (omega arith) (omega (arith, short, large))
+    pages_few (usable - 4) (len - local_len Table usable len) 9 (omega arith) (omega (arith, short, large))
 
 -- a payload that fits stays in its cell
-no_chain : (usable len : ℕ) → 976 ≤ usable → len ≤ 50 → overflow_pages Index usable len ≡ 0
+no_chain : (usable len : ℕ) → 512 ≤ usable → len ≤ 50 → overflow_pages Index usable len ≡ 0
 no_chain usable len large few = whole (local_len Index usable len) (local_whole len (most_local Index usable) _ (omega arith))
   where
     whole : (local : ℕ) → local ≡ len → pages_for (usable - 4) (len - local) ≡ 0
@@ -102,10 +102,10 @@ tree_few part usable most rows each =
     let chains : chain_pages (family_in part) usable entries ≤ most * rows = chains_few part usable most 1 rows each in
     omega (arith, many, tree, chains)
 
--- a made database has 11 pages for each row and 13 at most
-pub made_few : (usable rows : ℕ) → 976 ≤ usable → rows < 2 ^ 32 → made_pages usable rows ≤ 11 * rows + 13
+-- a made database has 15 pages for each row and 13 at most
+pub made_few : (usable rows : ℕ) → 512 ≤ usable → rows < 2 ^ 32 → made_pages usable rows ≤ 15 * rows + 13
 made_few usable rows large small =
-    let items : part_pages usable Items rows ≤ 2 * rows + 1 + 5 * rows = tree_few Items usable 5 rows (λ i less. item_chain usable i large) in
+    let items : part_pages usable Items rows ≤ 2 * rows + 1 + 9 * rows = tree_few Items usable 9 rows (λ i less. item_chain usable i large) in
     let names : part_pages usable Names rows ≤ 2 * rows + 1 + 0 * rows =
     tree_few Names usable 0 rows (λ i less. omega (arith, no_chain usable (length (entry_in Names i).payload) large (name_len i (omega (arith, less, small))))) in
     let codes : part_pages usable Codes rows ≤ 2 * rows + 1 + 0 * rows =

@@ -8,6 +8,7 @@ use Rattle.std.proofs.lemmas.List.{drop_at, take_at}
 use Rattle.std.proofs.Math.Nat.{mul-le-mul_right}
 use Rattle.cipher_profile.specs.Profile.{IsListed, usable}
 use Rattle.cipher_profile.specs.declared.profile.Profile.{Profile}
+use Rattle.cipher_profile.proofs.Layouts.{IsListed-laid_out}
 use Rattle.edge_model.specs.Files.{written, Torn}
 use Rattle.disk_side.specs.Torn.{MayTear}
 use Rattle.db_format.specs.Pages.{Test, also}
@@ -415,8 +416,8 @@ module _ (keys : FileKeys) (numbers room new_numbers new_room : List ℕ) (held 
 
 -- ---- one page that is sealed
 
-whole_page : (p : Profile) → IsListed p → usable p + p.reserve ≡ p.page_size
-whole_page p listed = search (rules, listed)
+listed_whole : (p : Profile) → IsListed p → usable p + p.reserve ≡ p.page_size
+listed_whole p listed = let content = (IsListed-laid_out p listed).content in omega (arith, content)
 
 pub sealed_as : (keys : FileKeys) (n : ℕ) (page stored : List ℕ) → IsListed keys.profile → 2 ≤ n → length page ≡ keys.profile.page_size
     → length stored ≡ keys.profile.page_size → stored ≡ sealed_page keys n page → IsTrue (accepts keys n stored)
@@ -428,7 +429,7 @@ sealed_as keys n page stored listed low long sized is accepted opens =
       sealing = record {
         numbered = omega (arith, low);
         some = omega (arith, large);
-        drawn = omega (arith, length-drop (usable keys.profile) page, long, whole_page keys.profile listed);
+        drawn = omega (arith, length-drop (usable keys.profile) page, long, listed_whole keys.profile listed);
         size = ap (λ (l : List ℕ). length l) (sym is) ∙ sized;
         opens = ap (λ (l : List ℕ). opened keys n l) (sym is) ∙ opens;
         accepted = subst (λ (l : List ℕ). IsTrue (accepts keys n l)) is accepted;

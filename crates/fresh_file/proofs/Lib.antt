@@ -3,6 +3,7 @@ pub mod FreshLaws
 pub mod HeadLaws
 pub mod HeadedLaws
 pub mod HeldLaws
+pub mod LimitLaws
 pub mod OpeningLaws
 pub mod PageLaws
 pub mod PlaceLaws

@@ -1,5 +1,5 @@
 -- A finished file opens, with the header that was written, and has the pages that were put.
-use Rattle.std.proofs.Common.{◌≡◌, inl, inr, ◌≤◌, ◌*◌, ◌^◌, ◌==◌, ℕ, Bool, true, false, List, [], ◌∷◌, ◌++◌, length, drop, Option, Some, Ok, arith, rules, ap, refl, sym, subst, ◌∙◌}
+use Rattle.std.proofs.Common.{◌≡◌, ◌≤◌, ◌*◌, ◌^◌, ◌==◌, ℕ, Bool, true, false, List, [], ◌∷◌, ◌++◌, length, drop, Option, Some, Ok, arith, rules, ap, refl, sym, subst, ◌∙◌}
 use Rattle.std.specs.Prelude.{◌&&◌, IsTrue, nat_lt, if◌then◌else◌}
 use Rattle.std.specs.Int.{w16, to_be_bytes}
 use Rattle.std.specs.Str.{bytes_eq}
@@ -8,6 +8,7 @@ use Rattle.std.proofs.lemmas.Bool.Decides.{nat_tests}
 use Rattle.bulk_load.specs.Headed.{IsHeaded}
 use Rattle.cipher_profile.specs.Profile.{IsListed, usable}
 use Rattle.cipher_profile.specs.declared.profile.Profile.{Profile}
+use Rattle.cipher_profile.proofs.Layouts.{IsListed-each}
 use Rattle.db_format.specs.Count.{count_of_pages, largest_database, size_counts}
 use Rattle.db_format.specs.Header.{header_bytes, header_read, stored_page_size}
 use Rattle.db_format.specs.Pages.{Pages}
@@ -82,10 +83,10 @@ unfolding sign_of
 signed header rest size reserve = sign_in_front header rest ∙ ap (λ (n : ℕ). sign_of n header.reserve) size ∙ ap (λ (n : ℕ). sign_of 1024 n) reserve
 
 key_fits : (header : Header) (rest : List ℕ) (accepted : Bool) (profile : Profile) → IsListed profile → accepted ≡ true → Fits header rest accepted profile
-key_fits header rest accepted profile (inl is) yes = subst (Fits header rest accepted) (sym is) (λ for. signed header rest for.page_size for.reserve)
-key_fits header rest accepted profile (inr (inl is)) yes = subst (Fits header rest accepted) (sym is) (λ for. yes)
-key_fits header rest accepted profile (inr (inr (inl is))) yes = subst (Fits header rest accepted) (sym is) (λ for. yes)
-key_fits header rest accepted profile (inr (inr (inr is))) yes = subst (Fits header rest accepted) (sym is) (λ for. yes)
+key_fits header rest accepted profile listed yes =
+    IsListed-each (Fits header rest accepted) (λ for. signed header rest for.page_size for.reserve)
+    (λ for. yes) (λ for. yes) (λ for. yes) (λ for. yes) (λ for. yes) (λ for. yes) (λ for. yes) (λ for. yes) (λ for. yes)
+    profile listed
 
 -- ---- the pages of a finished file
 

@@ -11,24 +11,33 @@ use disk_side::Side;
 use page_codec::Codec;
 use std::alloc::Global;
 
-/// So many pages are held at most, and sealed side by side. Fewer, as at the end of a file, are sealed one by one.
-pub(crate) const MOST: usize = 64;
+// So many pages are held at most, which are sealed side by side.
+const MOST: usize = 64;
+
+// And so many bytes of them: 16 of the largest pages.
+const MOST_BYTES: usize = 1 << 20;
+
+// Fewer, as at the end of a file, take as long one by one.
+const FEWEST: usize = 30;
 
 /// Held pages, in the order in which they were put: a number for each, and its content with its drawn bytes behind it. All memory is taken by `new`.
 #[derive(Drop)]
 pub(crate) struct HeldPages {
     // the length of a page
     pub(crate) size: u32,
+    // how many are held at most
+    pub(crate) most: usize,
     pub(crate) count: usize,
     // those past the first `count` are no pages
     pub(crate) numbers: Vec<u32>,
     pub(crate) room: Vec<u8>,
     // room for the stored pages
     pub(crate) stored: Vec<u8>,
-    ghost within: { count ≤ 64 },
-    ghost numbers_size: { length numbers.items ≡ 64 },
-    ghost room_size: { length room.items ≡ size * 64 },
-    ghost stored_size: { length stored.items ≡ size * 64 },
+    ghost within: { count ≤ most },
+    ghost few: { (1 ≤ most) × (most ≤ 64) },
+    ghost numbers_size: { length numbers.items ≡ most },
+    ghost room_size: { length room.items ≡ size * most },
+    ghost stored_size: { length stored.items ≡ size * most },
     ghost above_one: { All (λ n. 2 ≤ n) numbers.items },
 }
 
@@ -37,14 +46,17 @@ impl HeldPages {
 
     /// No page, with room for pages of this length.
     pub(crate) fn new(alloc: Global, size: u32) -> Result<HeldPages, OutOfMemory>
+        requires { (512 ≤ size) × (size ≤ 65536) }
         ensures none { IfOk result (λ held. held.count ≡ 0) }
         ensures size { IfOk result (λ held. held.size ≡ size) }
     {
-        let numbers = twos(alloc)?;
-        let room = zeros(alloc, size as usize * MOST)?;
-        let stored = zeros(alloc, size as usize * MOST)?;
+        let most = held_at_most(size);
+        let numbers = twos(alloc, most)?;
+        let room = zeros(alloc, size as usize * most)?;
+        let stored = zeros(alloc, size as usize * most)?;
         Ok(HeldPages {
             size,
+            most,
             count: 0,
             numbers,
             room,
@@ -54,15 +66,15 @@ impl HeldPages {
 
     /// Whether there is no room for one more.
     pub(crate) fn is_full(&self) -> bool
-        ensures { result ≡ (self.now.count == 64) }
+        ensures { result ≡ (self.now.count == self.now.most) }
     {
-        self.count == MOST
+        self.count == self.most
     }
 
     /// Holds page n too, with the bytes that were drawn for it.
     pub(crate) fn add(&mut self, n: u32, plain: &[u8], draw: &[u8])
         requires number { 2 ≤ n }
-        requires room { self.old.count < 64 }
+        requires room { self.old.count < self.old.most }
         requires size { length plain.now + length draw.now ≡ self.old.size }
         ensures added { IsAdded self.old self.new n (plain.now ++ draw.now) }
     {
@@ -79,7 +91,7 @@ impl HeldPages {
         ensures same { (self.new.size ≡ self.old.size) × (self.new.count ≡ self.old.count) }
         ensures held { (self.new.numbers.items ≡ self.old.numbers.items) × (self.new.room.items ≡ self.old.room.items) }
     {
-        if self.count == MOST {
+        if self.count == self.most && self.most >= FEWEST {
             seal_all(codec, &self.numbers, &self.room, &mut self.stored);
         } else {
             seal_each(
@@ -130,12 +142,22 @@ impl HeldPages {
     }
 }
 
-// Numbers of no pages.
-fn twos(alloc: Global) -> Result<Vec<u32>, OutOfMemory>
-    ensures length { IfOk result (λ numbers. length numbers.items ≡ 64) }
+// How many pages of this length are held at most.
+fn held_at_most(size: u32) -> usize
+    requires { (512 ≤ size) × (size ≤ 65536) }
+    ensures some { 1 ≤ result }
+    ensures few { result ≤ 64 }
+    ensures bounded { result * size ≤ 1048576 }
+{
+    MOST.min(MOST_BYTES / size as usize)
+}
+
+// So many numbers of no pages.
+fn twos(alloc: Global, count: usize) -> Result<Vec<u32>, OutOfMemory>
+    ensures length { IfOk result (λ numbers. length numbers.items ≡ count) }
     ensures above_one { IfOk result (λ numbers. All (λ n. 2 ≤ n) numbers.items) }
 {
-    match vec![in alloc; 2u32; 64] {
+    match vec![in alloc; 2u32; count] {
         Ok(numbers) => Ok(numbers),
         Err(_) => Err(OutOfMemory),
     }
@@ -153,8 +175,7 @@ pub(crate) fn zeros(alloc: Global, len: usize) -> Result<Vec<u8>, OutOfMemory>
 
 // Page k of these is this plain page, with its drawn bytes behind it.
 fn lay(pages: &mut [u8], k: usize, plain: &[u8], draw: &[u8])
-    requires room { k < 64 }
-    requires size { length pages.old ≡ (length plain.now + length draw.now) * 64 }
+    requires room { (length plain.now + length draw.now) * k + (length plain.now + length draw.now) ≤ length pages.old }
     ensures here { page_at (length plain.now + length draw.now) pages.new k ≡ plain.now ++ draw.now }
     ensures earlier { (j : ℕ) → j < k → page_at (length plain.now + length draw.now) pages.new j ≡ page_at (length plain.now + length draw.now) pages.old j }
     ensures size { length pages.new ≡ length pages.old }

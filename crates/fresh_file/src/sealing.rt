@@ -45,6 +45,7 @@ pub(crate) fn seal_page_to<T: Side>(
     ensures disk { result ≡ Err CommitFault.DiskFault → Rose (T.disk_faults side.old) (T.disk_faults side.new) }
     ensures entropy { result ≡ Err CommitFault.EntropyFault → Rose (T.draw_faults side.old) (T.draw_faults side.new) }
 {
+    let _usable = codec.profile().usable();
     let size = codec.profile().page_size as u64;
     draw_for(side, draw)?;
     codec.seal_page(n, plain, draw, stored);

@@ -29,7 +29,7 @@ pub enum StartError {
 }
 
 /// The pages of a new file: which of them were put, those that are held back, to be sealed side by side, and page 1, which is held back for
-/// its header. It takes all its memory at `start`: that for 130 pages, and a mark for each page that there may be.
+/// its header. It takes all its memory at `start`: that for the held pages twice and for two more, and a mark for each page that there may be.
 #[derive(Drop)]
 pub struct FreshState {
     pub(crate) codec: Codec,
@@ -97,6 +97,7 @@ impl FreshState {
         ensures first { IfOk result (λ s. (s.has_first ≡ false) × (s.taken ≡ 0)) }
     {
         let profile = *codec.profile();
+        let _usable = profile.usable();
         let limit = most_pages(&profile);
         let put = Seen::new(alloc, limit)?;
         let first = zeros(alloc, usable_of(&profile))?;
@@ -210,7 +211,7 @@ impl FreshState {
         ensures taken { (self.new.taken ≡ self.old.taken) × (self.new.limit ≡ self.old.limit) }
         ensures first { (self.new.has_first ≡ self.old.has_first) × (self.new.first.items ≡ self.old.first.items) }
         ensures put { self.new.put ≡ self.old.put }
-        ensures room { OnOk result (self.new.held.count < 64) }
+        ensures room { OnOk result (self.new.held.count < self.new.held.most) }
         ensures well { (start : ℕ) → IsWellAs self.old start T.tells T.draws_tell (T.fresh side.old) (T.drawn side.old)
             → OnOk result (IsWellAs self.new start T.tells T.draws_tell (T.fresh side.new) (T.drawn side.new)) }
         ensures pages { (start : ℕ) → IsWellAs self.old start T.tells T.draws_tell (T.fresh side.old) (T.drawn side.old)
@@ -257,7 +258,7 @@ impl FreshState {
         requires number { 2 ≤ n }
         requires taken { n ≤ self.old.taken + 1 }
         requires size { length plain.now ≡ usable self.old.codec.profile }
-        requires room { self.old.held.count < 64 }
+        requires room { self.old.held.count < self.old.held.most }
         ensures codec { self.new.codec ≡ self.old.codec }
         ensures taken { (self.new.taken ≡ self.old.taken) × (self.new.limit ≡ self.old.limit) }
         ensures first { (self.new.has_first ≡ self.old.has_first) × (self.new.first.items ≡ self.old.first.items) }
@@ -282,12 +283,14 @@ impl FreshState {
 }
 
 // How many pages a file of this profile may have.
+#[tactic(auto, using(crate::proofs::LimitLaws::listed_limited))]
 fn most_pages(profile: &Profile) -> u32
     requires { IsListed profile.now }
     ensures value { result ≡ 2 ^ 30 / profile.now.page_size }
     ensures some { 1 ≤ result }
     ensures small { result ≤ 2 ^ 20 }
 {
+    let _usable = profile.usable();
     LARGEST_FILE / profile.page_size
 }
 

@@ -1,4 +1,5 @@
-//! Jobs on files in memory, which are tests alone: a new file, a made database, a rekey, a migration and an export, with their stops.
+//! Jobs on files in memory, which are tests alone: a new file, a made database, a rekey, a migration, an export and a salvage,
+//! with their stops.
 #![tactic(auto)]
 
 #[cfg(test)]
@@ -11,6 +12,8 @@ mod migrating;
 mod new_file;
 #[cfg(test)]
 mod rekeying;
+#[cfg(test)]
+mod salvaging;
 #[cfg(test)]
 mod sealed;
 #[cfg(test)]

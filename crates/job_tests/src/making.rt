@@ -9,8 +9,8 @@ use std::test::Fail;
 
 const PICKS: [ImagePick; 3] = [ImagePick::Lost, ImagePick::Kept, ImagePick::Torn];
 
-// Makes so many rows under the key of bytes 0 to 31, with zeros as the drawn bytes.
-fn make_rows(
+/// Makes so many rows under the key of bytes 0 to 31, with zeros as the drawn bytes.
+pub fn make_rows(
     rt: &impl Abort,
     alloc: Global,
     name: &str,

@@ -1,6 +1,7 @@
 // A database is written into Fresh.
 ghost use Rattle.std.specs.Prelude.{◌≡◌, ◌≤◌, ◌<◌, ℕ, List, false, Some, Err, IfOk, IfErr, OnOk, IsTrue, length};
 ghost use Rattle.cipher_profile.specs.Profile.{IsListed, usable};
+ghost use Rattle.db_format.specs.Header.{IsPageSize};
 ghost use Rattle.edge_model.specs.Causes.{Rose};
 ghost use Rattle.bulk_load.specs.Found.{IsTightBehind};
 ghost use Rattle.bulk_load.specs.Out.{AreAllPut};

@@ -19,6 +19,7 @@ use Rattle.bulk_load.specs.declared.error.LoadError.TheVariants.{RowidOrder, Out
 use Rattle.bulk_load.specs.declared.out.OutError.TheVariants.{TooManyPages as NoNumber, DiskFault as NotWritten, EntropyFault as NotDrawn}
 use Rattle.cipher_profile.specs.Profile.{IsListed, usable}
 use Rattle.cipher_profile.specs.declared.profile.Profile.{Profile}
+use Rattle.cipher_profile.proofs.Layouts.{IsListed-laid_out}
 use Rattle.db_format.specs.Pages.{IsUsable, Pages}
 use Rattle.fresh_file.specs.State.{most_pages}
 use Rattle.schema_map.specs.Census.{schema_after}
@@ -89,10 +90,9 @@ room_of profile =
     omega (arith, all, less)
 
 pub listed_usable : (profile : Profile) → IsListed profile → IsUsable (usable profile)
-listed_usable profile (inl is) = subst (λ p. IsUsable (usable p)) (sym is) (record { least = omega arith; most = omega arith })
-listed_usable profile (inr (inl is)) = subst (λ p. IsUsable (usable p)) (sym is) (record { least = omega arith; most = omega arith })
-listed_usable profile (inr (inr (inl is))) = subst (λ p. IsUsable (usable p)) (sym is) (record { least = omega arith; most = omega arith })
-listed_usable profile (inr (inr (inr is))) = subst (λ p. IsUsable (usable p)) (sym is) (record { least = omega arith; most = omega arith })
+listed_usable profile listed =
+    let laid_out = IsListed-laid_out profile listed in
+    record { least = laid_out.content; most = omega (arith, laid_out.most) }
 
 -- why the schema was not loaded, where a limit is named
 pub schema_refused : {S : Type 0} (pages : S → Pages) (limit : S → ℕ) (faults : S → Faults) (old new : S) (long : Type 0) (from load most l : ℕ) (error : RowsError)

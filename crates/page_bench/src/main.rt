@@ -14,12 +14,16 @@ use page_codec::Codec;
 use sha2::{Digest, Sha512};
 use std::{env, io};
 
-const MAX_PAGE: usize = 4096;
+// The longest page, in bytes.
+const MAX_PAGE: usize = 65_536;
+
+// The bytes that `hash` takes at a time.
+const PIECE: usize = 4096;
 
 const MAX_PAGES: usize = 262_144;
 
 fn hash(pieces: u64) -> u8 {
-    let piece = [0u8; MAX_PAGE];
+    let piece = [0u8; PIECE];
     let mut hasher = Sha512::new();
     for _ in 0..pieces {
         hasher.update(&piece[..]);
@@ -41,7 +45,8 @@ fn seal_often(codec: &Codec, plain: &mut [u8], stored: &mut [u8], times: u64) ->
     requires plain_size { length plain.old ≡ usable codec.now.profile }
     requires stored_size { length stored.old ≡ codec.now.profile.page_size }
 {
-    let draw = [7u8; 80];
+    let _usable = codec.profile().usable();
+    let draw = [7u8; 255];
     let reserve = codec.profile().reserve as usize;
     for _ in 0..times {
         codec.seal_page(2, plain, &draw[..reserve], stored);
@@ -63,15 +68,6 @@ fn open_often(codec: &Codec, plain: &mut [u8], stored: &mut [u8], times: u64) ->
     opened
 }
 
-// 64 pages side by side, in as many of these bytes as they have.
-fn seal_many(codec: &Codec, bytes: &mut [u8], times: u64) {
-    let size = codec.profile().page_size as usize;
-    let numbers = [2u32; 64];
-    if bytes.len() == size * 64 {
-        seal_again(codec, &numbers, bytes, times);
-    }
-}
-
 fn seal_again(codec: &Codec, numbers: &[u32; 64], pages: &mut [u8], times: u64)
     requires numbers { All (λ n. 2 ≤ n) numbers.now }
     requires size { length pages.old ≡ codec.now.profile.page_size * 64 }
@@ -81,12 +77,21 @@ fn seal_again(codec: &Codec, numbers: &[u32; 64], pages: &mut [u8], times: u64)
     }
 }
 
+// 64 pages side by side, in as many of these bytes as they have.
+fn seal_many(codec: &Codec, bytes: &mut [u8], times: u64) {
+    let size = codec.profile().page_size as usize;
+    let numbers = [2u32; 64];
+    if bytes.len() == size * 64 {
+        seal_again(codec, &numbers, bytes, times);
+    }
+}
+
+// The same, where a page is not longer than 4,096 bytes.
 fn many(codec: &Codec, times: u64) -> u8 {
     let mut bytes = [0u8; MAX_PAGES];
-    if codec.profile().page_size == 4096 {
-        seal_many(codec, &mut bytes, times);
-    } else {
-        seal_many(codec, &mut bytes[..65_536], times);
+    let size = codec.profile().page_size as usize * 64;
+    if size <= MAX_PAGES {
+        seal_many(codec, &mut bytes[..size], times);
     }
     bytes[0]
 }

@@ -106,10 +106,7 @@ pub whole_blocks : (size stride count : ℕ) → 16 * stride ≡ size → size *
 whole_blocks size stride count e = ap (λ (s : ℕ). s * count) (sym e) ∙ mul_assoc 16 stride count
 
 pub size_blocks : (profile : Profile) → IsLaidOut profile → 16 * (profile.page_size / 16) ≡ profile.page_size
-size_blocks profile h = elim h.size as (λ _. 16 * (profile.page_size / 16) ≡ profile.page_size) [
-  | inl small ↦ omega (arith, small)
-  | inr large ↦ omega (arith, large)
-]
+size_blocks profile h = omega (arith, h.stride)
 
 pub page_is_record : (size stride : ℕ) (pages : List ℕ) (i : ℕ) → 16 * stride ≡ size → page_at size pages i ≡ record_at stride pages i
 page_is_record size stride pages i e =

@@ -60,6 +60,7 @@ impl Codec {
         requires size { length page_1.now ≡ profile.page_size }
         ensures { result ≡ keys_of profile secret.now page_1.now }
     {
+        let _usable = profile.usable();
         let mut salt = [0u8; SALT_LEN];
         salt.copy_from_slice(&page_1[..SALT_LEN]);
         Codec::new(profile, derive(secret, &profile, &salt), salt)

@@ -1,9 +1,12 @@
 -- Page 1 holds the salt, so it alone gives a file's keys.
-use Rattle.std.proofs.Common.{◌≡◌, ◌*◌, ◌-◌, ◌≤◌, List, ℕ, length, take, drop, sym, ap, ◌∙◌, arith}
+use Rattle.std.proofs.Common.{◌≡◌, ◌*◌, ◌-◌, ◌≤◌, List, ℕ, length, take, drop, refl, sym, ap, ◌∙◌, arith}
 use Rattle.std.proofs.lemmas.List.{take-append-le, take-append-drop, length-take-le}
 use Rattle.cipher_profile.specs.declared.keys.Secret.{Secret}
 use Rattle.cipher_profile.specs.declared.profile.Profile.{Profile}
 use Rattle.cipher_profile.specs.Keys.{page_keys}
+use Rattle.cipher_profile.specs.Profile.{IsListed}
+use Rattle.cipher_profile.proofs.Layouts.{IsListed-each}
+use Rattle.db_format.specs.Header.{IsPageSize}
 use Rattle.page_codec.specs.Page.{salt_of, stored_page, keys_of}
 
 salt_in_page : (size : ℕ) (file : List ℕ) → 16 ≤ size → size ≤ length file → salt_of (stored_page size 1 file) ≡ salt_of file
@@ -24,3 +27,18 @@ keys_from_page profile secret file long whole =
 pub page_is : (size : ℕ) (page main : List ℕ) → length page ≡ size → size ≤ length main
     → (1 * length page ≤ length main → page ≡ stored_page (length page) 1 main) → page ≡ stored_page size 1 main
 page_is size page main long whole read = read (omega (arith, long, whole)) ∙ ap (λ (k : ℕ). stored_page k 1 main) long
+
+-- the pages of each profile have a size of the format
+pub listed_page_size : (profile : Profile) → IsListed profile → IsPageSize profile.page_size
+listed_page_size =
+    IsListed-each (λ (p : Profile). IsPageSize p.page_size)
+    (record { power = refl; least = omega arith; most = omega arith })
+    (record { power = refl; least = omega arith; most = omega arith })
+    (record { power = refl; least = omega arith; most = omega arith })
+    (record { power = refl; least = omega arith; most = omega arith })
+    (record { power = refl; least = omega arith; most = omega arith })
+    (record { power = refl; least = omega arith; most = omega arith })
+    (record { power = refl; least = omega arith; most = omega arith })
+    (record { power = refl; least = omega arith; most = omega arith })
+    (record { power = refl; least = omega arith; most = omega arith })
+    (record { power = refl; least = omega arith; most = omega arith })

@@ -1,11 +1,12 @@
 -- Changed pages that are sealed side by side.
-use Rattle.std.proofs.Common.{◌≡◌, ◌∙◌, ◌≤◌, ◌<◌, ◌+◌, ◌-◌, ◌*◌, ◌++◌, ℕ, suc, inl, inr, true, false, List, length, take, drop, IsTrue, sym, ap, subst, arith, rules}
+use Rattle.std.proofs.Common.{◌≡◌, ◌∙◌, ◌≤◌, ◌<◌, ◌+◌, ◌-◌, ◌*◌, ℕ, inl, inr, true, false, List, length, take, drop, IsTrue, sym, ap, subst, arith}
 use Rattle.std.specs.Prelude.{All, slice_index}
 use Rattle.std.proofs.lemmas.Bool.{cases_lt}
 use Rattle.std.proofs.lemmas.List.{drop_at, get_or_default, take-take, take_at}
 use Rattle.std.proofs.lemmas.Slice.{between_is}
 use Rattle.cipher_profile.specs.Profile.{IsListed, usable}
 use Rattle.cipher_profile.specs.declared.profile.Profile.{Profile}
+use Rattle.cipher_profile.proofs.Layouts.{IsListed-laid_out}
 use Rattle.page_cache.specs.Pages.{is_held}
 use Rattle.page_codec.specs.Page.{FileKeys, accepts, opened, sealed}
 use Rattle.page_codec.specs.Pages.{page_at, sealed_page}
@@ -16,7 +17,7 @@ use Rattle.pager.proofs.ChangedLemmas.{listed_at}
 
 -- a page has room for its content and its reserve, and for nothing else
 pub listed_whole : (p : Profile) → IsListed p → usable p + p.reserve ≡ p.page_size
-listed_whole p listed = search (rules, listed)
+listed_whole p listed = let content = (IsListed-laid_out p listed).content in omega (arith, content)
 
 -- where page 1 is not held, it is none of the changed pages
 pub from_two : (c : Changed) → IsListing c → is_held 1 c.held ≡ false → All (λ n. 2 ≤ n) c.numbers

@@ -6,6 +6,7 @@ use Rattle.std.proofs.lemmas.List.{take-append-le}
 use Rattle.std.proofs.Math.Seq.{drop-append_seam}
 use Rattle.cipher_profile.specs.Profile.{IsListed}
 use Rattle.cipher_profile.specs.declared.profile.Profile.{Profile}
+use Rattle.cipher_profile.proofs.Layouts.{IsListed-laid_out}
 use Rattle.db_format.specs.Count.{largest_database}
 use Rattle.page_cache.specs.Pages.{Page, bytes_at, is_held}
 use Rattle.page_codec.specs.Page.{FileKeys, magic, opened}
@@ -19,7 +20,7 @@ pub layout_same : (read write : FileKeys) → same_layout read write ≡ true
 layout_same read write same = search (rules, same)
 
 pub listed_large : (p : Profile) → IsListed p → 512 ≤ p.page_size
-listed_large p listed = search (rules, listed)
+listed_large p listed = let least = (IsListed-laid_out p listed).least in omega (arith, least)
 
 pub count_small : (count size : ℕ) → 0 < size → count * size ≤ largest_database → count < 4294967295
 count_small count size some largest =

@@ -1,5 +1,5 @@
 -- A pager that has read nothing yet.
-use Rattle.std.proofs.Common.{◌≡◌, ℕ, List, [], ◌∷◌, length, refl, arith}
+use Rattle.std.proofs.Common.{◌≡◌, List, [], ◌∷◌, length, refl, arith}
 use Rattle.std.proofs.Math.Path.{fun_ext}
 use Rattle.db_format.specs.Source.{no_pins}
 use Rattle.page_cache.specs.Pages.{Page}

@@ -54,6 +54,7 @@ impl OpenedFile {
     {
         let found = open_main(disk, &codec)?;
         let page_size = codec.profile().page_size as usize;
+        let _usable = codec.profile().usable();
         let Ok(cache) = Cache::new(alloc, frames, page_size) else {
             return Err(OpenError::OutOfMemory);
         };

@@ -67,7 +67,7 @@ fn read_opened<D: Disk>(
     ensures later { D.faults disk.old ≤ D.faults disk.new }
     ensures only_read { IsTrue D.tells → OnlyRead D.reads D.images D.moment D.since disk.old disk.new }
 {
-    let _listed = codec.profile();
+    let _usable = codec.profile().usable();
     if read_page(disk, n, page).is_err() {
         return Err(PageError::DiskFault);
     }

@@ -9,7 +9,7 @@ ghost use Rattle.pager.specs.File.{main_of};
 use edge_model::{Disk, Failed, Role};
 
 /// The longest stored page, in bytes.
-pub const MAX_PAGE: usize = 4096;
+pub const MAX_PAGE: usize = 65536;
 
 /// The length of the role's file, none where it has no file.
 pub fn file_length<D: Disk>(disk: &mut D, role: Role) -> Result<Option<u64>, Failed>

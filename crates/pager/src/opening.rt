@@ -90,6 +90,7 @@ pub fn codec_of<D: Disk>(
     ensures cause { HasCause (D.faults disk.old) (D.faults disk.new) result }
     ensures only_read { IsTrue D.tells → OnlyRead D.reads D.images D.moment D.since disk.old disk.new }
 {
+    let _usable = profile.usable();
     let mut buffer = [0u8; MAX_PAGE];
     let page = &mut buffer[..profile.page_size as usize];
     read_page(disk, 1, page)?;
@@ -143,6 +144,7 @@ fn main_header<D: Disk>(
     ensures only_read { IsTrue D.tells → OnlyRead D.reads D.images D.moment D.since disk.old disk.new }
 {
     let profile = *codec.profile();
+    let usable = profile.usable();
     let mut buffer = [0u8; MAX_PAGE];
     let page = &mut buffer[..profile.page_size as usize];
     if read_page(disk, 1, page).is_err() {
@@ -153,7 +155,7 @@ fn main_header<D: Disk>(
     }
     match codec.open_in_place(1, page) {
         Ok(()) => {
-            let plain = &page[..profile.usable()];
+            let plain = &page[..usable];
             Ok(read_header(plain, profile.page_size, profile.reserve))
         }
         // A key that fits opens page 1.

@@ -111,6 +111,7 @@ fn lay_out(codec: &Codec, changed: &ChangedPages, draws: &[u8], pages: &mut [u8]
 {
     let size = codec.profile().page_size as usize;
     let reserve = codec.profile().reserve as usize;
+    let _usable = codec.profile().usable();
     'laying: for k in 0..changed.len() {
         let draw = &draws[k * reserve..k * reserve + reserve];
         lay(changed.page(k), draw, &mut pages[size * k..size * k + size]);

@@ -97,6 +97,7 @@ impl<'d, D: Disk, E: Entropy> Txn<'d, D, E> {
         ensures value { result ≡ self.now.write.profile.page_size }
         ensures range { (512 ≤ result) × (result ≤ 65536) }
     {
+        let _usable = self.write.profile().usable();
         self.write.profile().page_size
     }
 
@@ -459,6 +460,7 @@ impl<'d, D: Disk, E: Entropy> Txn<'d, D, E> {
     /// Ends the transaction: the changed pages that stand in frames are sealed, each with bytes of its own that are drawn here, and written
     /// so that a stop at any moment leaves all changes or none. Where none was changed, no call is made. The disk and the entropy come back
     /// in any case.
+    #[tactic(auto, using(crate::proofs::EndingLemmas::room_enough))]
     pub fn end(self) -> (&'d mut D, &'d mut E, Result<(), CommitFault>)
         ghost start: { Start }
         requires sizes { (self.write.profile.page_size ≡ start.base.size) × (self.count ≡ start.base.pages) }

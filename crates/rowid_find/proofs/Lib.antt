@@ -4,8 +4,9 @@ mod FindSteps
 mod OnceLemmas
 mod PageSteps
 mod RowSteps
-mod SearchSteps
-mod SoundFound
+pub mod SearchSteps
+pub mod SoundFound
 mod SoundTrees
 mod TablePages
+mod TableSteps
 mod WantedSteps

@@ -23,9 +23,9 @@ use Rattle.rowid_find.proofs.OnceLemmas.{once_all}
 use Rattle.rowid_find.proofs.SoundTrees.{sound_tree, tree_times}
 
 -- without a defect, and these rows
-record IsRows (found : List Finding) (rows : List Row) : Type 0 where
-  sound : is_sound found ≡ true
-  are : entries found ≡ rows
+pub record IsRows (found : List Finding) (rows : List Row) : Type 0 where
+  pub sound : is_sound found ≡ true
+  pub are : entries found ≡ rows
 
 le_trans : {a b c : ℕ} → a ≤ b → b ≤ c → a ≤ c
 le_trans p q = omega (arith, p, q)
@@ -38,6 +38,11 @@ range_rows pages root low high false sound =
     let all : once nothing (reach pages low high max_path root) ≡ reach pages low high max_path root =
     once_all (reach pages low high max_path root) (λ k. le_trans (same.few k) (tree_times low high pages root sound k)) in
     record { sound = ap is_sound all ∙ same.sound; are = ap entries all ∙ same.rows }
+
+-- a search of a tree without a defect meets none, and the rows of the range
+pub sound_reach : (pages : Pages) (root : ℕ) (low high : ℤ) → is_sound (tree_part pages Table nothing root) ≡ true
+    → IsRows (reach_all pages low high root) (found_rows pages root low high)
+sound_reach pages root low high sound = range_rows pages root low high (int_lt high low) sound
 
 bad_sound : false ≡ true → ⊥
 bad_sound is = cc

@@ -6,5 +6,6 @@ pub mod Lines
 pub mod Once
 pub mod Reach
 pub mod Search
+pub mod Table
 pub mod TablePage
 pub mod Wanted

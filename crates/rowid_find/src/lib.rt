@@ -5,12 +5,16 @@
 #![tactic(auto)]
 
 mod chain;
+mod counted;
 mod error;
 mod page;
 mod row;
 mod search;
+mod table;
 mod visit;
 mod wanted;
 
+pub use counted::Counted;
 pub use error::FindError;
-pub use search::find;
+pub use search::{find, find_from};
+pub use table::table_root;

@@ -1,5 +1,5 @@
 // Rows by their rowids.
-ghost use Rattle.std.specs.Prelude.{◌≡◌, ◌≤◌, ◌++◌, ◌+◌, true, length, Err, OnOk, OnErr, IfErr, IsTrue};
+ghost use Rattle.std.specs.Prelude.{◌≡◌, ◌≤◌, ◌++◌, ◌+◌, ℕ, true, length, Err, OnOk, OnErr, IfErr, IsTrue};
 ghost use Rattle.edge_model.specs.Causes.{HasCause, Rose as RoseOut};
 ghost use Rattle.db_format.specs.Seen.{marked, open_count};
 ghost use Rattle.db_format.specs.Source.{Rose};
@@ -16,11 +16,12 @@ ghost use Rattle.btree_page.specs.declared.kind.Family.TheVariants.{Table};
 ghost use Rattle.rowid_find.specs.Bound.{links_below};
 ghost use Rattle.rowid_find.specs.Found.{found_rows};
 
+use crate::counted::Counted;
 use crate::error::FindError;
 use crate::row::Found;
 use crate::visit::visit;
 use btree_walk::WalkError;
-use db_format::{Counted, PageSource, Seen};
+use db_format::{PageSource, Seen};
 use edge_model::{Failed, Sink};
 use export_rows::LineOut;
 use itoa::Buffer;
@@ -61,8 +62,37 @@ where
     ensures later { K.faults out.old ≤ K.faults out.new }
     ensures pins { S.pins source.new.source.now ≡ S.pins source.old.source.now }
     ensures reads { S.only_read source.old.source.now source.new.source.now × (source.new.source.ghost_name ≡ source.old.source.ghost_name) }
+    ensures same_reference { source.new.source.ghost_name ≡ source.old.source.ghost_name }
 {
     find_rows(alloc, source, root, low, high, out)
+}
+
+/// The same of a source whose reads nobody asks for.
+pub fn find_from<S: PageSource, K: Sink>(
+    alloc: Global,
+    source: &mut S,
+    root: u32,
+    low: i64,
+    high: i64,
+    out: &mut K,
+) -> Result<u64, FindError<S::Refusal>>
+where
+    S::Refusal: Drop,
+    requires low { 1 ≤ root }
+    requires high { root ≤ (S.plain source.old).count }
+    ensures on { IsTrue S.tells → (reads : ℕ) × IsFound S.refuses (S.plain source.old) K.tells (reach_all (S.plain source.old) low high root)
+        (K.taken out.old) (K.taken out.new) 0 reads result }
+    // why it stopped
+    ensures given { IfErr result (IfWalk (IsGivenBy S.only_read S.plain S.refuses source.old)) }
+    ensures fault { IfErr result (IfWalk (λ error. IsTrue (is_failure S.is_fault error) → Rose (S.faults source.old) (S.faults source.new))) }
+    ensures output { result ≡ Err FindError.OutputFault → RoseOut (K.faults out.old) (K.faults out.new) }
+    // what stays as it was
+    ensures later { K.faults out.old ≤ K.faults out.new }
+    ensures pins { S.pins source.new ≡ S.pins source.old }
+    ensures reads { S.only_read source.old source.new }
+{
+    let mut counted = Counted::new(source);
+    find(alloc, &mut counted, root, low, high, out)
 }
 
 // The same, of any tree and any range.

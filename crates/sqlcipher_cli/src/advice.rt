@@ -4,23 +4,20 @@ use crate::folder::Folder;
 use crate::key_words::{explain_new_key, remark_on};
 use crate::streams::InputSource;
 use crate::usage::explain_usage;
+use cipher_profile::probed_profiles;
 use sqlcipher_tool::{Refusal, Status};
 use std::fmt::Display;
 
 /// Memory was refused.
 pub const OUT_OF_MEMORY: &str = "memory ran out";
 
-const JOURNAL_PAGE_SIZE: &str =
-    "the journal beside the file has pages of another size: give the version that wrote it (4 has pages of 4096 bytes, \
-    3, 2 and 1 of 1024); nothing was written";
-
 const SUPER_JOURNAL: &str =
     "the journal belongs to a transaction over several files, which only the program that wrote them can settle; \
     nothing was written";
 
 const JOURNAL_THERE: &str =
-    "a journal is there; if its file is too, then on a copy of both `recover 4`, or else `recover 3`, plays it back or removes it, \
-    as every other command does first";
+    "a journal is there; if its file is too, then on a copy of both `recover 4` plays it back or removes it, or says with which \
+    version `recover` does, as every other command does first";
 
 const KEY_MISSING: &str =
     "standard input ended before the last key line, or the file of the first key has no line feed at its end: `rekey` and \
@@ -37,6 +34,10 @@ const LAYOUT_DIFFERS: &str =
     "the pages of these two versions differ: `migrate` writes the database anew";
 
 const FILE_THERE: &str = "there is such a file already: `make` takes a new name";
+
+const NO_TABLE: &str =
+    "the schema has no table of this name whose rows have rowids: a name is compared byte for byte, case and all; a view has no rows of \
+    its own, and those of an index or of a WITHOUT ROWID table have no rowids: for these use `export`, which shows every name";
 
 const SHORT: &str = "the file ends before its last page: it was cut, or it was not copied whole";
 
@@ -232,8 +233,8 @@ fn explain_key(rt: &HostRuntime, run: &Ended, input: &InputSource, folder: &mut 
     } else if run.words.first() == Some(&"probe") {
         say(
             rt,
-            "the key fits under no version; an app may set its own rounds or page size. The README's section \"When the key is \
-            refused\" lists what else it may be",
+            "the key fits under no version; an app may set its own rounds or hash. The README's section \"When the key is refused\" \
+            lists what else it may be",
         );
     } else {
         let version = run.version();
@@ -244,8 +245,8 @@ fn explain_key(rt: &HostRuntime, run: &Ended, input: &InputSource, folder: &mut 
         say(
             rt,
             format_args!(
-                "the key does not fit under version {version}: `probe` finds the version.{order} The README's section \"When the key \
-                is refused\" lists what else it may be"
+                "the key does not fit under version {version}: `probe` finds the version and the size of its pages.{order} The README's \
+                section \"When the key is refused\" lists what else it may be"
             ),
         );
     }
@@ -259,8 +260,9 @@ fn explain_refusal(rt: &HostRuntime, run: &Ended, refusal: Refusal, is_played: b
         Refusal::KeyForm => KEY_WITH_SALT,
         Refusal::LayoutDiffers => LAYOUT_DIFFERS,
         Refusal::FileThere => FILE_THERE,
+        Refusal::NoTable => NO_TABLE,
         Refusal::JournalThere => JOURNAL_THERE,
-        Refusal::JournalPageSize { .. } => JOURNAL_PAGE_SIZE,
+        Refusal::JournalPageSize { found } => return explain_journal_pages(rt, found),
         Refusal::SuperJournal => SUPER_JOURNAL,
         Refusal::Short { .. } => SHORT,
         Refusal::Ragged { .. } => RAGGED,
@@ -274,13 +276,47 @@ fn explain_refusal(rt: &HostRuntime, run: &Ended, refusal: Refusal, is_played: b
     say(rt, words);
 }
 
+// A journal whose pages have another size than those of the version that was given.
+fn explain_journal_pages(rt: &HostRuntime, found: u32) {
+    let beside = "the journal beside the file has pages of another size";
+    let unwritten = "nothing was written";
+    let profiles = probed_profiles();
+    if found == 1024 {
+        say(
+            rt,
+            format_args!(
+                "{beside}: give 3, 2, 1 or 4:1024, the version that wrote it; {unwritten}"
+            ),
+        );
+    } else if found == 4096 {
+        say(rt, format_args!("{beside}: give 4; {unwritten}"));
+    } else if profiles.iter().any(|profile| profile.page_size == found) {
+        say(rt, format_args!("{beside}: give 4:{found}; {unwritten}"));
+    } else {
+        say(
+            rt,
+            format_args!("{beside}, and no version has such pages; {unwritten}"),
+        );
+    }
+}
+
 // A file that has a log's mode, or pointer-map pages, or both.
 fn explain_mode(rt: &HostRuntime, version: &str) {
+    match version.strip_prefix("4:") {
+        Some(size) => say_mode(rt, format_args!("PRAGMA cipher_page_size = {size}; ")),
+        None => say_mode(
+            rt,
+            format_args!("PRAGMA cipher_compatibility = {version}; "),
+        ),
+    }
+}
+
+fn say_mode<D: Display + Drop>(rt: &HostRuntime, settings: D) {
     say(
         rt,
         format_args!(
             "a file in WAL mode or with auto-vacuum is not served: on a copy of FILE, with FILE-wal, give to `sqlcipher` 4: \
-            PRAGMA key = '..'; PRAGMA cipher_compatibility = {version}; PRAGMA journal_mode = DELETE; PRAGMA auto_vacuum = 0; VACUUM;"
+            PRAGMA key = '..'; {settings}PRAGMA journal_mode = DELETE; PRAGMA auto_vacuum = 0; VACUUM;"
         ),
     );
 }

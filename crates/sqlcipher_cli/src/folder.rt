@@ -16,7 +16,7 @@ use crate::lock_table::{LockTable, Sight};
 use crate::paths::Paths;
 use crate::progress::Progress;
 use crate::role_file::RoleFile;
-use crate::undo::{PAGE, Undo};
+use crate::undo::Undo;
 use edge_model::Role;
 use std::alloc::AllocError;
 use std::fs::{self, File, Metadata};
@@ -375,11 +375,7 @@ impl<'a> Folder<'a> {
             return self.lay_page(at, bytes);
         }
         self.deeds.has_changed = true;
-        let mut before = [0u8; PAGE];
-        let length = bytes.len().min(PAGE);
-        let count = self.main.read_at(self.rt, at, &mut before[..length])?;
-        self.main.write_at(self.rt, at, bytes)?;
-        self.undo.note(at, &before[..count], bytes);
+        self.undo.write(self.rt, &mut self.main, at, bytes)?;
         self.note_main()?;
         let outcome = self.require_journal();
         if outcome.is_err() {

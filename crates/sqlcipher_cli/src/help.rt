@@ -7,7 +7,7 @@ has left, sets two numbers of their header, changes their key, and writes their
 database anew in another version. It writes nothing else to them. It also makes
 databases of any number of rows.
 
-usage: sqlcipher-tool FILE COMMAND [PROFILE [PROFILE | N | FIELD N]] < KEYS
+usage: sqlcipher-tool FILE COMMAND [PROFILE [PROFILE | N | FIELD N | NAME LOW HIGH]] < KEYS
        sqlcipher-tool --help | -h | help | --version
 
 commands
@@ -19,7 +19,12 @@ commands
   export PROFILE  check the whole database, and print every row and entry as text,
                   which tools/export_to_sql.py turns into SQL (it is installed in
                   share/sqlcipher-tool)
-  probe           find the profile whose key fits; prints `profile N`
+  find PROFILE NAME LOW HIGH
+                  print the rows of the table NAME with rowids from LOW to HIGH, as
+                  `export` does, and `found: R rows`. It reads the schema and the
+                  pages that lead to these rows, and checks no other page. NAME is
+                  compared byte for byte
+  probe           find the profile whose key fits; prints `profile PROFILE`
   recover PROFILE play the journal beside the file back into it and remove it;
                   prints `played: N`, `cold` or `nothing`, and takes no key
                   (every command but `probe` and `make` recovers first)
@@ -54,6 +59,11 @@ who else has the file
 
 profiles
   1, 2, 3, 4      the version of SQLCipher that wrote the file (1 has no tags)
+  4:SIZE          version 4 with pages of SIZE bytes, as a program sets them by
+                  cipher_page_size: 1024, 2048, 8192, 16384, 32768 or 65536.
+                  4 alone has pages of 4096 bytes, and can be written 4:4096. The
+                  size stands in the encrypted part of the file alone: where it is
+                  another one the key is refused, and `probe` finds it
 
 standard input: one line, the key, but for `recover`; for `rekey` and `migrate`
 two, the old key and the new one
@@ -79,6 +89,7 @@ stop or a fault, `recover` settles what the file is.
 
 examples, on a file FILE
   sqlcipher-tool FILE probe < KEYFILE
+  sqlcipher-tool FILE find 4 items 1 20 < KEYFILE
   IFS= read -rs KEY && printf '%s\\n' \"$KEY\" | sqlcipher-tool FILE tags 4
   cat OLD_KEYFILE NEW_KEYFILE | sqlcipher-tool FILE rekey 4 4
   cat KEYFILE KEYFILE | sqlcipher-tool FILE migrate 3 4

@@ -1,6 +1,7 @@
 // Why the words are no command.
 use crate::advice::say;
 use crate::failure::Shown;
+use cipher_profile::profile_of;
 
 /// The commands that take a version and nothing else.
 const READERS: [&str; 5] = ["tags", "header", "verify", "export", "recover"];
@@ -20,6 +21,11 @@ pub fn explain_usage(rt: &HostRuntime, words: &[&str]) {
             rt,
             rest.first(),
             "`stamp` takes a version, `user-version` or `application-id`, and a number up to 4294967295",
+        ),
+        ["find", rest @ ..] => explain_form(
+            rt,
+            rest.first(),
+            "`find` takes a version, the name of a table, and the lowest and the highest rowid, each of at most 19 digits and of 64 bits",
         ),
         ["make", rest @ ..] => explain_form(
             rt,
@@ -79,15 +85,26 @@ fn explain_form(rt: &HostRuntime, version: Option<&&str>, form: &str) {
 }
 
 fn explain_version(rt: &HostRuntime, word: &str) {
-    say(
-        rt,
-        format_args!(
-            "`{}` is no version: there are 1, 2, 3 and 4, and `probe` finds that of a file; --help lists the commands",
-            Shown(word)
-        ),
-    );
+    let is_sized = word.starts_with("4:");
+    let word = Shown(word);
+    if is_sized {
+        say(
+            rt,
+            format_args!(
+                "`{word}` is no version: the pages of version 4 have 1024, 2048, 4096, 8192, 16384, 32768 or 65536 bytes, as 4:8192, \
+                and `probe` finds the version of a file; --help lists the commands"
+            ),
+        );
+    } else {
+        say(
+            rt,
+            format_args!(
+                "`{word}` is no version: there are 1, 2, 3, 4 and 4:SIZE, and `probe` finds that of a file; --help lists the commands"
+            ),
+        );
+    }
 }
 
 fn is_version(word: &str) -> bool {
-    matches!(word, "1" | "2" | "3" | "4")
+    profile_of(word).is_some()
 }

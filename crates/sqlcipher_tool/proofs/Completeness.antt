@@ -1,15 +1,16 @@
 -- Where nothing stands in the way of a command, Done alone is due to it.
-use Rattle.std.proofs.Common.{◌≡◌, ⊎_elim, inl, inr, ℕ, zero, suc, ◌<◌, ◌≤◌, ◌+◌, ◌*◌, ◌/◌, ◌==◌, Bool, true, false, not, List, [], ◌∷◌, length, Option, Some, None, Result, Ok, Err, if◌then◌else◌, unwrap_or, refl, sym, ap, subst, ◌∙◌, rules, arith}
+use Rattle.std.proofs.Common.{◌≡◌, ⊎_elim, inl, inr, ℕ, ℤ, zero, suc, ◌<◌, ◌≤◌, ◌+◌, ◌*◌, ◌/◌, ◌==◌, Bool, true, false, not, List, [], ◌∷◌, length, Option, Some, None, Result, Ok, Err, if◌then◌else◌, unwrap_or, refl, sym, ap, subst, ◌∙◌, rules, arith}
 use Rattle.std.specs.List.{Contains}
 use Rattle.std.proofs.lemmas.Nat.{div_below}
-use Rattle.std.specs.Prelude.{IsOk, find, is_some, nat_le, nat_lt}
+use Rattle.std.specs.Prelude.{IsOk, find, is_some, nat_le, nat_lt, slice_get}
 use Rattle.btree_model.proofs.UnmarkedLemmas.{and_left}
 use Rattle.btree_model.specs.Content.{Content}
 use Rattle.btree_model.specs.Parts.{counts}
 use Rattle.cipher_profile.specs.declared.key_line.KeyError.{KeyError}
 use Rattle.cipher_profile.specs.declared.keys.Secret.{Secret}
 use Rattle.cipher_profile.specs.declared.profile.Profile.{Profile}
-use Rattle.cipher_profile.specs.Profile.{IsListed, sqlcipher_1, sqlcipher_2, sqlcipher_3, sqlcipher_4}
+use Rattle.cipher_profile.specs.Profile.{IsListed, probed_profiles, sqlcipher_1, sqlcipher_2, sqlcipher_3, sqlcipher_4, sqlcipher_4_of}
+use Rattle.cipher_profile.proofs.Layouts.{IsListed-each}
 use Rattle.db_format.specs.Count.{count_of_pages, largest_database}
 use Rattle.db_format.specs.declared.count.CountRefusal.{CountRefusal}
 use Rattle.db_format.specs.declared.header.Header.{Header as Fields}
@@ -28,33 +29,38 @@ use Rattle.pager.specs.declared.opening.OpenError.{OpenError}
 use Rattle.pager.specs.declared.opening.OpenError.TheVariants.{Empty, Short, KeyRefused}
 use Rattle.pager.proofs.BatchLemmas.{number_is}
 use Rattle.rollback_journal.specs.declared.recovery.Recovery.{Recovery}
+use Rattle.rowid_find.specs.Found.{found_rows}
+use Rattle.rowid_find.specs.Lines.{found_report}
 use Rattle.rollback_journal.specs.declared.recovery.RecoverError.{RecoverError}
 use Rattle.sqlcipher_tool.specs.Answer.{Answer, IsFault, done, first_of, refused}
 use Rattle.sqlcipher_tool.specs.declared.command.Command.{Command}
-use Rattle.sqlcipher_tool.specs.declared.command.Command.TheVariants.{Tags, Header, Verify, Export, Probe, Recover, Stamp, Rekey, Migrate, Make}
-use Rattle.sqlcipher_tool.specs.declared.job.Job.TheVariants.{Verify as VerifyPages, Export as ExportPages}
+use Rattle.sqlcipher_tool.specs.declared.command.Command.TheVariants.{Tags, Header, Verify, Export, Find, Probe, Recover, Stamp, Rekey, Migrate, Make}
+use Rattle.sqlcipher_tool.specs.declared.job.Job.TheVariants.{Verify as VerifyPages, Export as ExportPages, Find as FindRows}
 use Rattle.sqlcipher_tool.specs.declared.status.Refusal.{Refusal}
 use Rattle.sqlcipher_tool.specs.declared.status.Refusal.TheVariants.{FileThere, JournalThere}
 use Rattle.sqlcipher_tool.specs.declared.status.Status.{Status}
 use Rattle.sqlcipher_tool.specs.declared.status.Status.TheVariants.{Done, Usage, Refused, KeyRefused, DiskFault, OutputFault, InputFault, EntropyFault, OutOfMemory}
 use Rattle.sqlcipher_tool.specs.Due.{asked_answers, command_answers, due, keyed_answers, secret_answers, with_one, with_two}
+use Rattle.sqlcipher_tool.specs.Find.{find_answers}
 use Rattle.sqlcipher_tool.specs.Header.{header_answer, opened_answer}
 use Rattle.sqlcipher_tool.specs.Job.{job_answers}
 use Rattle.sqlcipher_tool.specs.Make.{made_answers, make_answers}
 use Rattle.sqlcipher_tool.specs.Migrate.{migrate_answers}
 use Rattle.sqlcipher_tool.specs.Opening.{opened_with}
 use Rattle.sqlcipher_tool.specs.Plain.{IsClean, Opens}
-use Rattle.sqlcipher_tool.specs.Probe.{found_answer, is_fitting, probe_answer, probed_profiles}
+use Rattle.sqlcipher_tool.specs.Probe.{first_fitting, found_answer, is_fitting, probe_answer}
 use Rattle.sqlcipher_tool.specs.Promises.{AnswersOne}
 use Rattle.sqlcipher_tool.specs.Recovered.{after_recovery, answers_after, recovered_answer, recovered_answers, recovered_main, recovery_answer, recovery_of}
 use Rattle.sqlcipher_tool.specs.Rekey.{rekey_answers}
 use Rattle.sqlcipher_tool.specs.Renewal.{pages_under}
-use Rattle.sqlcipher_tool.specs.Servable.{AfterRecovery, CanBeServed, ForOne, ForTwo, HasFewPages, HasTags, IsDoneAlone, IsDoneOrStarved, IsFree, IsProbed, IsServable, NoneRose}
+use Rattle.sqlcipher_tool.specs.Servable.{AfterRecovery, CanBeServed, ForOne, ForTwo, HasFewPages, HasTable, HasTags, IsDoneAlone, IsDoneOrStarved, IsFree, IsProbed, IsServable, NoneRose}
 use Rattle.sqlcipher_tool.specs.Stamp.{stamp_answer, stamped_answer}
 use Rattle.sqlcipher_tool.specs.Tags.{file_answer, is_refused, pages_answer, refused_pages, tags_answer, tags_causes}
 use Rattle.sqlcipher_tool.specs.Text.{header_report, made_report, migrated_report, probe_report, recovery_line, rekeyed_report, stamped_report, tags_report, verify_report}
+use Rattle.sqlcipher_tool.specs.Verify.{opened_answers}
 use Rattle.sqlcipher_tool.specs.Words.{IsServed}
 use Rattle.sqlcipher_tool.proofs.DoneAnswers.{export_done, made_fits, migrate_done, migrate_fits, rekey_done, verify_done}
+use Rattle.sqlcipher_tool.proofs.FindAnswers.{find_done}
 use Rattle.sqlcipher_tool.proofs.Numbers.{no_more, true_le}
 use Rattle.sqlcipher_tool.proofs.Served.{form_served}
 use Rattle.sqlcipher_tool.proofs.Verified.{none_where}
@@ -157,6 +163,18 @@ export_alone profile secret file listed has =
     let opened = opens_so profile secret file has.0 listed has.1 in
     (export_report has.0, export_done profile secret file opened.0 has.0 opened.1 has.1)
 
+pub find_due : (profile : Profile) (secret : Secret) (file name : List ℕ) (low high : ℤ) (has : HasTable profile secret name file)
+    → job_answers (FindRows name low high) profile secret file
+    ≡ done (found_report (found_rows (opened_pages (keys_of profile secret file) file has.opened.count) has.root low high)) ∷ []
+find_due profile secret file name low high has =
+    ap (λ (r : Result Opened OpenError). opened_answers r (λ n. find_answers (opened_pages (keys_of profile secret file) file n) name low high)) has.opens
+    ∙ find_done (opened_pages (keys_of profile secret file) file has.opened.count) name has.root low high has.schema has.table has.tree
+
+find_alone : (profile : Profile) (secret : Secret) (file name : List ℕ) (low high : ℤ) → HasTable profile secret name file
+    → IsDoneAlone (job_answers (FindRows name low high) profile secret file)
+find_alone profile secret file name low high has =
+    (found_report (found_rows (opened_pages (keys_of profile secret file) file has.opened.count) has.root low high), find_due profile secret file name low high has)
+
 rekey_alone : (profile : Profile) (secret : Secret) (file : List ℕ) → IsListed profile → IsClean (keys_of profile secret file) file
     → IsDoneAlone (rekey_answers profile secret file)
 rekey_alone profile secret file listed clean =
@@ -233,7 +251,7 @@ tags_alone profile secret file listed has =
 -- ---- probe
 
 found_alone : (o : Option Profile) → is_some o ≡ true → IsDoneAlone (found_answer o ∷ [])
-found_alone (Some profile) some = (probe_report profile.version, refl)
+found_alone (Some profile) some = (probe_report profile, refl)
 found_alone None some = cc
 
 -- a test finds an element of which it holds
@@ -246,15 +264,29 @@ module _ (test : Profile → Bool) where
   finds_here true profile later is = refl
   finds_here false profile later is = cc
 
-  -- the profiles from the first on that may be found
+  -- an element of a list that passes is found, or one before it
+  found_at : (xs : List Profile) (k : ℕ) (profile : Profile) → slice_get xs k ≡ Some profile → test profile ≡ true → is_some (find test xs) ≡ true
+  found_at [] k profile there is = cc
+  found_at (first ∷ xs) zero profile there is = finds_here (test first) first (find test xs) (ap test (given first profile there) ∙ is)
+    where
+      given : (a b : Profile) → Some a ≡ Some b → a ≡ b
+      given a b same = cc same
+  found_at (first ∷ xs) (suc k) profile there is = finds_later (test first) first (find test xs) (found_at xs k profile there is)
+
+  -- the profiles that may be found, by their places in the order
   listed_found : (profile : Profile) → IsListed profile → test profile ≡ true → is_some (find test probed_profiles) ≡ true
-  listed_found profile listed is =
-      ⊎_elim (λ one. finds_later (test sqlcipher_4) sqlcipher_4 _ (finds_later (test sqlcipher_3) sqlcipher_3 _ (finds_later (test sqlcipher_2) sqlcipher_2 _
-      (finds_here (test sqlcipher_1) sqlcipher_1 None (ap test (sym one) ∙ is)))))
-      (λ more. ⊎_elim (λ two. finds_later (test sqlcipher_4) sqlcipher_4 _ (finds_later (test sqlcipher_3) sqlcipher_3 _
-      (finds_here (test sqlcipher_2) sqlcipher_2 _ (ap test (sym two) ∙ is))))
-      (λ rest. ⊎_elim (λ three. finds_later (test sqlcipher_4) sqlcipher_4 _ (finds_here (test sqlcipher_3) sqlcipher_3 _ (ap test (sym three) ∙ is)))
-      (λ four. finds_here (test sqlcipher_4) sqlcipher_4 _ (ap test (sym four) ∙ is)) rest) more) listed
+  listed_found =
+      IsListed-each (λ (p : Profile). test p ≡ true → is_some (find test probed_profiles) ≡ true)
+      (found_at probed_profiles 9 sqlcipher_1 refl)
+      (found_at probed_profiles 8 sqlcipher_2 refl)
+      (found_at probed_profiles 7 sqlcipher_3 refl)
+      (found_at probed_profiles 1 (sqlcipher_4_of 1024) refl)
+      (found_at probed_profiles 2 (sqlcipher_4_of 2048) refl)
+      (found_at probed_profiles 0 sqlcipher_4 refl)
+      (found_at probed_profiles 3 (sqlcipher_4_of 8192) refl)
+      (found_at probed_profiles 4 (sqlcipher_4_of 16384) refl)
+      (found_at probed_profiles 5 (sqlcipher_4_of 32768) refl)
+      (found_at probed_profiles 6 (sqlcipher_4_of 65536) refl)
 
 none_of_two : (a b : Bool) (x y : Answer) → a ≡ false → b ≡ false
     → first_of (record { holds = a; answer = x } ∷ record { holds = b; answer = y } ∷ []) ≡ None
@@ -262,14 +294,18 @@ none_of_two true b x y one two = cc
 none_of_two false true x y one two = cc
 none_of_two false false x y one two = refl
 
+first_found : (secret : Secret) (file : List ℕ) (profile : Profile) → IsListed profile → is_fitting secret file profile ≡ true → is_some (first_fitting secret file) ≡ true
+unfolding first_fitting
+first_found secret file profile listed fit = listed_found (is_fitting secret file) profile listed fit
+
 probe_alone : (secret : Secret) (files : Files) → IsProbed secret files → IsDoneAlone (probe_answer secret files ∷ [])
-probe_alone secret files way = subst (λ (a : Answer). IsDoneAlone (a ∷ [])) (sym due_is) (found_alone found (listed_found (is_fitting secret main) way.profile way.listed way.fit))
+probe_alone secret files way = subst (λ (a : Answer). IsDoneAlone (a ∷ [])) (sym due_is) (found_alone found (first_found secret main way.profile way.listed way.fit))
   where
     main : List ℕ
     main = main_of files
 
     found : Option Profile
-    found = find (is_fitting secret main) probed_profiles
+    found = first_fitting secret main
 
     some : 0 < length main
     some =
@@ -315,6 +351,8 @@ servable_done (Verify profile) secrets files after served =
     one_secret secrets _ _ (λ secret. all_alone profile files _ (job_answers VerifyPages profile secret) (λ file. verify_alone profile secret file served))
 servable_done (Export profile) secrets files after served =
     one_secret secrets _ _ (λ secret. all_alone profile files _ (job_answers ExportPages profile secret) (λ file. export_alone profile secret file served))
+servable_done (Find profile name low high) secrets files after served =
+    one_secret secrets _ _ (λ secret. all_alone profile files _ (job_answers (FindRows name low high) profile secret) (λ file. find_alone profile secret file name low high))
 servable_done Probe secrets files after served = one_secret secrets _ _ (λ secret. probe_alone secret files)
 servable_done (Recover profile) secrets files after served = recovery_alone (recovery_of profile files)
 servable_done (Stamp profile field value) secrets files after served =

@@ -1,11 +1,9 @@
 -- What a report that is due says of the file.
-use Rattle.std.proofs.Common.{◌≡◌, ℕ, zero, suc, ◌+◌, ◌<◌, ◌&&◌, Bool, true, false, List, [], ◌∷◌, length, Result, Ok, Err, if◌then◌else◌, refl, sym, ap, ◌∙◌, arith}
+use Rattle.std.proofs.Common.{◌≡◌, ℕ, zero, suc, ◌&&◌, Bool, true, false, List, [], ◌∷◌, Result, Ok, Err, if◌then◌else◌, refl, sym, ap, ◌∙◌, arith}
 use Rattle.std.specs.List.{Contains, list_all}
-use Rattle.btree_model.specs.Content.{Content, content}
 use Rattle.btree_model.specs.Finding.{Finding, place, leaf, entry, key, fault, refused as unread, faults, is_sound, refusals}
 use Rattle.btree_model.specs.Freelist.{freelist_walk}
 use Rattle.btree_model.specs.Parts.{counts, first_faults, first_refusals, is_database, parts}
-use Rattle.btree_model.specs.Plain.{with_zeros}
 use Rattle.cipher_profile.specs.declared.keys.Secret.{Secret}
 use Rattle.cipher_profile.specs.declared.profile.Profile.{Profile}
 use Rattle.db_format.specs.Pages.{Pages, nothing}
@@ -26,11 +24,10 @@ use Rattle.sqlcipher_tool.specs.Rekey.{rekey_answers, rekey_due}
 use Rattle.sqlcipher_tool.specs.Reported.{CanBeMigrated, CanBeRekeyed, IsExported, IsVerified}
 use Rattle.sqlcipher_tool.specs.Tags.{tags_of}
 use Rattle.sqlcipher_tool.specs.Text.{migrated_report, rekeyed_report, verify_report}
-use Rattle.sqlcipher_tool.specs.Verify.{else_answers, opened_answers, pages_answers, parts_answers, rest_answers, stop_answers, tags_or}
+use Rattle.sqlcipher_tool.specs.Verify.{else_answers, opened_answers, pages_answers, rest_answers, stop_answers, tags_or}
 use Rattle.sqlcipher_tool.specs.declared.job.Job.TheVariants.{Verify, Export}
 use Rattle.sqlcipher_tool.specs.declared.status.Refusal.{Refusal}
 use Rattle.sqlcipher_tool.specs.declared.status.Refusal.TheVariants.{PageTag, Defect as RefusedDefect, TooManyPages}
-use Rattle.sqlcipher_tool.specs.declared.status.Status.{Status}
 use Rattle.sqlcipher_tool.specs.declared.status.Status.TheVariants.{Done, Refused}
 use Rattle.sqlcipher_tool.proofs.Completeness.{one_is}
 use Rattle.sqlcipher_tool.proofs.OpenedParts.{open_count, open_parts}

@@ -1,4 +1,5 @@
 pub mod PagesAnswer
+pub mod Probing
 pub mod RefusedPages
 pub mod Conclusions
 pub mod LeftAlone
@@ -9,6 +10,7 @@ pub mod Openings
 pub mod SomeDue
 pub mod Exported
 pub mod Verified
+pub mod FindAnswers
 pub mod VerifiedFile
 pub mod SamePages
 pub mod DoneAnswers
@@ -31,6 +33,7 @@ pub mod Migrating
 pub mod RekeyedFile
 pub mod Asked
 pub mod Numbers
+pub mod Rowids
 pub mod Served
 pub mod Completeness
 pub mod MadeServable

@@ -6,7 +6,7 @@ use Rattle.std.specs.Prelude.{IsOk, codes, is_ok}
 use Rattle.std.specs.Cmp.Derive.{both_true}
 use Rattle.cipher_profile.specs.declared.keys.Secret.{Secret}
 use Rattle.cipher_profile.specs.declared.profile.Profile.{Profile}
-use Rattle.cipher_profile.specs.Profile.{IsListed, sqlcipher_4}
+use Rattle.cipher_profile.specs.Profile.{IsListed, profile_named, sqlcipher_4}
 use Rattle.db_format.specs.Count.{largest_database}
 use Rattle.edge_model.specs.Files.{File, nothing}
 use Rattle.make_job.specs.Made.{IsMade, made_header}
@@ -16,7 +16,7 @@ use Rattle.pager.specs.Opening.{Opened}
 use Rattle.pager.specs.Pages.{is_number}
 use Rattle.pager.specs.declared.opening.OpenError.{OpenError}
 use Rattle.sqlcipher_tool.specs.declared.command.Command.{Command}
-use Rattle.sqlcipher_tool.specs.declared.command.Command.TheVariants.{Tags, Header, Verify, Export, Probe, Recover, Stamp, Rekey, Migrate, Make}
+use Rattle.sqlcipher_tool.specs.declared.command.Command.TheVariants.{Tags, Header, Verify, Export, Find, Probe, Recover, Stamp, Rekey, Migrate, Make}
 use Rattle.sqlcipher_tool.specs.Opening.{opened_with}
 use Rattle.sqlcipher_tool.specs.Plain.{IsClean}
 use Rattle.sqlcipher_tool.specs.Servable.{CanBeServed, HasTags, IsProbed, IsReading, IsServable, standing}
@@ -64,6 +64,7 @@ module _ (profile : Profile) (secret : Secret) (rows : ℕ) (file : File) (fresh
   made_servable second (Verify other) is = subst (λ (p : Profile). IsServable (Verify p) (secret ∷ second ∷ []) (standing file fresh)) (sym is) (record { recovers = refl; holds = clean })
   made_servable second (Export other) is =
       subst (λ (p : Profile). IsServable (Export p) (secret ∷ second ∷ []) (standing file fresh)) (sym is) (record { recovers = refl; holds = (clean.held, clean.opens) })
+  made_servable second (Find other name low high) is = absurd is
   made_servable second Probe is = probed
   made_servable second (Recover other) is = refl
   made_servable second (Stamp other field value) is =
@@ -74,4 +75,5 @@ module _ (profile : Profile) (secret : Secret) (rows : ℕ) (file : File) (fresh
 
 -- where no file is there, `recover` has nothing to do
 pub nothing_servable : (left : List ℕ) → CanBeServed (codes "recover" ∷ codes "4" ∷ []) left nothing
+unfolding profile_named
 nothing_servable left = record { command = Recover sqlcipher_4; is_form = refl; no_refusal = refl; secrets = []; gave = refl; servable = refl }

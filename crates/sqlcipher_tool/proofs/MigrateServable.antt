@@ -1,5 +1,5 @@
 -- Nothing stands in the way of `migrate` on a file that was made without rows.
-use Rattle.std.proofs.Common.{◌≡◌, ⊎_elim, ℕ, zero, suc, ◌+◌, ◌-◌, ◌/◌, ◌^◌, ◌<◌, ◌≤◌, Bool, true, List, [], ◌∷◌, length, map, Option, if◌then◌else◌, refl, sym, ap, subst, ◌∙◌, arith, rules}
+use Rattle.std.proofs.Common.{◌≡◌, ℕ, zero, suc, ◌+◌, ◌-◌, ◌/◌, ◌^◌, ◌<◌, ◌≤◌, Bool, true, List, [], ◌∷◌, length, map, Option, if◌then◌else◌, refl, sym, ap, subst, ◌∙◌, arith, rules}
 use Rattle.std.specs.Prelude.{codes, max, min, nat_le}
 use Rattle.std.specs.List.{range_with_len}
 use Rattle.btree_model.specs.Content.{Content, without_fourth}
@@ -9,7 +9,9 @@ use Rattle.bulk_load.specs.Bound.{tree_pages}
 use Rattle.bulk_load.specs.Count.{overflow_pages, pages_for}
 use Rattle.cipher_profile.specs.declared.keys.Secret.{Secret}
 use Rattle.cipher_profile.specs.declared.profile.Profile.{Profile}
-use Rattle.cipher_profile.specs.Profile.{IsListed, sqlcipher_1, sqlcipher_2, sqlcipher_3, sqlcipher_4, usable}
+use Rattle.cipher_profile.specs.Profile.{IsListed, usable}
+use Rattle.cipher_profile.proofs.Layouts.{IsListed-each}
+use Rattle.fresh_file.proofs.LimitLaws.{listed_limited}
 use Rattle.db_format.specs.Row.{record_bytes}
 use Rattle.db_maker.proofs.RowLaws.{row_short}
 use Rattle.db_maker.specs.Parts.{part_values, schema_values, view_values}
@@ -33,13 +35,18 @@ fits_whole len most size other few none =
 
 no_chain : (new : Profile) → IsListed new → (len : ℕ) → len ≤ 262 → overflow_pages Table (usable new) len ≡ 0
 no_chain new listed len few =
-    ⊎_elim (λ one. so sqlcipher_1 one (fits_whole len 973 1004 _ (omega (arith, few)) refl))
-    (λ more. ⊎_elim (λ two. so sqlcipher_2 two (fits_whole len 941 972 _ (omega (arith, few)) refl))
-    (λ rest. ⊎_elim (λ three. so sqlcipher_3 three (fits_whole len 941 972 _ (omega (arith, few)) refl))
-    (λ four. so sqlcipher_4 four (fits_whole len 3981 4012 _ (omega (arith, few)) refl)) rest) more) listed
-  where
-    so : (profile : Profile) → new ≡ profile → overflow_pages Table (usable profile) len ≡ 0 → overflow_pages Table (usable new) len ≡ 0
-    so profile is none = subst (λ (p : Profile). overflow_pages Table (usable p) len ≡ 0) (sym is) none
+    IsListed-each (λ (p : Profile). overflow_pages Table (usable p) len ≡ 0)
+    (fits_whole len 973 1004 _ (omega (arith, few)) refl)
+    (fits_whole len 941 972 _ (omega (arith, few)) refl)
+    (fits_whole len 941 972 _ (omega (arith, few)) refl)
+    (fits_whole len 909 940 _ (omega (arith, few)) refl)
+    (fits_whole len 1933 1964 _ (omega (arith, few)) refl)
+    (fits_whole len 3981 4012 _ (omega (arith, few)) refl)
+    (fits_whole len 8077 8108 _ (omega (arith, few)) refl)
+    (fits_whole len 16269 16300 _ (omega (arith, few)) refl)
+    (fits_whole len 32653 32684 _ (omega (arith, few)) refl)
+    (fits_whole len 65421 65452 _ (omega (arith, few)) refl)
+    new listed
 
 most_zero : (f : ℕ → ℕ) (from n : ℕ) → ((k : ℕ) → k < from + n → f k ≡ 0) → most_of (map f (range_with_len from n)) ≡ 0
 most_zero f from zero none = refl
@@ -49,13 +56,7 @@ most_zero f from (suc n) none =
 
 module _ (new : Profile) (listed : IsListed new) where
   limits : (13 ≤ most_pages new) × (most_pages new ≤ 2 ^ 30)
-  limits =
-      ⊎_elim (λ one. so sqlcipher_1 one (omega arith, omega arith))
-      (λ more. ⊎_elim (λ two. so sqlcipher_2 two (omega arith, omega arith))
-      (λ rest. ⊎_elim (λ three. so sqlcipher_3 three (omega arith, omega arith)) (λ four. so sqlcipher_4 four (omega arith, omega arith)) rest) more) listed
-    where
-      so : (profile : Profile) → new ≡ profile → (13 ≤ most_pages profile) × (most_pages profile ≤ 2 ^ 30) → (13 ≤ most_pages new) × (most_pages new ≤ 2 ^ 30)
-      so profile is both = subst (λ (p : Profile). (13 ≤ most_pages p) × (most_pages p ≤ 2 ^ 30)) (sym is) both
+  limits = let limited = listed_limited new listed in (omega (arith, limited.least), omega (arith, limited.most))
 
   small : (root : ℕ) → root < 2 + (most_pages new - 1) → root < 2 ^ 63
   small root less = let few : root < 2 + 1073741824 = omega (arith, less, limits.1) in omega (arith, few)

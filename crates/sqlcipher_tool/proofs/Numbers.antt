@@ -28,18 +28,18 @@ no_more a b le = search (rules, le)
 
 -- ---- a number of the command line
 
-tested : (w : List ℕ) → AllDigits 10 w → list_all (λ digit. nat_lt (digit_value digit) 10) w ≡ true
+pub tested : (w : List ℕ) → AllDigits 10 w → list_all (λ digit. nat_lt (digit_value digit) 10) w ≡ true
 tested [] all = refl
 tested (c ∷ cs) all = both_true (lt_true (digit_value c) 10 all.0) (tested cs all.1)
 
-all_digits : (w : List ℕ) → list_all (λ digit. nat_lt (digit_value digit) 10) w ≡ true → AllDigits 10 w
+pub all_digits : (w : List ℕ) → list_all (λ digit. nat_lt (digit_value digit) 10) w ≡ true → AllDigits 10 w
 all_digits [] is = tt
 all_digits (c ∷ cs) is =
     let two = and_true (nat_lt (digit_value c) 10) (list_all (λ digit. nat_lt (digit_value digit) 10) cs) is in
     (true_lt (digit_value c) 10 two.0, all_digits cs two.1)
 
 -- no plus stands first
-plain_word : (w : List ℕ) → (slice_index w 0 == 43) ≡ false → without_leading_plus w ≡ w
+pub plain_word : (w : List ℕ) → (slice_index w 0 == 43) ≡ false → without_leading_plus w ≡ w
 plain_word w is = ap (λ (b : Bool). drop (cond b 1 0) w) is
 
 abbrev Parses : List ℕ → Type 0

@@ -10,6 +10,7 @@ use Rattle.btree_model.specs.Parts.{is_database}
 use Rattle.btree_model.specs.Plain.{is_leaf, with_zeros}
 use Rattle.btree_model.proofs.UnmarkedLemmas.{and_left}
 use Rattle.cipher_profile.specs.Profile.{IsListed}
+use Rattle.cipher_profile.proofs.Layouts.{IsListed-laid_out, reserve_untagged, untagged_reserve}
 use Rattle.cipher_profile.specs.declared.profile.Profile.{Profile}
 use Rattle.db_format.specs.Count.{count_of_pages, size_counts}
 use Rattle.db_format.specs.Header.{header_read}
@@ -189,7 +190,9 @@ module _ (old_keys new_keys : FileKeys) (count : ℕ) (old new : List ℕ) (old_
   same_tags none = untagged old_keys.profile new_keys.profile old_listed new_listed reserves none
     where
       untagged : (old new : Profile) → IsListed old → IsListed new → new.reserve ≡ old.reserve → new.tag_len ≡ 0 → old.tag_len ≡ 0
-      untagged old new old_listed new_listed same none = search (rules, old_listed, new_listed, same, none)
+      untagged old new old_listed new_listed same none =
+          let few = untagged_reserve new new_listed none in
+          reserve_untagged old old_listed (omega (arith, same, few))
 
   fit : fits new_keys (page_stored new_keys new 1) ≡ true
   fit = by_tag (new_keys.profile.tag_len == 0) refl
@@ -204,7 +207,7 @@ module _ (old_keys new_keys : FileKeys) (count : ℕ) (old new : List ℕ) (old_
       first = number_is count 1 (omega arith) (count_some old_keys old count (omega (arith, size old_keys.profile old_listed)) rekeyed.was)
         where
           size : (p : Profile) → IsListed p → 1 ≤ p.page_size
-          size p listed = search (rules, listed)
+          size p listed = let least = (IsListed-laid_out p listed).least in omega (arith, least)
 
       by_tag : (b : Bool) → (new_keys.profile.tag_len == 0) ≡ b → fits new_keys (page_stored new_keys new 1) ≡ true
       by_tag true none =

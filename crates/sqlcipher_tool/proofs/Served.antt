@@ -1,13 +1,14 @@
 -- The command that words make is of a profile that is served.
-use Rattle.std.proofs.Common.{◌≡◌, inl, inr, ℕ, Bool, true, false, List, [], ◌∷◌, Option, Some, None, if◌then◌else◌, refl, sym, subst}
+use Rattle.std.proofs.Common.{◌≡◌, ℕ, Bool, true, false, List, [], ◌∷◌, Option, Some, None, if◌then◌else◌, refl, subst}
 use Rattle.std.specs.Prelude.{codes}
 use Rattle.std.specs.Option.{option_map, option_and_then}
 use Rattle.std.specs.Str.{bytes_eq}
 use Rattle.cipher_profile.specs.declared.profile.Profile.{Profile}
-use Rattle.cipher_profile.specs.Profile.{IsListed, profile_named, sqlcipher_1, sqlcipher_2, sqlcipher_3, sqlcipher_4}
+use Rattle.cipher_profile.specs.Profile.{IsListed, profile_named}
+use Rattle.cipher_profile.proofs.Names.{named_listed}
 use Rattle.sqlcipher_tool.specs.declared.command.Command.{Command}
 use Rattle.sqlcipher_tool.specs.declared.command.Command.TheVariants.{Tags, Header, Verify, Export, Probe, Recover, Rekey, Migrate}
-use Rattle.sqlcipher_tool.specs.Words.{IsServed, field_named, form, make_form, number_named, stamp_form, two_profiles}
+use Rattle.sqlcipher_tool.specs.Words.{IsServed, field_named, find_form, form, make_form, number_named, rowid_named, stamp_form, two_profiles}
 use Rattle.sqlcipher_tool.proofs.Verified.{some_is}
 
 -- none, or a command that is served
@@ -27,20 +28,13 @@ either : (b : Bool) (one other : Option Command) → MaybeServed one → MaybeSe
 either true one other first second = first
 either false one other first second = second
 
-named_listed : (word : List ℕ) (profile : Profile) → profile_named word ≡ Some profile → IsListed profile
-named_listed word profile is = by_word (bytes_eq word (codes "1")) (bytes_eq word (codes "2")) (bytes_eq word (codes "3")) (bytes_eq word (codes "4")) is
-  where
-    by_word : (a b d e : Bool) → (if a then Some sqlcipher_1 else (if b then Some sqlcipher_2 else (if d then Some sqlcipher_3 else (if e then Some sqlcipher_4 else None)))) ≡ Some profile
-        → IsListed profile
-    by_word true b d e is = inl (sym (some_is sqlcipher_1 profile is))
-    by_word false true d e is = inr (inl (sym (some_is sqlcipher_2 profile is)))
-    by_word false false true e is = inr (inr (inl (sym (some_is sqlcipher_3 profile is))))
-    by_word false false false true is = inr (inr (inr (sym (some_is sqlcipher_4 profile is))))
-    by_word false false false false is = cc
-
 stamp_served : (first second third : List ℕ) → MaybeServed (stamp_form first second third)
 stamp_served first second third =
     followed _ (profile_named first) (λ profile named. followed _ (field_named second) (λ field is. mapped _ (number_named third) (λ value known. named_listed first profile named)))
+
+find_served : (first second third fourth : List ℕ) → MaybeServed (find_form first second third fourth)
+find_served first second third fourth =
+    followed _ (profile_named first) (λ profile named. followed _ (rowid_named third) (λ low is. mapped _ (rowid_named fourth) (λ high known. named_listed first profile named)))
 
 two_served : (command : Profile → Profile → Command) → ((old new : Profile) → IsListed old → IsListed new → IsServed (command old new)) → (first second : List ℕ)
     → MaybeServed (two_profiles command first second)
@@ -68,7 +62,8 @@ maybe_served (name ∷ first ∷ second ∷ []) =
     (either (bytes_eq name (codes "migrate")) _ _ (two_served Migrate (λ old new one other. (one, other)) first second)
     (either (bytes_eq name (codes "make")) _ _ (make_served first second) tt))
 maybe_served (name ∷ first ∷ second ∷ third ∷ []) = either (bytes_eq name (codes "stamp")) _ _ (stamp_served first second third) tt
-maybe_served (name ∷ first ∷ second ∷ third ∷ fourth ∷ rest) = tt
+maybe_served (name ∷ first ∷ second ∷ third ∷ fourth ∷ []) = either (bytes_eq name (codes "find")) _ _ (find_served first second third fourth) tt
+maybe_served (name ∷ first ∷ second ∷ third ∷ fourth ∷ fifth ∷ rest) = tt
 
 pub form_served : (words : List (List ℕ)) (command : Command) → form words ≡ Some command → IsServed command
 form_served words command is = subst MaybeServed is (maybe_served words)

@@ -1,10 +1,12 @@
 -- Some answer is due.
-use Rattle.std.proofs.Common.{ℕ, ◌<◌, Bool, true, false, is_some, if◌then◌else◌, List, [], ◌∷◌, length, Result, Ok, Err, arith}
+use Rattle.std.proofs.Common.{ℕ, ℤ, ◌<◌, Bool, true, false, is_some, if◌then◌else◌, List, [], ◌∷◌, length, Result, Ok, Err, arith}
 use Rattle.db_format.specs.Pages.{Pages, nothing}
 use Rattle.btree_model.specs.Finding.{faults, refusals}
 use Rattle.btree_model.specs.Freelist.{freelist_walk}
 use Rattle.btree_model.specs.Content.{content}
 use Rattle.btree_model.specs.Plain.{with_zeros}
+use Rattle.btree_model.specs.Schema.{schema_part}
+use Rattle.rowid_find.specs.Table.{schema_rows, table_of}
 use Rattle.btree_model.specs.Parts.{counts, first_faults, first_refusals, parts}
 use Rattle.cipher_profile.specs.declared.keys.Secret.{Secret}
 use Rattle.cipher_profile.specs.declared.profile.Profile.{Profile}
@@ -18,12 +20,13 @@ use Rattle.rollback_journal.specs.declared.recovery.RecoverError.{RecoverError}
 use Rattle.sqlcipher_tool.specs.Answer.{Answer, done, refused}
 use Rattle.export_rows.specs.Report.{export_report}
 use Rattle.sqlcipher_tool.specs.Export.{content_answers}
+use Rattle.sqlcipher_tool.specs.Find.{find_answers, table_answer}
 use Rattle.sqlcipher_tool.specs.Job.{job_answers, job_due}
 use Rattle.sqlcipher_tool.specs.Change.{change_answers}
 use Rattle.sqlcipher_tool.specs.declared.change.Change.{Change}
 use Rattle.sqlcipher_tool.specs.declared.change.Change.TheVariants.{Stamp as StampOf, Rekey as RekeyOf, Migrate as MigrateOf}
 use Rattle.sqlcipher_tool.specs.declared.job.Job.{Job}
-use Rattle.sqlcipher_tool.specs.declared.job.Job.TheVariants.{Verify, Export}
+use Rattle.sqlcipher_tool.specs.declared.job.Job.TheVariants.{Verify, Export, Find}
 use Rattle.sqlcipher_tool.specs.Make.{made_answers, make_answers}
 use Rattle.sqlcipher_tool.specs.Migrate.{migrate_answers, migrate_due, too_many}
 use Rattle.sqlcipher_tool.specs.Opening.{opened_with}
@@ -73,10 +76,17 @@ rekey_some pages =
     else_some (stop_answers (first_faults (parts pages)) (first_refusals (parts pages))) _
     (else_some (stop_answers [] (refused_in_use pages)) (done (rekeyed_report pages.count) ∷ []) (omega arith))
 
+-- to `find`
+pub find_some : (pages : Pages) (name : List ℕ) (low high : ℤ) → 0 < length (find_answers pages name low high)
+find_some pages name low high =
+    let schema = schema_part pages nothing in
+    else_some (stop_answers (faults schema) (refusals schema)) (table_answer pages low high (table_of pages name (schema_rows pages)) ∷ []) (omega arith)
+
 -- to a job
 pub job_some : (job : Job) (pages : Pages) → 0 < length (job_due job pages)
 job_some Verify pages = pages_some pages
 job_some Export pages = content_some pages
+job_some (Find name low high) pages = find_some pages name low high
 
 pub recovered_some : (job : Job) (profile : Profile) (secret : Secret) (files : Files) → 0 < length (recovered_answers profile files (job_answers job profile secret))
 recovered_some job profile secret files =

@@ -6,6 +6,7 @@ use Rattle.std.proofs.lemmas.Slice.Eq.{bytes_eq-Decides}
 use Rattle.disk_side.specs.Published.{IsNew as IsAlone}
 use Rattle.cipher_profile.specs.Profile.{IsListed, usable}
 use Rattle.cipher_profile.specs.declared.profile.Profile.{Profile}
+use Rattle.cipher_profile.proofs.Layouts.{IsListed-laid_out}
 use Rattle.db_format.specs.declared.header.Header.{Header}
 use Rattle.edge_model.specs.Files.{File, Files, bytes_of}
 use Rattle.edge_model.specs.Images.{Each, LeavesOnly}
@@ -267,10 +268,10 @@ module _ {D : Type 0} (reads : D → Files) (images : D → Files → Type 0) (m
       HasNew main = HasNewPages start keys touched pages tells after main
 
       room : 120 ≤ usable keys.profile
-      room = search (rules, listed)
+      room = let content = (IsListed-laid_out keys.profile listed).content in omega (arith, content)
 
       size_some : 120 ≤ keys.profile.page_size
-      size_some = search (rules, listed)
+      size_some = let least = (IsListed-laid_out keys.profile listed).least in omega (arith, least)
 
       as_file : (main : List ℕ) → HasNew main → HasNewPages (start_of keys file n start.drawn) keys touched pages tells after main
       as_file main has = subst (λ (b : Base). HasNewPages (record { base = b; drawn = start.drawn }) keys touched pages tells after main) is_start has

@@ -1,5 +1,5 @@
 -- What `verify` answers of a file, from what it answers of its pages.
-use Rattle.std.proofs.Common.{◌≡◌, ◌⊎◌, ⊎_elim, ℕ, zero, suc, ◌≤◌, ◌<◌, Bool, true, false, is_some, List, [], ◌∷◌, length, Some, None, Result, Ok, Err, if◌then◌else◌, sym, ap, ◌∙◌, subst, arith}
+use Rattle.std.proofs.Common.{◌≡◌, ◌⊎◌, ⊎_elim, ℕ, ℤ, zero, suc, ◌≤◌, ◌<◌, Bool, true, false, is_some, List, [], ◌∷◌, length, Some, None, Result, Ok, Err, if◌then◌else◌, sym, ap, ◌∙◌, subst, arith}
 use Rattle.std.specs.Prelude.{nat_lt, slice_index_or}
 use Rattle.std.specs.List.{Contains}
 use Rattle.std.proofs.lemmas.Bool.{le-leb}
@@ -8,7 +8,7 @@ use Rattle.db_format.specs.Pages.{Pages, nothing}
 use Rattle.db_format.specs.Rules.{Rule, unless_broken}
 use Rattle.db_format.specs.declared.defect.Defect.{Defect}
 use Rattle.db_format.specs.declared.header.Header.{Header}
-use Rattle.btree_model.specs.Finding.{faults, refusals}
+use Rattle.btree_model.specs.Finding.{Finding, place, leaf, entry, key, fault, refused as refused_page, faults, refusals}
 use Rattle.btree_model.specs.Freelist.{freelist_walk}
 use Rattle.btree_model.specs.Parts.{counts, first_faults, first_refusals, parts}
 use Rattle.page_codec.specs.Page.{FileKeys, keys_of, opened}
@@ -30,11 +30,15 @@ use Rattle.sqlcipher_tool.specs.Renewal.{Renewal}
 use Rattle.sqlcipher_tool.specs.declared.status.Refusal.TheVariants.{FileThere, JournalThere, TooManyPages}
 use Rattle.btree_model.specs.Content.{content}
 use Rattle.btree_model.specs.Plain.{with_zeros}
+use Rattle.btree_model.specs.Schema.{schema_part}
+use Rattle.rowid_find.specs.Reach.{reach_all}
+use Rattle.rowid_find.specs.Table.{Table, at_root, no_table, unaccepted, no_kind, schema_rows, table_of}
 use Rattle.export_rows.specs.Report.{export_report}
 use Rattle.sqlcipher_tool.specs.Export.{content_answers}
+use Rattle.sqlcipher_tool.specs.Find.{before_stop, ended_answer, find_answers, first_stop, table_answer}
 use Rattle.sqlcipher_tool.specs.Job.{job_due}
 use Rattle.sqlcipher_tool.specs.declared.job.Job.{Job}
-use Rattle.sqlcipher_tool.specs.declared.job.Job.TheVariants.{Verify, Export}
+use Rattle.sqlcipher_tool.specs.declared.job.Job.TheVariants.{Verify, Export, Find}
 use Rattle.sqlcipher_tool.specs.Opening.{open_answer, unopened_answer}
 use Rattle.sqlcipher_tool.specs.Plain.{refused_in_use}
 use Rattle.sqlcipher_tool.specs.Promises.{AnswersOne, IsUnrecovered}
@@ -160,9 +164,31 @@ content_of_file pages =
     else_of_file (stop_answers (first_faults (parts pages)) (first_refusals (parts pages))) (done (export_report (content (with_zeros pages))) ∷ [])
     (defects_of_file (first_faults (parts pages)) (first_refusals (parts pages))) ((λ is. is), tt)
 
+met_of_file : (all found : List Finding) → IsOfFile (ended_answer found (first_stop all))
+met_of_file [] found is = is
+met_of_file (place n ∷ rest) found is = met_of_file rest found is
+met_of_file (leaf n ∷ rest) found is = met_of_file rest found is
+met_of_file (entry row ∷ rest) found is = met_of_file rest found is
+met_of_file (key k ∷ rest) found is = met_of_file rest found is
+met_of_file (fault d ∷ rest) found is = is
+met_of_file (refused_page n ∷ rest) found is = is
+
+table_of_file : (pages : Pages) (low high : ℤ) (found : Table) → IsOfFile (table_answer pages low high found)
+table_of_file pages low high (at_root root) = met_of_file (reach_all pages low high root) (before_stop (reach_all pages low high root))
+table_of_file pages low high no_table = λ is. is
+table_of_file pages low high (unaccepted root) = λ is. is
+table_of_file pages low high (no_kind root) = λ is. is
+
+find_of_file : (pages : Pages) (name : List ℕ) (low high : ℤ) → AreOfFile (find_answers pages name low high)
+find_of_file pages name low high =
+    let schema = schema_part pages nothing in
+    else_of_file (stop_answers (faults schema) (refusals schema)) (table_answer pages low high (table_of pages name (schema_rows pages)) ∷ [])
+    (defects_of_file (faults schema) (refusals schema)) (table_of_file pages low high (table_of pages name (schema_rows pages)), tt)
+
 job_of_file : (job : Job) (pages : Pages) → AreOfFile (job_due job pages)
 job_of_file Verify pages = pages_of_file pages
 job_of_file Export pages = content_of_file pages
+job_of_file (Find name low high) pages = find_of_file pages name low high
 
 open_of_file : (error : OpenError) → IsOfFile (open_answer error)
 open_of_file Empty is = is

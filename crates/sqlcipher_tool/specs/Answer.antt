@@ -2,7 +2,7 @@
 use Rattle.std.specs.Prelude.{◌≡◌, ◌⊎◌, ◌≤◌, ℕ, Bool, true, false, IsTrue, List, [], ◌∷◌, ◌++◌, Option, Some, None, if◌then◌else◌}
 use Rattle.edge_model.specs.Causes.{Rose}
 use Rattle.sqlcipher_tool.specs.declared.status.Refusal.{Refusal}
-use Rattle.sqlcipher_tool.specs.declared.status.Refusal.TheVariants.{NoTags, LayoutDiffers, KeyMissing, KeyEmpty, KeyTooLong, KeyForm, FileThere, JournalThere, Empty, Short, HeaderFault, WalMode, AutoVacuum, Ragged, TooLarge, PageTag, JournalPageSize, SuperJournal, Defect, TooManyPages}
+use Rattle.sqlcipher_tool.specs.declared.status.Refusal.TheVariants.{NoTags, LayoutDiffers, KeyMissing, KeyEmpty, KeyTooLong, KeyForm, FileThere, JournalThere, Empty, Short, HeaderFault, WalMode, AutoVacuum, Ragged, TooLarge, PageTag, JournalPageSize, SuperJournal, Defect, TooManyPages, NoTable}
 use Rattle.sqlcipher_tool.specs.declared.status.Status.{Status}
 use Rattle.sqlcipher_tool.specs.declared.status.Status.TheVariants.{Done, Usage, Refused, KeyRefused, DiskFault, OutputFault, InputFault, EntropyFault, OutOfMemory}
 use Rattle.sqlcipher_tool.specs.Text.{refusal_line, usage_line, key_refused_line}
@@ -112,6 +112,7 @@ is_early (JournalPageSize found) = false
 is_early SuperJournal = false
 is_early (Defect defect) = false
 is_early (TooManyPages limit) = false
+is_early NoTable = false
 
 -- it is a page whose tag does not hold
 abbrev pub is_page : Refusal → Bool
@@ -135,6 +136,7 @@ is_page (JournalPageSize found) = false
 is_page SuperJournal = false
 is_page (Defect defect) = false
 is_page (TooManyPages limit) = false
+is_page NoTable = false
 
 -- the one line of an answer that has one; pages whose tags do not hold have a line each
 abbrev pub line_of : Status → Option (List ℕ)
@@ -151,6 +153,19 @@ line_of OutOfMemory = None
 -- an answer of one line puts exactly that line
 abbrev pub PutsLine : Status → List ℕ → List ℕ → Type 0
 PutsLine status before after = (line : List ℕ) → line_of status ≡ Some line → after ≡ before ++ line
+
+-- it is a defect that was met
+abbrev pub is_defect : Status → Bool
+is_defect (Refused (Defect defect)) = true
+is_defect (Refused refusal) = false
+is_defect Done = false
+is_defect Usage = false
+is_defect KeyRefused = false
+is_defect DiskFault = false
+is_defect OutputFault = false
+is_defect InputFault = false
+is_defect EntropyFault = false
+is_defect OutOfMemory = false
 
 -- an answer that needs no file
 abbrev pub IsEarly : Status → Type 0

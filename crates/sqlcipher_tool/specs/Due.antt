@@ -9,13 +9,13 @@ use Rattle.cipher_profile.specs.KeyLine.{after_line, key_line}
 use Rattle.pager.specs.File.{main_of}
 use Rattle.sqlcipher_tool.specs.Answer.{Answer, refused, usage}
 use Rattle.sqlcipher_tool.specs.declared.command.Command.{Command}
-use Rattle.sqlcipher_tool.specs.declared.command.Command.TheVariants.{Tags, Header, Verify, Export, Probe, Recover, Stamp, Rekey, Migrate, Make}
+use Rattle.sqlcipher_tool.specs.declared.command.Command.TheVariants.{Tags, Header, Verify, Export, Find, Probe, Recover, Stamp, Rekey, Migrate, Make}
 use Rattle.sqlcipher_tool.specs.declared.status.Refusal.{Refusal}
 use Rattle.sqlcipher_tool.specs.declared.status.Refusal.TheVariants.{NoTags, LayoutDiffers, KeyMissing as RefusedMissing, KeyEmpty as RefusedEmpty, KeyTooLong as RefusedLong, KeyForm as RefusedForm}
 use Rattle.sqlcipher_tool.specs.declared.status.Status.TheVariants.{InputFault}
 use Rattle.sqlcipher_tool.specs.Header.{header_answer}
 use Rattle.sqlcipher_tool.specs.Job.{job_answers}
-use Rattle.sqlcipher_tool.specs.declared.job.Job.TheVariants.{Verify as VerifyPages, Export as ExportPages}
+use Rattle.sqlcipher_tool.specs.declared.job.Job.TheVariants.{Verify as VerifyPages, Export as ExportPages, Find as FindRows}
 use Rattle.sqlcipher_tool.specs.Make.{make_answers}
 use Rattle.sqlcipher_tool.specs.Migrate.{migrate_answers}
 use Rattle.sqlcipher_tool.specs.Probe.{probe_answer}
@@ -69,6 +69,8 @@ secret_answers (Verify profile) secrets files after =
     with_one secrets (λ secret. recovered_answers profile files (job_answers VerifyPages profile secret))
 secret_answers (Export profile) secrets files after =
     with_one secrets (λ secret. recovered_answers profile files (job_answers ExportPages profile secret))
+secret_answers (Find profile name low high) secrets files after =
+    with_one secrets (λ secret. recovered_answers profile files (job_answers (FindRows name low high) profile secret))
 secret_answers Probe secrets files after = with_one secrets (λ secret. probe_answer secret files ∷ [])
 secret_answers (Recover profile) secrets files after = recovery_answer (recovery_of profile files) ∷ []
 secret_answers (Stamp profile field value) secrets files after =

@@ -5,6 +5,7 @@ pub mod Crash
 pub mod Plain
 pub mod Due
 pub mod Export
+pub mod Find
 pub mod Header
 pub mod Holding
 pub mod Job

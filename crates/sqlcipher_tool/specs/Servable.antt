@@ -1,10 +1,15 @@
 -- Where nothing stands in the way of a command, so that Done alone is due to it.
 use Rattle.std.specs.Prelude.{◌≡◌, ◌⊎◌, ◌<◌, ◌≤◌, ◌*◌, ℕ, true, List, [], ◌∷◌, IsOk, Option, Some, None, Ok}
 use Rattle.btree_model.specs.Content.{Content}
+use Rattle.btree_model.specs.Finding.{is_sound}
+use Rattle.btree_model.specs.Records.{tree_part}
+use Rattle.btree_model.specs.Schema.{schema_part}
+use Rattle.btree_page.specs.declared.kind.Family.TheVariants.{Table}
 use Rattle.cipher_profile.specs.declared.keys.Secret.{Secret}
 use Rattle.cipher_profile.specs.declared.profile.Profile.{Profile}
 use Rattle.cipher_profile.specs.Profile.{IsListed, usable}
 use Rattle.db_format.specs.Count.{largest_database}
+use Rattle.db_format.specs.Pages.{nothing}
 use Rattle.edge_model.specs.Causes.{Rose}
 use Rattle.edge_model.specs.Files.{File, Files}
 use Rattle.db_maker.specs.Pages.{made_pages}
@@ -12,10 +17,12 @@ use Rattle.fresh_file.specs.State.{most_pages}
 use Rattle.migrate_job.specs.Bound.{pages_at_most}
 use Rattle.page_codec.specs.Page.{accepts, fits, keys_of}
 use Rattle.pager.specs.File.{main_of, page_stored, whole_pages}
-use Rattle.pager.specs.Pages.{is_number}
+use Rattle.pager.specs.Opening.{Opened}
+use Rattle.pager.specs.Pages.{is_number, opened_pages}
+use Rattle.rowid_find.specs.Table.{at_root, schema_rows, table_of}
 use Rattle.sqlcipher_tool.specs.Answer.{Answer, done}
 use Rattle.sqlcipher_tool.specs.declared.command.Command.{Command}
-use Rattle.sqlcipher_tool.specs.declared.command.Command.TheVariants.{Tags, Header, Verify, Export, Probe, Recover, Stamp, Rekey, Migrate, Make}
+use Rattle.sqlcipher_tool.specs.declared.command.Command.TheVariants.{Tags, Header, Verify, Export, Find, Probe, Recover, Stamp, Rekey, Migrate, Make}
 use Rattle.sqlcipher_tool.specs.declared.status.Status.{Status}
 use Rattle.sqlcipher_tool.specs.declared.status.Status.TheVariants.{Done, OutOfMemory}
 use Rattle.sqlcipher_tool.specs.Due.{key_lines, word_refusal}
@@ -68,6 +75,15 @@ pub record IsFree (profile : Profile) (rows : ℕ) (files : Files) : Type 0 wher
   pub no_journal : files.journal ≡ None
   pub few : made_pages (usable profile) rows ≤ most_pages profile
 
+-- the file opens, its schema has no defect and a table of this name, and the tree of that has no defect
+pub record HasTable (profile : Profile) (secret : Secret) (name : List ℕ) (file : List ℕ) : Type 0 where
+  pub opened : Opened
+  pub opens : opened_with profile secret file ≡ Ok opened
+  pub schema : is_sound (schema_part (opened_pages (keys_of profile secret file) file opened.count) nothing) ≡ true
+  pub root : ℕ
+  pub table : table_of (opened_pages (keys_of profile secret file) file opened.count) name (schema_rows (opened_pages (keys_of profile secret file) file opened.count)) ≡ at_root root
+  pub tree : is_sound (tree_part (opened_pages (keys_of profile secret file) file opened.count) Table nothing root) ≡ true
+
 -- nothing stands in the way of the command
 abbrev pub IsServable : Command → List Secret → Files → Type 0
 IsServable (Tags profile) secrets files = ForOne secrets (λ secret. AfterRecovery profile files (HasTags profile secret))
@@ -75,6 +91,7 @@ IsServable (Header profile) secrets files = ForOne secrets (λ secret. AfterReco
 IsServable (Verify profile) secrets files = ForOne secrets (λ secret. AfterRecovery profile files (λ file. IsClean (keys_of profile secret file) file))
 IsServable (Export profile) secrets files =
     ForOne secrets (λ secret. AfterRecovery profile files (λ file. (held : Content) × Opens (keys_of profile secret file) file held))
+IsServable (Find profile name low high) secrets files = ForOne secrets (λ secret. AfterRecovery profile files (HasTable profile secret name))
 IsServable Probe secrets files = ForOne secrets (λ secret. IsProbed secret files)
 IsServable (Recover profile) secrets files = IsOk (recovery_of profile files)
 IsServable (Stamp profile field value) secrets files =
@@ -105,6 +122,7 @@ IsReading profile (Tags other) = other ≡ profile
 IsReading profile (Header other) = other ≡ profile
 IsReading profile (Verify other) = other ≡ profile
 IsReading profile (Export other) = other ≡ profile
+IsReading profile (Find other name low high) = ⊥
 IsReading profile Probe = Unit {0}
 IsReading profile (Recover other) = other ≡ profile
 IsReading profile (Stamp other field value) = other ≡ profile

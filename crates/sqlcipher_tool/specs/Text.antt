@@ -1,15 +1,16 @@
 -- What is printed. Each line ends with a line feed, and numbers are decimal.
-use Rattle.std.specs.Prelude.{ℕ, List, [], ◌∷◌, ◌++◌, codes, decimal}
+use Rattle.std.specs.Prelude.{ℕ, ◌==◌, ◌&&◌, not, List, [], ◌∷◌, ◌++◌, codes, decimal, if◌then◌else◌}
 use Rattle.std.specs.Fmt.{signed_decimal}
 use Rattle.std.specs.List.{flat_map}
 use Rattle.btree_model.specs.Parts.{Counts}
+use Rattle.cipher_profile.specs.declared.profile.Profile.{Profile}
 use Rattle.db_format.specs.declared.defect.Defect.{Defect}
 use Rattle.db_format.specs.declared.defect.Defect.TheVariants.{TrunkFault, FreeCount, BadKind, BadCell, ChildOutOfRange, PageTwice, TooDeep, ChainShort, ChainLong, RowidOrder, RecordFault, SchemaRow, RootFault}
 use Rattle.db_format.specs.declared.header.Header.{Header}
 use Rattle.rollback_journal.specs.declared.recovery.Recovery.{Recovery}
 use Rattle.rollback_journal.specs.declared.recovery.Recovery.TheVariants.{Nothing, Cold, Played}
 use Rattle.sqlcipher_tool.specs.declared.status.Refusal.{Refusal}
-use Rattle.sqlcipher_tool.specs.declared.status.Refusal.TheVariants.{NoTags, LayoutDiffers, KeyMissing, KeyEmpty, KeyTooLong, KeyForm, FileThere, JournalThere, Empty, Short, HeaderFault, WalMode, AutoVacuum, Ragged, TooLarge, PageTag, JournalPageSize, SuperJournal, Defect as RefusedDefect, TooManyPages}
+use Rattle.sqlcipher_tool.specs.declared.status.Refusal.TheVariants.{NoTags, LayoutDiffers, KeyMissing, KeyEmpty, KeyTooLong, KeyForm, FileThere, JournalThere, Empty, Short, HeaderFault, WalMode, AutoVacuum, Ragged, TooLarge, PageTag, JournalPageSize, SuperJournal, Defect as RefusedDefect, TooManyPages, NoTable}
 
 -- what is said of a page
 abbrev pub of_page : ℕ → List ℕ → List ℕ
@@ -53,6 +54,7 @@ refusal_text (JournalPageSize found) = codes "journal page size " ++ decimal fou
 refusal_text SuperJournal = codes "journal names a super-journal"
 refusal_text (RefusedDefect defect) = defect_text defect
 refusal_text (TooManyPages limit) = codes "too many pages: limit " ++ decimal limit
+refusal_text NoTable = codes "no such table"
 
 abbrev pub line : List ℕ → List ℕ
 line text = text ++ 10 ∷ []
@@ -83,9 +85,15 @@ abbrev pub verify_report : Counts → List ℕ
 verify_report found =
     line (codes "ok: " ++ (decimal found.trees ++ (codes " trees, " ++ (decimal found.rows ++ (codes " entries, " ++ (decimal found.free ++ (codes " free pages, " ++ (decimal found.unused ++ codes " unused pages"))))))))
 
+-- the word of a profile: its version, and in version 4 the size of its pages where it is not the one that 4 has by itself
+abbrev pub profile_word : Profile → List ℕ
+profile_word profile =
+    decimal profile.version
+    ++ (if profile.version == 4 && not (profile.page_size == 4096) then codes ":" ++ decimal profile.page_size else [])
+
 -- what `probe` prints
-abbrev pub probe_report : ℕ → List ℕ
-probe_report version = line (codes "profile " ++ decimal version)
+abbrev pub probe_report : Profile → List ℕ
+probe_report profile = line (codes "profile " ++ profile_word profile)
 
 -- a name and a number
 abbrev pub field_line : List ℕ → ℕ → List ℕ

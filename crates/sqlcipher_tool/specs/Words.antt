@@ -1,10 +1,12 @@
--- The words of the command line. P and P2 name profiles, and N is one to ten digits, at most 4,294,967,295.
+-- The words of the command line. P and P2 name profiles, and N is one to ten digits, at most 4,294,967,295. NAME is any word. LOW and
+-- HIGH are one to 19 digits, with or without a minus before them, and from -2^63 to 2^63 - 1.
 --
 -- | words                      | command                         | key lines | draws |
 -- | `tags P`                   | Tags profile P                  | 1         | no    |
 -- | `header P`                 | Header profile P                | 1         | no    |
 -- | `verify P`                 | Verify profile P                | 1         | no    |
 -- | `export P`                 | Export profile P                | 1         | no    |
+-- | `find P NAME LOW HIGH`     | Find profile P NAME LOW HIGH    | 1         | no    |
 -- | `probe`                    | Probe                           | 1         | no    |
 -- | `recover P`                | Recover profile P               | 0         | no    |
 -- | `stamp P user-version N`   | Stamp profile P UserVersion N   | 1         | yes   |
@@ -12,17 +14,17 @@
 -- | `rekey P P2`               | Rekey profile P, profile P2     | 2         | yes   |
 -- | `migrate P P2`             | Migrate profile P, profile P2   | 2         | yes   |
 -- | `make P N`                 | Make profile P N                | 1         | yes   |
-use Rattle.std.specs.Prelude.{ℕ, ◌==◌, ◌&&◌, not, nat_le, nat_lt, Bool, true, false, List, [], ◌∷◌, length, map, Option, Some, None, codes, if◌then◌else◌}
+use Rattle.std.specs.Prelude.{ℕ, ℤ, pos, neg_ℤ, ◌^◌, ◌-◌, drop, ◌==◌, ◌&&◌, not, nat_le, nat_lt, Bool, true, false, List, [], ◌∷◌, length, map, Option, Some, None, codes, if◌then◌else◌}
 use Rattle.std.specs.Borrow.{Bor}
 use Rattle.std.specs.Char.{digit_value}
 use Rattle.std.specs.List.{list_all}
 use Rattle.std.specs.Option.{option_map, option_and_then}
 use Rattle.std.specs.Str.{bytes_eq}
-use Rattle.std.specs.Str.Parse.{digits_value}
+use Rattle.std.specs.Str.Parse.{digits_value, starts_with_minus}
 use Rattle.cipher_profile.specs.Profile.{IsListed, profile_named}
 use Rattle.cipher_profile.specs.declared.profile.Profile.{Profile}
 use Rattle.sqlcipher_tool.specs.declared.command.Command.{Command}
-use Rattle.sqlcipher_tool.specs.declared.command.Command.TheVariants.{Tags, Header, Verify, Export, Probe, Recover, Stamp, Rekey, Migrate, Make}
+use Rattle.sqlcipher_tool.specs.declared.command.Command.TheVariants.{Tags, Header, Verify, Export, Find, Probe, Recover, Stamp, Rekey, Migrate, Make}
 use Rattle.sqlcipher_tool.specs.declared.command.Field.{Field}
 use Rattle.sqlcipher_tool.specs.declared.command.Field.TheVariants.{UserVersion, ApplicationId}
 
@@ -34,6 +36,28 @@ is_number word =
 
 abbrev pub number_named : List ℕ → Option ℕ
 number_named word = if is_number word then Some (digits_value 10 word) else None
+
+-- the digits of a rowid, without its minus
+abbrev pub rowid_digits : List ℕ → List ℕ
+rowid_digits word = if starts_with_minus word then drop 1 word else word
+
+-- the greatest distance from 0 of a rowid with this sign
+abbrev pub most_of_sign : Bool → ℕ
+most_of_sign true = 2 ^ 63
+most_of_sign false = 2 ^ 63 - 1
+
+-- the word is a rowid
+abbrev pub is_rowid : List ℕ → Bool
+is_rowid word =
+    nat_le 1 (length (rowid_digits word)) && nat_le (length (rowid_digits word)) 19 && list_all (λ digit. nat_lt (digit_value digit) 10) (rowid_digits word)
+    && nat_le (digits_value 10 (rowid_digits word)) (most_of_sign (starts_with_minus word))
+
+abbrev pub rowid_value : List ℕ → ℤ
+rowid_value word =
+    if starts_with_minus word then neg_ℤ (pos (digits_value 10 (rowid_digits word))) else pos (digits_value 10 (rowid_digits word))
+
+abbrev pub rowid_named : List ℕ → Option ℤ
+rowid_named word = if is_rowid word then Some (rowid_value word) else None
 
 abbrev pub field_named : List ℕ → Option Field
 field_named word =
@@ -53,6 +77,11 @@ two_profiles command first second = option_and_then (λ old. option_map (λ new.
 abbrev pub make_form : List ℕ → List ℕ → Option Command
 make_form first second = option_and_then (λ profile. option_map (λ rows. Make profile rows) (number_named second)) (profile_named first)
 
+-- `find` with its four words
+abbrev pub find_form : List ℕ → List ℕ → List ℕ → List ℕ → Option Command
+find_form first second third fourth =
+    option_and_then (λ profile. option_and_then (λ low. option_map (λ high. Find profile second low high) (rowid_named fourth)) (rowid_named third)) (profile_named first)
+
 -- the command that the words make, or none
 abbrev pub form : List (List ℕ) → Option Command
 form [] = None
@@ -68,7 +97,8 @@ form (name ∷ first ∷ second ∷ []) =
     else (if bytes_eq name (codes "migrate") then two_profiles Migrate first second
     else (if bytes_eq name (codes "make") then make_form first second else None))
 form (name ∷ first ∷ second ∷ third ∷ []) = if bytes_eq name (codes "stamp") then stamp_form first second third else None
-form (name ∷ first ∷ second ∷ third ∷ fourth ∷ rest) = None
+form (name ∷ first ∷ second ∷ third ∷ fourth ∷ []) = if bytes_eq name (codes "find") then find_form first second third fourth else None
+form (name ∷ first ∷ second ∷ third ∷ fourth ∷ fifth ∷ rest) = None
 
 -- the command is of a profile that is served
 abbrev pub IsServed : Command → Type 0
@@ -76,6 +106,7 @@ IsServed (Tags profile) = IsListed profile
 IsServed (Header profile) = IsListed profile
 IsServed (Verify profile) = IsListed profile
 IsServed (Export profile) = IsListed profile
+IsServed (Find profile name low high) = IsListed profile
 IsServed Probe = Unit {0}
 IsServed (Recover profile) = IsListed profile
 IsServed (Stamp profile field value) = IsListed profile
@@ -89,6 +120,7 @@ lacks_tags (Tags profile) = profile.tag_len == 0
 lacks_tags (Header profile) = false
 lacks_tags (Verify profile) = false
 lacks_tags (Export profile) = false
+lacks_tags (Find profile name low high) = false
 lacks_tags Probe = false
 lacks_tags (Recover profile) = false
 lacks_tags (Stamp profile field value) = false
@@ -102,6 +134,7 @@ layouts_differ (Tags profile) = false
 layouts_differ (Header profile) = false
 layouts_differ (Verify profile) = false
 layouts_differ (Export profile) = false
+layouts_differ (Find profile name low high) = false
 layouts_differ Probe = false
 layouts_differ (Recover profile) = false
 layouts_differ (Stamp profile field value) = false
@@ -115,6 +148,7 @@ keys_taken (Tags profile) = 1
 keys_taken (Header profile) = 1
 keys_taken (Verify profile) = 1
 keys_taken (Export profile) = 1
+keys_taken (Find profile name low high) = 1
 keys_taken Probe = 1
 keys_taken (Recover profile) = 0
 keys_taken (Stamp profile field value) = 1
@@ -128,6 +162,7 @@ takes_memory (Tags profile) = true
 takes_memory (Header profile) = true
 takes_memory (Verify profile) = true
 takes_memory (Export profile) = true
+takes_memory (Find profile name low high) = true
 takes_memory Probe = false
 takes_memory (Recover profile) = true
 takes_memory (Stamp profile field value) = true
@@ -141,6 +176,7 @@ draws (Tags profile) = false
 draws (Header profile) = false
 draws (Verify profile) = false
 draws (Export profile) = false
+draws (Find profile name low high) = false
 draws Probe = false
 draws (Recover profile) = false
 draws (Stamp profile field value) = true
@@ -148,12 +184,27 @@ draws (Rekey old new) = true
 draws (Migrate old new) = true
 draws (Make profile rows) = true
 
+-- it prints rows before it has looked at all pages that it reads
+abbrev pub finds : Command → Bool
+finds (Tags profile) = false
+finds (Header profile) = false
+finds (Verify profile) = false
+finds (Export profile) = false
+finds (Find profile name low high) = true
+finds Probe = false
+finds (Recover profile) = false
+finds (Stamp profile field value) = false
+finds (Rekey old new) = false
+finds (Migrate old new) = false
+finds (Make profile rows) = false
+
 -- it writes a new file beside, in Fresh, which takes the place of Main
 abbrev pub writes_beside : Command → Bool
 writes_beside (Tags profile) = false
 writes_beside (Header profile) = false
 writes_beside (Verify profile) = false
 writes_beside (Export profile) = false
+writes_beside (Find profile name low high) = false
 writes_beside Probe = false
 writes_beside (Recover profile) = false
 writes_beside (Stamp profile field value) = false

@@ -2,10 +2,40 @@
 ghost use Rattle.std.specs.Prelude.{◌≡◌, ◌∷◌, [], IfSome};
 ghost use Rattle.sqlcipher_tool.specs.Due.{word_refusal};
 ghost use Rattle.sqlcipher_tool.specs.declared.command.Command.TheVariants.{Rekey as RekeyOf, Migrate as MigrateOf};
-ghost use Rattle.sqlcipher_tool.specs.Words.{form, stamp_form, two_profiles, make_form, field_named, number_named, texts, lacks_tags, layouts_differ, IsServed};
+ghost use Rattle.sqlcipher_tool.specs.Words.{form, find_form, stamp_form, two_profiles, make_form, field_named, number_named, rowid_named, texts, lacks_tags, layouts_differ, IsServed};
 
 use crate::status::Refusal;
 use cipher_profile::{Profile, profile_of};
+use std::marker::Model;
+
+/// The name of a table. Contracts see its bytes.
+#[derive(Drop)]
+pub struct Name<'w> {
+    text: &'w str,
+}
+
+impl<'w> Model for Name<'w> {
+    ghost use Rattle.std.specs.Prelude.{List, ℕ};
+
+    ghost Value = { List ℕ };
+
+    ghost view = { λ name. name.text.now };
+}
+
+impl<'w> Name<'w> {
+    fn new(text: &'w str) -> Name<'w>
+        ensures { result ≡ text.now }
+    {
+        Name { text }
+    }
+
+    /// Its bytes.
+    pub fn as_bytes(&self) -> &[u8]
+        ensures { result.now ≡ self.now }
+    {
+        self.text.as_bytes()
+    }
+}
 
 /// A field of the database header that can be stamped.
 #[derive(Clone, Copy, Debug, PartialEq, Eq)]
@@ -17,8 +47,8 @@ pub enum Field {
 }
 
 /// What the words ask for.
-#[derive(Clone, Copy, Debug, PartialEq, Eq)]
-pub enum Command {
+#[derive(Drop)]
+pub enum Command<'w> {
     /// Check the tag of every page.
     Tags(Profile),
     /// Print the fields of the database header.
@@ -27,6 +57,17 @@ pub enum Command {
     Verify(Profile),
     /// Print all rows and entries.
     Export(Profile),
+    /// Print the rows of a table whose rowids lie in a range.
+    Find {
+        /// The file's profile.
+        profile: Profile,
+        /// The table's name.
+        name: Name<'w>,
+        /// The lowest rowid.
+        low: i64,
+        /// The highest rowid.
+        high: i64,
+    },
     /// Find the profile.
     Probe,
     /// Play back a journal that a stop has left.
@@ -63,7 +104,7 @@ pub enum Command {
     },
 }
 
-impl Command {
+impl<'w> Command<'w> {
     /// Why it is refused by its words alone, if it is.
     pub fn refusal(&self) -> Option<Refusal>
         ensures { result ≡ word_refusal self.now }
@@ -86,6 +127,7 @@ impl Command {
             Command::Header(_)
             | Command::Verify(_)
             | Command::Export(_)
+            | Command::Find { .. }
             | Command::Probe
             | Command::Recover(_)
             | Command::Stamp { .. }
@@ -107,6 +149,7 @@ impl Command {
             | Command::Header(_)
             | Command::Verify(_)
             | Command::Export(_)
+            | Command::Find { .. }
             | Command::Probe
             | Command::Recover(_)
             | Command::Stamp { .. }
@@ -117,7 +160,7 @@ impl Command {
 }
 
 /// The command that the words make.
-pub fn parse_words(words: &[&str]) -> Option<Command>
+pub fn parse_words<'w>(words: &[&'w str]) -> Option<Command<'w>>
     ensures form { result ≡ form (texts words.now) }
     ensures served { IfSome result IsServed }
 {
@@ -126,12 +169,13 @@ pub fn parse_words(words: &[&str]) -> Option<Command>
         [name, word] => command_on(name, word),
         [name, first, second] => command_with(name, first, second),
         [name, first, second, third] if *name == "stamp" => stamp_with(first, second, third),
+        [name, first, second, third, fourth] => command_of_five(name, first, second, third, fourth),
         _ => None,
     }
 }
 
 // The command of this name on a file of the profile that the word names.
-fn command_on(name: &str, word: &str) -> Option<Command>
+fn command_on<'w>(name: &str, word: &str) -> Option<Command<'w>>
     ensures form { result ≡ form (name.now ∷ word.now ∷ []) }
     ensures served { IfSome result IsServed }
 {
@@ -155,7 +199,7 @@ fn command_on(name: &str, word: &str) -> Option<Command>
 }
 
 // The command of this name with two words.
-fn command_with(name: &str, first: &str, second: &str) -> Option<Command>
+fn command_with<'w>(name: &str, first: &str, second: &str) -> Option<Command<'w>>
     ensures form { result ≡ form (name.now ∷ first.now ∷ second.now ∷ []) }
     ensures served { IfSome result IsServed }
 {
@@ -171,8 +215,41 @@ fn command_with(name: &str, first: &str, second: &str) -> Option<Command>
     None
 }
 
+// The command of this name with four words.
+fn command_of_five<'w>(
+    name: &str,
+    first: &str,
+    second: &'w str,
+    third: &str,
+    fourth: &str,
+) -> Option<Command<'w>>
+    ensures form { result ≡ form (name.now ∷ first.now ∷ second.now ∷ third.now ∷ fourth.now ∷ []) }
+    ensures served { IfSome result IsServed }
+{
+    if name == "find" {
+        return find_with(first, second, third, fourth);
+    }
+    None
+}
+
+// `find` with its four words.
+fn find_with<'w>(first: &str, second: &'w str, third: &str, fourth: &str) -> Option<Command<'w>>
+    ensures form { result ≡ find_form first.now second.now third.now fourth.now }
+    ensures served { IfSome result IsServed }
+{
+    let profile = profile_of(first)?;
+    let low = rowid_of(third)?;
+    let high = rowid_of(fourth)?;
+    Some(Command::Find {
+        profile,
+        name: Name::new(second),
+        low,
+        high,
+    })
+}
+
 // `stamp` with its three words.
-fn stamp_with(first: &str, second: &str, third: &str) -> Option<Command>
+fn stamp_with<'w>(first: &str, second: &str, third: &str) -> Option<Command<'w>>
     ensures form { result ≡ stamp_form first.now second.now third.now }
     ensures served { IfSome result IsServed }
 {
@@ -187,7 +264,7 @@ fn stamp_with(first: &str, second: &str, third: &str) -> Option<Command>
 }
 
 // `rekey` with its two words.
-fn rekey_with(first: &str, second: &str) -> Option<Command>
+fn rekey_with<'w>(first: &str, second: &str) -> Option<Command<'w>>
     ensures form { result ≡ two_profiles RekeyOf first.now second.now }
     ensures served { IfSome result IsServed }
 {
@@ -197,7 +274,7 @@ fn rekey_with(first: &str, second: &str) -> Option<Command>
 }
 
 // `migrate` with its two words.
-fn migrate_with(first: &str, second: &str) -> Option<Command>
+fn migrate_with<'w>(first: &str, second: &str) -> Option<Command<'w>>
     ensures form { result ≡ two_profiles MigrateOf first.now second.now }
     ensures served { IfSome result IsServed }
 {
@@ -207,7 +284,7 @@ fn migrate_with(first: &str, second: &str) -> Option<Command>
 }
 
 // `make` with its two words.
-fn make_with(first: &str, second: &str) -> Option<Command>
+fn make_with<'w>(first: &str, second: &str) -> Option<Command<'w>>
     ensures form { result ≡ make_form first.now second.now }
     ensures served { IfSome result IsServed }
 {
@@ -236,6 +313,24 @@ fn number_of(word: &str) -> Option<u32>
         return None;
     }
     match word.parse::<u32>() {
+        Ok(number) => Some(number),
+        Err(_) => None,
+    }
+}
+
+// The rowid that a word of one to 19 digits names, with or without a minus before them, where eight bytes hold it.
+fn rowid_of(word: &str) -> Option<i64>
+    ensures { result ≡ rowid_named word.now }
+{
+    let bytes = word.as_bytes();
+    if bytes.len() == 0 || bytes[0] == b'+' {
+        return None;
+    }
+    let most = if bytes[0] == b'-' { 20 } else { 19 };
+    if bytes.len() > most {
+        return None;
+    }
+    match word.parse::<i64>() {
         Ok(number) => Some(number),
         Err(_) => None,
     }

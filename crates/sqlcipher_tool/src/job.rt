@@ -1,5 +1,5 @@
 // The jobs on the pages of a file that is only read, once it is recovered and opened.
-ghost use Rattle.std.specs.Prelude.{◌≡◌, ◌≤◌, Ok, false, IsTrue};
+ghost use Rattle.std.specs.Prelude.{◌≡◌, ◌≤◌, Ok, true, false, IsTrue};
 ghost use Rattle.edge_model.specs.Images.{From, LeavesOnly};
 ghost use Rattle.edge_model.specs.OnlyRead.{OnlyRead};
 ghost use Rattle.cipher_profile.specs.Profile.{IsListed};
@@ -12,16 +12,18 @@ ghost use Rattle.pager.specs.Pages.{opened_pages};
 ghost use Rattle.pager.specs.Reads.{DiskRead, Untouched};
 ghost use Rattle.rollback_journal.specs.Recovery.{Keeps};
 ghost use Rattle.sqlcipher_tool.specs.Behind.{HasOnlyRead, IsRecovered};
-ghost use Rattle.sqlcipher_tool.specs.Answer.{HasCauses, PutsLine};
+ghost use Rattle.sqlcipher_tool.specs.Answer.{HasCauses, PutsLine, is_defect};
 ghost use Rattle.sqlcipher_tool.specs.Holding.{disk_run};
 ghost use Rattle.sqlcipher_tool.specs.Opening.{AreRecovered};
 ghost use Rattle.sqlcipher_tool.specs.Promises.{AnswersOne, IsUnrecovered};
 ghost use Rattle.sqlcipher_tool.specs.Recovered.{recovered_answers};
-ghost use Rattle.sqlcipher_tool.specs.Job.{job_answers, job_due};
+ghost use Rattle.sqlcipher_tool.specs.Job.{job_answers, job_due, prints_rows};
 ghost use Rattle.sqlcipher_tool.specs.Untouched.{HasNoFile, IsUnwritten};
 
+use crate::command::Name;
 use crate::conclusion::conclude_stop;
 use crate::export::export_pages;
+use crate::find::find_pages;
 use crate::opening::open_main;
 use crate::recovery::recover_main;
 use crate::status::Status;
@@ -32,18 +34,27 @@ use pager::{OpenedFile, Pager};
 use std::alloc::Global;
 
 /// What is done with the pages of a file.
-#[derive(Clone, Copy, Debug, PartialEq, Eq)]
-pub enum Job {
+#[derive(Drop)]
+pub enum Job<'w> {
     /// Check the freelist, the tags of all pages in use, the schema and the trees.
     Verify,
     /// Print all rows and entries.
     Export,
+    /// Print the rows of a table whose rowids lie in a range.
+    Find {
+        /// The table's name.
+        name: Name<'w>,
+        /// The lowest rowid.
+        low: i64,
+        /// The highest rowid.
+        high: i64,
+    },
 }
 
 /// A job with this secret, after a recovery.
 pub fn answer_job<S: Sink, E: Entropy, D: Disk>(
     alloc: Global,
-    job: Job,
+    job: Job<'_>,
     profile: Profile,
     secret: &Secret,
     out: &mut S,
@@ -52,8 +63,8 @@ pub fn answer_job<S: Sink, E: Entropy, D: Disk>(
 ) -> Status
     requires { IsListed profile }
     ensures answer { IsTrue D.tells
-        → AnswersOne (recovered_answers profile (D.reads disk.old) (job_answers job profile secret.now)) result S.tells (S.taken out.old) (S.taken out.new) }
-    ensures line { IsTrue S.tells → PutsLine result (S.taken out.old) (S.taken out.new) }
+        → AnswersOne (recovered_answers profile (D.reads disk.old) (job_answers job.entry profile secret.now)) result S.tells (S.taken out.old) (S.taken out.new) }
+    ensures line { IsTrue S.tells → (prints_rows job.entry ≡ true → is_defect result ≡ false) → PutsLine result (S.taken out.old) (S.taken out.new) }
     ensures causes { HasCauses result (D.faults disk.old) (D.faults disk.new) (S.faults out.old) (S.faults out.new) }
     ensures keeps { IsTrue D.tells → LeavesOnly D.moment D.since disk.old disk.new (From (Keeps profile.page_size) (D.images disk.old)) }
     ensures draws { entropy.new ≡ entropy.old }
@@ -70,7 +81,7 @@ pub fn answer_job<S: Sink, E: Entropy, D: Disk>(
 // The job on Main as it reads.
 fn job_on_main<S: Sink, E: Entropy, D: Disk>(
     alloc: Global,
-    job: Job,
+    job: Job<'_>,
     profile: Profile,
     secret: &Secret,
     out: &mut S,
@@ -79,8 +90,8 @@ fn job_on_main<S: Sink, E: Entropy, D: Disk>(
 ) -> Status
     requires listed { IsListed profile }
     requires recovered { IsTrue D.tells → AreRecovered (D.reads disk.old) (D.images disk.old) }
-    ensures answer { IsTrue D.tells → AnswersOne (job_answers job profile secret.now (main_of (D.reads disk.old))) result S.tells (S.taken out.old) (S.taken out.new) }
-    ensures line { IsTrue S.tells → PutsLine result (S.taken out.old) (S.taken out.new) }
+    ensures answer { IsTrue D.tells → AnswersOne (job_answers job.entry profile secret.now (main_of (D.reads disk.old))) result S.tells (S.taken out.old) (S.taken out.new) }
+    ensures line { IsTrue S.tells → (prints_rows job.entry ≡ true → is_defect result ≡ false) → PutsLine result (S.taken out.old) (S.taken out.new) }
     ensures causes { HasCauses result (D.faults disk.old) (D.faults disk.new) (S.faults out.old) (S.faults out.new) }
     ensures draws { entropy.new ≡ entropy.old }
     ensures only_read { IsTrue D.tells → OnlyRead D.reads D.images D.moment D.since disk.old disk.new }
@@ -94,7 +105,7 @@ fn job_on_main<S: Sink, E: Entropy, D: Disk>(
 // The job on a file that was opened.
 fn job_on_file<S: Sink, E: Entropy, D: Disk>(
     alloc: Global,
-    job: Job,
+    job: Job<'_>,
     file: OpenedFile,
     out: &mut S,
     entropy: &mut E,
@@ -102,8 +113,8 @@ fn job_on_file<S: Sink, E: Entropy, D: Disk>(
 ) -> Status
     requires { IsTrue D.tells → file_opened file.codec (main_of (D.reads disk.old)) ≡ Ok (record { header = file.header; count = file.count }) }
     ensures answer { IsTrue D.tells
-        → AnswersOne (job_due job (opened_pages file.codec (main_of (D.reads disk.old)) file.count)) result S.tells (S.taken out.old) (S.taken out.new) }
-    ensures line { IsTrue S.tells → PutsLine result (S.taken out.old) (S.taken out.new) }
+        → AnswersOne (job_due job.entry (opened_pages file.codec (main_of (D.reads disk.old)) file.count)) result S.tells (S.taken out.old) (S.taken out.new) }
+    ensures line { IsTrue S.tells → (prints_rows job.entry ≡ true → is_defect result ≡ false) → PutsLine result (S.taken out.old) (S.taken out.new) }
     ensures causes { HasCauses result (D.faults disk.old) (D.faults disk.new) (S.faults out.old) (S.faults out.new) }
     ensures draws { entropy.new ≡ entropy.old }
     ensures only_read { IsTrue D.tells → OnlyRead D.reads D.images D.moment D.since disk.old disk.new }
@@ -120,7 +131,7 @@ fn job_on_file<S: Sink, E: Entropy, D: Disk>(
 // The job on the pages of a file.
 fn job_on_pages<S: Sink, E: Entropy, D: Disk>(
     alloc: Global,
-    job: Job,
+    job: Job<'_>,
     pager: &mut Pager<'_, D, E>,
     out: &mut S,
 ) -> Status
@@ -128,8 +139,8 @@ fn job_on_pages<S: Sink, E: Entropy, D: Disk>(
         → pager.old.header ≡ header_fields ((opened_pages pager.old.codec (main_of (D.reads pager.old.disk.now)) pager.old.count).page 1) }
     requires unpinned { pins_of pager.old.cache.held ≡ no_pins }
     ensures answer { IsTrue D.tells
-        → AnswersOne (job_due job (opened_pages pager.old.codec (main_of (D.reads pager.old.disk.now)) pager.old.count)) result S.tells (S.taken out.old) (S.taken out.new) }
-    ensures line { IsTrue S.tells → PutsLine result (S.taken out.old) (S.taken out.new) }
+        → AnswersOne (job_due job.entry (opened_pages pager.old.codec (main_of (D.reads pager.old.disk.now)) pager.old.count)) result S.tells (S.taken out.old) (S.taken out.new) }
+    ensures line { IsTrue S.tells → (prints_rows job.entry ≡ true → is_defect result ≡ false) → PutsLine result (S.taken out.old) (S.taken out.new) }
     ensures causes { HasCauses result (D.faults pager.old.disk.now) (D.faults pager.new.disk.now) (S.faults out.old) (S.faults out.new) }
     ensures disk { DiskRead D.tells D.reads D.images D.moment D.since D.faults pager.old.disk pager.new.disk }
     ensures entropy { Untouched pager.old.entropy pager.new.entropy }
@@ -137,5 +148,6 @@ fn job_on_pages<S: Sink, E: Entropy, D: Disk>(
     match job {
         Job::Verify => verify_pages(alloc, pager, out),
         Job::Export => export_pages(alloc, pager, out),
+        Job::Find { name, low, high } => find_pages(alloc, pager, &name, low, high, out),
     }
 }

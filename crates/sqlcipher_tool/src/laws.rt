@@ -1,5 +1,5 @@
 // What holds of the definitions themselves.
-ghost use Rattle.std.specs.Prelude.{◌≡◌, ◌≤◌, ◌∷◌, [], ℕ, Bool, true, List, Ok, Some};
+ghost use Rattle.std.specs.Prelude.{◌≡◌, ◌≤◌, ◌∷◌, [], ℕ, ℤ, Bool, true, List, Ok, Some};
 ghost use Rattle.std.specs.List.{Contains};
 ghost use Rattle.btree_model.specs.Content.{Content};
 ghost use Rattle.btree_model.specs.Finding.{is_sound};
@@ -20,6 +20,8 @@ ghost use Rattle.pager.specs.File.{page_stored};
 ghost use Rattle.pager.specs.Opening.{Opened, file_opened};
 ghost use Rattle.pager.specs.Pages.{opened_pages};
 ghost use Rattle.rekey_job.specs.Rekeyed.{IsRekeyed};
+ghost use Rattle.rowid_find.specs.Found.{found_rows};
+ghost use Rattle.rowid_find.specs.Lines.{found_report};
 ghost use Rattle.sqlcipher_tool.specs.Answer.{Answer, done};
 ghost use Rattle.sqlcipher_tool.specs.Due.{due, key_lines};
 ghost use Rattle.sqlcipher_tool.specs.Job.{job_answers};
@@ -29,10 +31,11 @@ ghost use Rattle.sqlcipher_tool.specs.Plain.{HaveSamePages, IsClean, IsSameInUse
 ghost use Rattle.sqlcipher_tool.specs.Promises.{AnswersOne};
 ghost use Rattle.sqlcipher_tool.specs.Rekey.{rekey_answers};
 ghost use Rattle.sqlcipher_tool.specs.Reported.{CanBeMigrated, CanBeRekeyed, IsExported, IsVerified, Reports};
+ghost use Rattle.sqlcipher_tool.specs.Servable.{HasTable};
 ghost use Rattle.sqlcipher_tool.specs.Text.{migrated_report, rekeyed_report, verify_report};
 ghost use Rattle.sqlcipher_tool.specs.Words.{form};
 ghost use Rattle.sqlcipher_tool.specs.declared.command.Command.TheVariants.{Export as ExportFile, Verify as VerifyFile};
-ghost use Rattle.sqlcipher_tool.specs.declared.job.Job.TheVariants.{Export, Verify};
+ghost use Rattle.sqlcipher_tool.specs.declared.job.Job.TheVariants.{Export, Find, Verify};
 ghost use Rattle.sqlcipher_tool.specs.declared.status.Status.TheVariants.{Done};
 
 /// A walk over a whole database reads no leaf of its freelist, whatever defects it meets behind the freelist.
@@ -71,6 +74,14 @@ pub fn verify_run_law()
 pub fn export_done_law()
     ensures { (profile : Profile) (secret : Secret) (file : List ℕ) (opened : Opened) (held : Content) → opened_with profile secret file ≡ Ok opened
         → Opens (keys_of profile secret file) file held → job_answers Export profile secret file ≡ done (export_report held) ∷ [] }
+{}
+
+/// Of a file that opens, whose schema has no defect and the table, and whose tree of that table has none, nothing but the rows of the range and
+/// their number is due to `find`.
+pub fn find_done_law()
+    ensures { (profile : Profile) (secret : Secret) (file name : List ℕ) (low high : ℤ) (has : HasTable profile secret name file)
+        → job_answers (Find name low high) profile secret file
+        ≡ done (found_report (found_rows (opened_pages (keys_of profile secret file) file has.opened.count) has.root low high)) ∷ [] }
 {}
 
 /// Where `export` may be done, the file opens, and the text is that of its content.

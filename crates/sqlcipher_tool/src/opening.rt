@@ -195,6 +195,7 @@ fn two_codecs<D: Disk>(
     ensures cause { HasCause (D.faults disk.old) (D.faults disk.new) result }
     ensures only_read { IsTrue D.tells → OnlyRead D.reads D.images D.moment D.since disk.old disk.new }
 {
+    let _usable = profile.usable();
     let mut salt = [0u8; 16];
     read_main(disk, 0, &mut salt)?;
     let keys = derive(secret, &profile, &salt);

@@ -1,20 +1,25 @@
 // `probe`: the first profile whose key fits.
-ghost use Rattle.std.specs.Prelude.{◌≡◌, ◌⊎◌, ◌≤◌, ◌==◌, ◌&&◌, nat_le, ℕ, List, length, find, take, None, Some, Err, IfOk, OnOk, IfErr, IsTrue, All};
+ghost use Rattle.std.specs.Prelude.{◌≡◌, ◌⊎◌, ◌≤◌, ◌<◌, length, slice_get, None, Some, Err, IfOk, OnOk, IfErr, IsTrue, All};
 ghost use Rattle.edge_model.specs.Causes.{HasCause, Rose};
 ghost use Rattle.edge_model.specs.OnlyRead.{OnlyRead};
-ghost use Rattle.cipher_profile.specs.Profile.{IsListed};
+ghost use Rattle.cipher_profile.specs.Profile.{IsListed, probed_profiles};
+ghost use Rattle.page_codec.specs.Page.{salt_of};
 ghost use Rattle.sqlcipher_tool.specs.Answer.{first_of, Puts, PutsLine, IsAnswered, HasCauses};
 ghost use Rattle.pager.specs.File.{main_of};
-ghost use Rattle.sqlcipher_tool.specs.Probe.{is_fitting, probed_profiles, probe_causes, probe_answer};
+ghost use Rattle.sqlcipher_tool.specs.Probe.{first_fitting, fits_file, probe_causes, probe_answer};
 ghost use Rattle.sqlcipher_tool.specs.Stop.{stop_answer, outcome_answer, IsLate};
 
 use crate::conclusion::conclude_outcome;
 use crate::opening::Stop;
 use crate::status::{Refusal, Status};
 use crate::text::{Text, probe_report};
-use cipher_profile::{PROFILES, Profile, Secret};
+use cipher_profile::{Profile, Secret, derive, derive_beside, probed_profiles};
 use edge_model::{Disk, Failed, Role, Sink};
-use pager::{codec_of, file_length};
+use page_codec::Codec;
+use pager::{MAX_PAGE, file_length, read_main, read_page};
+
+// The length of the shortest page of any profile, in bytes.
+const LEAST_PAGE: u64 = 1024;
 
 /// `probe` with this secret.
 pub fn probe<S: Sink, D: Disk>(secret: &Secret, out: &mut S, disk: &mut D) -> Status
@@ -41,7 +46,7 @@ fn probe_main<D: Disk>(disk: &mut D, secret: &Secret) -> Result<Text, Stop>
 {
     let length = probed_length(disk)?;
     match find_profile(disk, secret, length)? {
-        Some(profile) => Ok(probe_report(profile.version)),
+        Some(profile) => Ok(probe_report(&profile)),
         None => Err(Stop::KeyRefused),
     }
 }
@@ -70,41 +75,71 @@ fn probed_length<D: Disk>(disk: &mut D) -> Result<u64, Stop>
 // The first profile that fits Main, which has this length.
 fn find_profile<D: Disk>(disk: &mut D, secret: &Secret, len: u64) -> Result<Option<Profile>, Failed>
     requires { IsTrue D.tells → len ≡ length (main_of (D.reads disk.old)) }
-    ensures told { IfOk result (λ found. IsTrue D.tells → found ≡ find (is_fitting secret.now (main_of (D.reads disk.old))) probed_profiles) }
+    ensures told { IfOk result (λ found. IsTrue D.tells → found ≡ first_fitting secret.now (main_of (D.reads disk.old))) }
     ensures cause { HasCause (D.faults disk.old) (D.faults disk.new) result }
     ensures only_read { IsTrue D.tells → OnlyRead D.reads D.images D.moment D.since disk.old disk.new }
 {
-    let [oldest, second, third, newest] = PROFILES;
-    if fits_main(disk, newest, secret, len)? {
-        return Ok(Some(newest));
+    let short = len < LEAST_PAGE;
+    if short {
+        return Ok(None);
     }
-    if fits_main(disk, third, secret, len)? {
-        return Ok(Some(third));
-    }
-    if fits_main(disk, second, secret, len)? {
-        return Ok(Some(second));
-    }
-    if fits_main(disk, oldest, secret, len)? {
-        return Ok(Some(oldest));
+    let mut salt = [0u8; 16];
+    read_main(disk, 0, &mut salt)?;
+    find_with_salt(disk, secret, &salt, len)
+}
+
+// The same, where Main has this salt. A passphrase is stretched once for the profiles that stretch it alike, as all of version 4 do.
+fn find_with_salt<D: Disk>(
+    disk: &mut D,
+    secret: &Secret,
+    salt: &[u8; 16],
+    len: u64,
+) -> Result<Option<Profile>, Failed>
+    requires salt { IsTrue D.tells → salt.now ≡ salt_of (main_of (D.reads disk.old)) }
+    requires long { IsTrue D.tells → len ≡ length (main_of (D.reads disk.old)) }
+    ensures told { IfOk result (λ found. IsTrue D.tells → found ≡ first_fitting secret.now (main_of (D.reads disk.old))) }
+    ensures cause { HasCause (D.faults disk.old) (D.faults disk.new) result }
+    ensures only_read { IsTrue D.tells → OnlyRead D.reads D.images D.moment D.since disk.old disk.new }
+{
+    let mut known = profile_after(0);
+    let mut keys = derive(secret, &known, salt);
+    for tried in 0..10 {
+        let profile = profile_after(tried);
+        keys = derive_beside(secret, &profile, salt, &known, &keys);
+        known = profile;
+        let codec = Codec::new(profile, keys, *salt);
+        let fits = fits_main(disk, &codec, len)?;
+        if fits {
+            return Ok(Some(profile));
+        }
     }
     Ok(None)
 }
 
-// Whether Main, which has this length, has a page of the profile that the key fits.
-fn fits_main<D: Disk>(
-    disk: &mut D,
-    profile: Profile,
-    secret: &Secret,
-    len: u64,
-) -> Result<bool, Failed>
-    requires listed { IsListed profile }
-    requires long { IsTrue D.tells → len ≡ length (main_of (D.reads disk.old)) }
-    ensures told { IfOk result (λ fits. IsTrue D.tells → fits ≡ is_fitting secret.now (main_of (D.reads disk.old)) profile) }
+// The profile that is tried after so many others.
+fn profile_after(tried: usize) -> Profile
+    requires { tried < 10 }
+    ensures value { slice_get probed_profiles tried ≡ Some result }
+    ensures listed { IsListed result }
+{
+    let profiles = probed_profiles();
+    profiles[tried]
+}
+
+// Whether Main, which has this length, has a page of the codec's profile that the codec's key fits.
+fn fits_main<D: Disk>(disk: &mut D, codec: &Codec, len: u64) -> Result<bool, Failed>
+    requires { IsTrue D.tells → len ≡ length (main_of (D.reads disk.old)) }
+    ensures told { IfOk result (λ fits. IsTrue D.tells → fits ≡ fits_file codec.now (main_of (D.reads disk.old))) }
     ensures cause { HasCause (D.faults disk.old) (D.faults disk.new) result }
     ensures only_read { IsTrue D.tells → OnlyRead D.reads D.images D.moment D.since disk.old disk.new }
 {
+    let profile = *codec.profile();
+    let _usable = profile.usable();
     if len < u64::from(profile.page_size) {
         return Ok(false);
     }
-    Ok(codec_of(disk, profile, secret)?.1)
+    let mut buffer = [0u8; MAX_PAGE];
+    let page = &mut buffer[..profile.page_size as usize];
+    read_page(disk, 1, page)?;
+    Ok(codec.key_fits(page))
 }

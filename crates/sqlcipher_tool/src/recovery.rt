@@ -89,6 +89,7 @@ pub fn recover_main<D: Disk>(
     ensures cause { IfErr result (λ stop. stop ≡ Stop.DiskFault → Rose (D.faults disk.old) (D.faults disk.new)) }
     ensures later { D.faults disk.old ≤ D.faults disk.new }
 {
+    let _usable = profile.usable();
     match recover(alloc, disk, profile.page_size) {
         Ok(recovery) => Ok(recovery),
         Err(RecoverError::JournalPageSize { found }) => {

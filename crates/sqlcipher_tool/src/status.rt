@@ -70,6 +70,8 @@ pub enum Refusal {
         /// How many are served.
         limit: u32,
     },
+    /// The schema has no table of this name whose rows have rowids.
+    NoTable,
 }
 
 /// How a run ended.

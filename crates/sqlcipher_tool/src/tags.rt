@@ -1,5 +1,5 @@
 // `tags`: whether each whole page of Main is accepted.
-ghost use Rattle.std.specs.Prelude.{◌≡◌, ◌⊎◌, ◌+◌, ◌*◌, ◌/◌, ◌%◌, ◌<◌, ◌≤◌, None, ◌++◌, ◌∷◌, [], length, slice_get, option_to_list, Some, IfOk, IfErr, OnOk, OnErr, false, IsTrue, Err};
+ghost use Rattle.std.specs.Prelude.{◌≡◌, ◌⊎◌, ◌+◌, ◌-◌, ◌*◌, ◌/◌, ◌<◌, ◌≤◌, min, None, ◌++◌, ◌∷◌, [], length, slice_get, option_to_list, Some, IfOk, IfErr, OnOk, OnErr, false, IsTrue, Err};
 ghost use Rattle.edge_model.specs.Causes.{HasCause, Rose};
 ghost use Rattle.edge_model.specs.Images.{From, LeavesOnly};
 ghost use Rattle.edge_model.specs.OnlyRead.{OnlyRead};
@@ -28,11 +28,21 @@ use cipher_profile::{Profile, Secret};
 use db_format::LARGEST_DATABASE;
 use edge_model::{Disk, Failed, Sink};
 use page_codec::Codec;
-use pager::{MAX_PAGE, read_main};
+use pager::read_main;
 use std::alloc::Global;
 
-// How many pages are read at once.
-const BATCH: usize = 16;
+// How many bytes are read at once at most: the largest page.
+const BUFFER: usize = 65536;
+
+// And how many pages.
+const MOST_PAGES: usize = 16;
+
+// The pages of Main that stand in the buffer: those after the first so many, up to so many.
+#[derive(Clone, Copy, Debug, PartialEq, Eq)]
+struct Batch {
+    start: u32,
+    end: u32,
+}
 
 // What failed while pages were checked.
 #[derive(Clone, Copy, Debug, PartialEq, Eq)]
@@ -120,6 +130,7 @@ fn count_whole_pages(length: u64, profile: Profile) -> Result<u32, Stop>
     ensures pages { IfOk result (λ pages. (pages ≡ length / profile.page_size) × (pages * profile.page_size ≤ largest_database)) }
     ensures stop { IfErr result (λ stop. (stop ≡ Stop.Refused (TooLarge (length / profile.page_size))) × (largest_database < length / profile.page_size * profile.page_size)) }
 {
+    let _usable = profile.usable();
     let size = u64::from(profile.page_size);
     let pages = length / size;
     if pages * size > LARGEST_DATABASE {
@@ -169,15 +180,18 @@ fn check_pages<S: Sink, D: Disk>(
     ensures output_later { S.faults out.old ≤ S.faults out.new }
     ensures only_read { IsTrue D.tells → OnlyRead D.reads D.images D.moment D.since disk.old disk.new }
 {
-    let mut buffer = [0u8; BATCH * MAX_PAGE];
-    let size = codec.profile().page_size as usize;
+    let mut buffer = [0u8; BUFFER];
+    let profile = *codec.profile();
+    let _usable = profile.usable();
+    let size = profile.page_size as usize;
+    let mut batch = Batch { start: 0, end: 0 };
     let mut first = None;
     for done in 0..pages {
-        match load_batch(disk, size, done, pages, &mut buffer) {
-            Ok(()) => {}
+        match load_batch(disk, size, done, pages, batch, &mut buffer) {
+            Ok(loaded) => batch = loaded,
             Err(_) => return Err(CheckFault::Disk),
         }
-        let at = done as usize % BATCH * size;
+        let at = place_of(batch, done, size);
         match check_page(out, codec, done + 1, &buffer[at..at + size]) {
             Ok(refused) => first = first.or(refused),
             Err(_) => return Err(CheckFault::Output),
@@ -186,28 +200,64 @@ fn check_pages<S: Sink, D: Disk>(
     Ok(first)
 }
 
-// Reads the batch that begins after so many pages. Within a batch it is in the buffer already.
+// The batch that has the page after so many: the one that is there, or else the next, which is read.
 fn load_batch<D: Disk>(
     disk: &mut D,
     size: usize,
     done: u32,
     pages: u32,
+    batch: Batch,
     buffer: &mut [u8],
-) -> Result<(), Failed>
-    requires size { (512 ≤ size) × (size ≤ 4096) }
+) -> Result<Batch, Failed>
+    requires size { (512 ≤ size) × (size ≤ 65536) }
     requires room { length buffer.old ≡ 65536 }
     requires more { done < pages }
     requires whole { IsTrue D.tells → pages * size ≤ length (main_of (D.reads disk.old)) }
-    requires loaded { IsTrue D.tells → 0 < done % 16 → IsLoaded size pages done buffer.old (main_of (D.reads disk.old)) }
-    ensures loaded { OnOk result (IsTrue D.tells → IsLoaded size pages done buffer.new (main_of (D.reads disk.old))) }
+    requires before { batch.start ≤ done }
+    requires bounded { (batch.end - batch.start) * size ≤ 65536 }
+    requires loaded { IsTrue D.tells → IsLoaded size batch.start batch.end buffer.old (main_of (D.reads disk.old)) }
+    ensures here { IfOk result (λ batch. (batch.start ≤ done) × (done < batch.end)) }
+    ensures bounded { IfOk result (λ batch. (batch.end - batch.start) * size ≤ 65536) }
+    ensures loaded { IfOk result (λ batch. IsTrue D.tells → IsLoaded size batch.start batch.end buffer.new (main_of (D.reads disk.old))) }
     ensures cause { HasCause (D.faults disk.old) (D.faults disk.new) result }
     ensures only_read { IsTrue D.tells → OnlyRead D.reads D.images D.moment D.since disk.old disk.new }
 {
-    if done as usize % BATCH != 0 {
-        return Ok(());
+    if done < batch.end {
+        return Ok(batch);
     }
-    let count = BATCH.min((pages - done) as usize);
-    read_main(disk, done as u64 * size as u64, &mut buffer[..count * size])
+    let count = pages_at_once(size, pages - done);
+    read_main(
+        disk,
+        done as u64 * size as u64,
+        &mut buffer[..count as usize * size],
+    )?;
+    Ok(Batch {
+        start: done,
+        end: done + count,
+    })
+}
+
+// How many pages of this length are read at once where so many are left: as many whole ones as the buffer holds, and 16 at most.
+fn pages_at_once(size: usize, left: u32) -> u32
+    requires range { (512 ≤ size) × (size ≤ 65536) }
+    requires some { 1 ≤ left }
+    ensures value { result ≡ min left (min 16 (65536 / size)) }
+    ensures some { 1 ≤ result }
+    ensures bounded { result * size ≤ 65536 }
+{
+    let held = MOST_PAGES.min(BUFFER / size);
+    left.min(held as u32)
+}
+
+// Where the page after so many begins in the buffer, in bytes.
+#[tactic(auto, using(crate::proofs::Batches::slice_within))]
+fn place_of(batch: Batch, done: u32, size: usize) -> usize
+    requires here { (batch.start ≤ done) × (done < batch.end) }
+    requires bounded { (batch.end - batch.start) * size ≤ 65536 }
+    ensures value { result ≡ (done - batch.start) * size }
+    ensures within { result + size ≤ 65536 }
+{
+    (done - batch.start) as usize * size
 }
 
 // Page n of a file, which is stored so, where it is not accepted, for which it prints a line.

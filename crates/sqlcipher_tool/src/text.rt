@@ -3,9 +3,10 @@ ghost use Rattle.std.specs.Prelude.{◌≡◌, ◌+◌, ◌≤◌, ◌++◌, ◌
 ghost use Rattle.std.specs.Fmt.{signed_decimal};
 ghost use Rattle.edge_model.specs.Causes.{HasCause};
 ghost use Rattle.sqlcipher_tool.specs.Answer.{PutsPart};
-ghost use Rattle.sqlcipher_tool.specs.Text.{defect_text, of_page, verify_report, refusal_text, refusal_line, tags_report, probe_report, recovery_line, stamped_report, rekeyed_report, migrated_report, made_report, field_line, header_report, usage_line, key_refused_line};
+ghost use Rattle.sqlcipher_tool.specs.Text.{defect_text, of_page, verify_report, refusal_text, refusal_line, tags_report, probe_report, profile_word, recovery_line, stamped_report, rekeyed_report, migrated_report, made_report, field_line, header_report, usage_line, key_refused_line};
 
 use crate::status::Refusal;
+use cipher_profile::Profile;
 use db_format::{Defect, Header};
 use edge_model::{Failed, Sink, put_all};
 use itoa::Buffer;
@@ -182,6 +183,7 @@ fn refusal_text(refusal: &Refusal) -> Text
             text.push(b"too many pages: limit ");
             text.push_number(u64::from(*limit));
         }
+        Refusal::NoTable => text.push(b"no such table"),
     }
     text
 }
@@ -218,12 +220,27 @@ pub fn verify_report(trees: u64, rows: u64, free: u32, unused: u32) -> Text
 }
 
 /// The line of a profile whose key fits.
-pub fn probe_report(version: u8) -> Text
-    ensures { result ≡ probe_report version }
+pub fn probe_report(profile: &Profile) -> Text
+    ensures { result ≡ probe_report profile.now }
 {
     let mut text = Text::new();
-    text.push_around(b"profile ", u64::from(version), b"\n");
+    text.push(b"profile ");
+    push_word(&mut text, profile);
+    text.push(b"\n");
     text
+}
+
+// The word of a profile.
+fn push_word(text: &mut Text, profile: &Profile)
+    requires { length text.old ≤ 900 }
+    ensures word { text.new ≡ text.old ++ profile_word profile.now }
+    ensures short { length text.new ≤ length text.old + 50 }
+{
+    text.push_number(u64::from(profile.version));
+    if profile.version == 4 && profile.page_size != 4096 {
+        text.push(b":");
+        text.push_number(u64::from(profile.page_size));
+    }
 }
 
 /// The line of a recovery.

@@ -5,7 +5,7 @@ ghost use Rattle.cipher_profile.specs.KeyCauses.{UnlessFault};
 ghost use Rattle.edge_model.specs.Causes.{Rose};
 ghost use Rattle.cipher_profile.specs.declared.key_line.KeyError.{KeyError as KeyRefusal};
 ghost use Rattle.cipher_profile.specs.declared.keys.Secret.{Secret as Key};
-ghost use Rattle.sqlcipher_tool.specs.Answer.{IsEarly, Puts, PutsLine, HasDrawnCauses};
+ghost use Rattle.sqlcipher_tool.specs.Answer.{IsEarly, Puts, PutsLine, HasDrawnCauses, is_defect};
 ghost use Rattle.sqlcipher_tool.specs.Behind.{LeavesRecovered};
 ghost use Rattle.sqlcipher_tool.specs.Change.{command_of};
 ghost use Rattle.sqlcipher_tool.specs.Crash.{Keeps, Changes, GaveKeys, HasOwnDraws};
@@ -17,7 +17,7 @@ ghost use Rattle.sqlcipher_tool.specs.Text.{usage_line};
 ghost use Rattle.sqlcipher_tool.specs.Untouched.{LeavesAlone, recovers_by};
 ghost use Rattle.sqlcipher_tool.specs.declared.command.Command.{Command as Asked};
 ghost use Rattle.sqlcipher_tool.specs.declared.status.Refusal.{Refusal as Refused};
-ghost use Rattle.sqlcipher_tool.specs.Words.{draws, form, texts, keys_taken, lacks_tags, layouts_differ, takes_memory, writes_beside, IsServed};
+ghost use Rattle.sqlcipher_tool.specs.Words.{draws, finds, form, texts, keys_taken, lacks_tags, layouts_differ, takes_memory, writes_beside, IsServed};
 
 use crate::change::{Change, change_file};
 use crate::command::{Command, parse_words};
@@ -70,7 +70,8 @@ pub fn run<K: Source, S: Sink, E: Entropy, D: Disk>(
 
     // What is printed, where the input or the disk does not tell.
     ensures usage_text { IsTrue S.tells → form (texts words.now) ≡ None → Puts result usage_line (S.taken out.old) (S.taken out.new) }
-    ensures line { IsTrue S.tells → PutsLine result (S.taken out.old) (S.taken out.new) }
+    // before the line of a defect that `find` met, rows may stand
+    ensures line { IsTrue S.tells → (AreWordsThat finds (texts words.now) → is_defect result ≡ false) → PutsLine result (S.taken out.old) (S.taken out.new) }
     ensures input_text { result ≡ Status.InputFault → out.new ≡ out.old }
 
     // What is taken and drawn, and that an answer which needs no disk makes no call of it.
@@ -111,44 +112,44 @@ pub fn run<K: Source, S: Sink, E: Entropy, D: Disk>(
 // A command, with the input and the files.
 fn serve<K: Source, S: Sink, E: Entropy, D: Disk>(
     alloc: Global,
-    command: Command,
+    command: Command<'_>,
     input: &mut K,
     out: &mut S,
     entropy: &mut E,
     disk: &mut D,
 ) -> Status
     requires { IsServed command }
-    ensures word_refusals { (refusal : Refused) → word_refusal command ≡ Some refusal → (result ≡ Status.Refused refusal) ⊎ (result ≡ Status.OutputFault) }
-    ensures key_refusals { IsTrue K.tells → word_refusal command ≡ None → (error : KeyRefusal)
-        → key_lines (keys_taken command) (K.left input.old) ≡ Err error → IsAnsweredEarly result (key_answer error) }
-    ensures answer { (takes_keys command ≡ true → IsTrue K.tells) → IsTrue D.tells
-        → AnswersOne (asked_answers (word_refusal command) command (K.left input.old) (D.reads disk.old) (D.reads disk.new)) result S.tells (S.taken out.old) (S.taken out.new) }
+    ensures word_refusals { (refusal : Refused) → word_refusal command.entry ≡ Some refusal → (result ≡ Status.Refused refusal) ⊎ (result ≡ Status.OutputFault) }
+    ensures key_refusals { IsTrue K.tells → word_refusal command.entry ≡ None → (error : KeyRefusal)
+        → key_lines (keys_taken command.entry) (K.left input.old) ≡ Err error → IsAnsweredEarly result (key_answer error) }
+    ensures answer { (takes_keys command.entry ≡ true → IsTrue K.tells) → IsTrue D.tells
+        → AnswersOne (asked_answers (word_refusal command.entry) command.entry (K.left input.old) (D.reads disk.old) (D.reads disk.new)) result S.tells (S.taken out.old) (S.taken out.new) }
     ensures no_usage { result ≡ Status.Usage → ⊥ }
-    ensures input_fault { result ≡ Status.InputFault → Rose (K.faults input.old) (K.faults input.new) × (takes_keys command ≡ true) }
+    ensures input_fault { result ≡ Status.InputFault → Rose (K.faults input.old) (K.faults input.new) × (takes_keys command.entry ≡ true) }
     ensures output_fault { result ≡ Status.OutputFault → Rose (S.faults out.old) (S.faults out.new) }
     ensures disk_fault { result ≡ Status.DiskFault → Rose (D.faults disk.old) (D.faults disk.new) }
-    ensures entropy_fault { result ≡ Status.EntropyFault → Rose (E.faults entropy.old) (E.faults entropy.new) × (draws command ≡ true) }
-    ensures memory { result ≡ Status.OutOfMemory → (takes_memory command ≡ true) × (word_refusal command ≡ None)
-        × (IsTrue K.tells → (secrets : List Key) × (key_lines (keys_taken command) (K.left input.old) ≡ Ok secrets)) }
-    ensures line { IsTrue S.tells → PutsLine result (S.taken out.old) (S.taken out.new) }
+    ensures entropy_fault { result ≡ Status.EntropyFault → Rose (E.faults entropy.old) (E.faults entropy.new) × (draws command.entry ≡ true) }
+    ensures memory { result ≡ Status.OutOfMemory → (takes_memory command.entry ≡ true) × (word_refusal command.entry ≡ None)
+        × (IsTrue K.tells → (secrets : List Key) × (key_lines (keys_taken command.entry) (K.left input.old) ≡ Ok secrets)) }
+    ensures line { IsTrue S.tells → (finds command.entry ≡ true → is_defect result ≡ false) → PutsLine result (S.taken out.old) (S.taken out.new) }
     ensures input_text { result ≡ Status.InputFault → out.new ≡ out.old }
-    ensures refused_first { (refusal : Refused) → word_refusal command ≡ Some refusal → (input.new ≡ input.old) × (disk.new ≡ disk.old) }
-    ensures key_first { IsTrue K.tells → word_refusal command ≡ None → IsErr (key_lines (keys_taken command) (K.left input.old)) → disk.new ≡ disk.old }
+    ensures refused_first { (refusal : Refused) → word_refusal command.entry ≡ Some refusal → (input.new ≡ input.old) × (disk.new ≡ disk.old) }
+    ensures key_first { IsTrue K.tells → word_refusal command.entry ≡ None → IsErr (key_lines (keys_taken command.entry) (K.left input.old)) → disk.new ≡ disk.old }
     ensures early_first { IsEarly result → disk.new ≡ disk.old }
     ensures fault_first { result ≡ Status.InputFault → disk.new ≡ disk.old }
-    ensures takes { IsTrue K.tells → word_refusal command ≡ None → TakesLines result (keys_taken command) (K.left input.old) (K.left input.new) }
-    ensures takes_none { takes_keys command ≡ false → input.new ≡ input.old }
-    ensures draws { draws command ≡ false → entropy.new ≡ entropy.old }
-    ensures undrawn { IsTrue D.tells → is_in_the_way command (D.reads disk.old) ≡ true → entropy.new ≡ entropy.old }
+    ensures takes { IsTrue K.tells → word_refusal command.entry ≡ None → TakesLines result (keys_taken command.entry) (K.left input.old) (K.left input.new) }
+    ensures takes_none { takes_keys command.entry ≡ false → input.new ≡ input.old }
+    ensures draws { draws command.entry ≡ false → entropy.new ≡ entropy.old }
+    ensures undrawn { IsTrue D.tells → is_in_the_way command.entry (D.reads disk.old) ≡ true → entropy.new ≡ entropy.old }
     ensures own_draws { IsTrue D.tells → IsTrue E.tells → result ≡ Status.Done
-        → HasOwnDraws command (GaveKeys K.tells (key_lines (keys_taken command) (K.left input.old))) (main_of (D.reads disk.new)) (drop (length (E.drawn entropy.old)) (E.drawn entropy.new)) }
+        → HasOwnDraws command.entry (GaveKeys K.tells (key_lines (keys_taken command.entry) (K.left input.old))) (main_of (D.reads disk.new)) (drop (length (E.drawn entropy.old)) (E.drawn entropy.new)) }
     ensures unrecovered { IsTrue D.tells → IsUnrecovered result → D.reads disk.new ≡ D.reads disk.old }
-    ensures recovered { IsTrue D.tells → LeavesRecovered result (draws command) (recovers_by command) (disk_run D.reads D.images D.moment D.since disk.old disk.new) }
-    ensures untouched { IsTrue D.tells → LeavesAlone (recovers_by command) (disk_run D.reads D.images D.moment D.since disk.old disk.new) }
-    ensures fresh_gone { IsTrue D.tells → result ≡ Status.Done → writes_beside command ≡ true → (D.reads disk.new).fresh ≡ None }
-    ensures keeps { IsTrue D.tells → Keeps command (disk_run D.reads D.images D.moment D.since disk.old disk.new) }
+    ensures recovered { IsTrue D.tells → LeavesRecovered result (draws command.entry) (recovers_by command.entry) (disk_run D.reads D.images D.moment D.since disk.old disk.new) }
+    ensures untouched { IsTrue D.tells → LeavesAlone (recovers_by command.entry) (disk_run D.reads D.images D.moment D.since disk.old disk.new) }
+    ensures fresh_gone { IsTrue D.tells → result ≡ Status.Done → writes_beside command.entry ≡ true → (D.reads disk.new).fresh ≡ None }
+    ensures keeps { IsTrue D.tells → Keeps command.entry (disk_run D.reads D.images D.moment D.since disk.old disk.new) }
     ensures changes { IsTrue D.tells
-        → Changes result command (GaveKeys K.tells (key_lines (keys_taken command) (K.left input.old))) E.tells (drop (length (E.drawn entropy.old)) (E.drawn entropy.new)) (disk_run D.reads D.images D.moment D.since disk.old disk.new) }
+        → Changes result command.entry (GaveKeys K.tells (key_lines (keys_taken command.entry) (K.left input.old))) E.tells (drop (length (E.drawn entropy.old)) (E.drawn entropy.new)) (disk_run D.reads D.images D.moment D.since disk.old disk.new) }
     ensures input_later { K.faults input.old ≤ K.faults input.new }
     ensures output_later { S.faults out.old ≤ S.faults out.new }
     ensures disk_later { D.faults disk.old ≤ D.faults disk.new }
@@ -169,6 +170,7 @@ fn serve<K: Source, S: Sink, E: Entropy, D: Disk>(
         | Command::Header(_)
         | Command::Verify(_)
         | Command::Export(_)
+        | Command::Find { .. }
         | Command::Probe
         | Command::Stamp { .. }
         | Command::Make { .. } => serve_keyed(alloc, command, input, out, entropy, disk),
@@ -178,7 +180,7 @@ fn serve<K: Source, S: Sink, E: Entropy, D: Disk>(
 // A command that takes a key line.
 fn serve_keyed<K: Source, S: Sink, E: Entropy, D: Disk>(
     alloc: Global,
-    command: Command,
+    command: Command<'_>,
     input: &mut K,
     out: &mut S,
     entropy: &mut E,
@@ -189,31 +191,31 @@ fn serve_keyed<K: Source, S: Sink, E: Entropy, D: Disk>(
     requires keyed { keys_taken command ≡ 1 }
     ensures key_refusals { IsTrue K.tells → (error : KeyRefusal) → key_lines 1 (K.left input.old) ≡ Err error → IsAnsweredEarly result (key_answer error) }
     ensures answer { IsTrue K.tells → IsTrue D.tells
-        → AnswersOne (keyed_answers command (key_lines 1 (K.left input.old)) (D.reads disk.old) (D.reads disk.new)) result S.tells (S.taken out.old) (S.taken out.new) }
+        → AnswersOne (keyed_answers command.entry (key_lines 1 (K.left input.old)) (D.reads disk.old) (D.reads disk.new)) result S.tells (S.taken out.old) (S.taken out.new) }
     ensures no_usage { result ≡ Status.Usage → ⊥ }
     ensures input_fault { result ≡ Status.InputFault → Rose (K.faults input.old) (K.faults input.new) }
     ensures output_fault { result ≡ Status.OutputFault → Rose (S.faults out.old) (S.faults out.new) }
     ensures disk_fault { result ≡ Status.DiskFault → Rose (D.faults disk.old) (D.faults disk.new) }
-    ensures entropy_fault { result ≡ Status.EntropyFault → Rose (E.faults entropy.old) (E.faults entropy.new) × (draws command ≡ true) }
-    ensures memory { result ≡ Status.OutOfMemory → takes_memory command ≡ true }
+    ensures entropy_fault { result ≡ Status.EntropyFault → Rose (E.faults entropy.old) (E.faults entropy.new) × (draws command.entry ≡ true) }
+    ensures memory { result ≡ Status.OutOfMemory → takes_memory command.entry ≡ true }
     ensures memory_keys { result ≡ Status.OutOfMemory → IsTrue K.tells → (secrets : List Key) × (key_lines 1 (K.left input.old) ≡ Ok secrets) }
-    ensures line { IsTrue S.tells → PutsLine result (S.taken out.old) (S.taken out.new) }
+    ensures line { IsTrue S.tells → (finds command.entry ≡ true → is_defect result ≡ false) → PutsLine result (S.taken out.old) (S.taken out.new) }
     ensures input_text { result ≡ Status.InputFault → out.new ≡ out.old }
     ensures key_first { IsTrue K.tells → IsErr (key_lines 1 (K.left input.old)) → disk.new ≡ disk.old }
     ensures early_first { IsEarly result → disk.new ≡ disk.old }
     ensures fault_first { result ≡ Status.InputFault → disk.new ≡ disk.old }
     ensures takes { IsTrue K.tells → TakesLines result 1 (K.left input.old) (K.left input.new) }
-    ensures draws { draws command ≡ false → entropy.new ≡ entropy.old }
-    ensures undrawn { IsTrue D.tells → is_in_the_way command (D.reads disk.old) ≡ true → entropy.new ≡ entropy.old }
+    ensures draws { draws command.entry ≡ false → entropy.new ≡ entropy.old }
+    ensures undrawn { IsTrue D.tells → is_in_the_way command.entry (D.reads disk.old) ≡ true → entropy.new ≡ entropy.old }
     ensures own_draws { IsTrue D.tells → IsTrue E.tells → result ≡ Status.Done
-        → HasOwnDraws command (GaveKeys K.tells (key_lines 1 (K.left input.old))) (main_of (D.reads disk.new)) (drop (length (E.drawn entropy.old)) (E.drawn entropy.new)) }
+        → HasOwnDraws command.entry (GaveKeys K.tells (key_lines 1 (K.left input.old))) (main_of (D.reads disk.new)) (drop (length (E.drawn entropy.old)) (E.drawn entropy.new)) }
     ensures unrecovered { IsTrue D.tells → IsUnrecovered result → D.reads disk.new ≡ D.reads disk.old }
-    ensures recovered { IsTrue D.tells → LeavesRecovered result (draws command) (recovers_by command) (disk_run D.reads D.images D.moment D.since disk.old disk.new) }
-    ensures untouched { IsTrue D.tells → LeavesAlone (recovers_by command) (disk_run D.reads D.images D.moment D.since disk.old disk.new) }
-    ensures fresh_gone { IsTrue D.tells → result ≡ Status.Done → writes_beside command ≡ true → (D.reads disk.new).fresh ≡ None }
-    ensures keeps { IsTrue D.tells → Keeps command (disk_run D.reads D.images D.moment D.since disk.old disk.new) }
+    ensures recovered { IsTrue D.tells → LeavesRecovered result (draws command.entry) (recovers_by command.entry) (disk_run D.reads D.images D.moment D.since disk.old disk.new) }
+    ensures untouched { IsTrue D.tells → LeavesAlone (recovers_by command.entry) (disk_run D.reads D.images D.moment D.since disk.old disk.new) }
+    ensures fresh_gone { IsTrue D.tells → result ≡ Status.Done → writes_beside command.entry ≡ true → (D.reads disk.new).fresh ≡ None }
+    ensures keeps { IsTrue D.tells → Keeps command.entry (disk_run D.reads D.images D.moment D.since disk.old disk.new) }
     ensures changes { IsTrue D.tells
-        → Changes result command (GaveKeys K.tells (key_lines 1 (K.left input.old))) E.tells (drop (length (E.drawn entropy.old)) (E.drawn entropy.new)) (disk_run D.reads D.images D.moment D.since disk.old disk.new) }
+        → Changes result command.entry (GaveKeys K.tells (key_lines 1 (K.left input.old))) E.tells (drop (length (E.drawn entropy.old)) (E.drawn entropy.new)) (disk_run D.reads D.images D.moment D.since disk.old disk.new) }
     ensures entropy_later { E.faults entropy.old ≤ E.faults entropy.new }
     ensures input_later { K.faults input.old ≤ K.faults input.new }
     ensures output_later { S.faults out.old ≤ S.faults out.new }
@@ -228,7 +230,7 @@ fn serve_keyed<K: Source, S: Sink, E: Entropy, D: Disk>(
 // A command with its secret.
 fn carry_out<S: Sink, E: Entropy, D: Disk>(
     alloc: Global,
-    command: Command,
+    command: Command<'_>,
     secret: &Secret,
     out: &mut S,
     entropy: &mut E,
@@ -238,21 +240,21 @@ fn carry_out<S: Sink, E: Entropy, D: Disk>(
     requires tagged { lacks_tags command ≡ false }
     requires keyed { keys_taken command ≡ 1 }
     ensures answer { IsTrue D.tells
-        → AnswersOne (secret_answers command (secret.now ∷ []) (D.reads disk.old) (D.reads disk.new)) result S.tells (S.taken out.old) (S.taken out.new) }
-    ensures line { IsTrue S.tells → PutsLine result (S.taken out.old) (S.taken out.new) }
-    ensures memory { result ≡ Status.OutOfMemory → takes_memory command ≡ true }
-    ensures causes { HasDrawnCauses result (draws command) (D.faults disk.old) (D.faults disk.new) (S.faults out.old) (S.faults out.new) (E.faults entropy.old) (E.faults entropy.new) }
-    ensures draws { draws command ≡ false → entropy.new ≡ entropy.old }
-    ensures undrawn { IsTrue D.tells → is_in_the_way command (D.reads disk.old) ≡ true → entropy.new ≡ entropy.old }
+        → AnswersOne (secret_answers command.entry (secret.now ∷ []) (D.reads disk.old) (D.reads disk.new)) result S.tells (S.taken out.old) (S.taken out.new) }
+    ensures line { IsTrue S.tells → (finds command.entry ≡ true → is_defect result ≡ false) → PutsLine result (S.taken out.old) (S.taken out.new) }
+    ensures memory { result ≡ Status.OutOfMemory → takes_memory command.entry ≡ true }
+    ensures causes { HasDrawnCauses result (draws command.entry) (D.faults disk.old) (D.faults disk.new) (S.faults out.old) (S.faults out.new) (E.faults entropy.old) (E.faults entropy.new) }
+    ensures draws { draws command.entry ≡ false → entropy.new ≡ entropy.old }
+    ensures undrawn { IsTrue D.tells → is_in_the_way command.entry (D.reads disk.old) ≡ true → entropy.new ≡ entropy.old }
     ensures own_draws { IsTrue D.tells → IsTrue E.tells → result ≡ Status.Done
-        → HasOwnDraws command (λ secrets. secrets ≡ secret.now ∷ []) (main_of (D.reads disk.new)) (drop (length (E.drawn entropy.old)) (E.drawn entropy.new)) }
+        → HasOwnDraws command.entry (λ secrets. secrets ≡ secret.now ∷ []) (main_of (D.reads disk.new)) (drop (length (E.drawn entropy.old)) (E.drawn entropy.new)) }
     ensures unrecovered { IsTrue D.tells → IsUnrecovered result → D.reads disk.new ≡ D.reads disk.old }
-    ensures recovered { IsTrue D.tells → LeavesRecovered result (draws command) (recovers_by command) (disk_run D.reads D.images D.moment D.since disk.old disk.new) }
-    ensures untouched { IsTrue D.tells → LeavesAlone (recovers_by command) (disk_run D.reads D.images D.moment D.since disk.old disk.new) }
-    ensures fresh_gone { IsTrue D.tells → result ≡ Status.Done → writes_beside command ≡ true → (D.reads disk.new).fresh ≡ None }
-    ensures keeps { IsTrue D.tells → Keeps command (disk_run D.reads D.images D.moment D.since disk.old disk.new) }
+    ensures recovered { IsTrue D.tells → LeavesRecovered result (draws command.entry) (recovers_by command.entry) (disk_run D.reads D.images D.moment D.since disk.old disk.new) }
+    ensures untouched { IsTrue D.tells → LeavesAlone (recovers_by command.entry) (disk_run D.reads D.images D.moment D.since disk.old disk.new) }
+    ensures fresh_gone { IsTrue D.tells → result ≡ Status.Done → writes_beside command.entry ≡ true → (D.reads disk.new).fresh ≡ None }
+    ensures keeps { IsTrue D.tells → Keeps command.entry (disk_run D.reads D.images D.moment D.since disk.old disk.new) }
     ensures changes { IsTrue D.tells
-        → Changes result command (λ secrets. secrets ≡ secret.now ∷ []) E.tells (drop (length (E.drawn entropy.old)) (E.drawn entropy.new)) (disk_run D.reads D.images D.moment D.since disk.old disk.new) }
+        → Changes result command.entry (λ secrets. secrets ≡ secret.now ∷ []) E.tells (drop (length (E.drawn entropy.old)) (E.drawn entropy.new)) (disk_run D.reads D.images D.moment D.since disk.old disk.new) }
 {
     match command {
         Command::Tags(profile) => tags(alloc, profile, secret, out, disk),
@@ -262,6 +264,15 @@ fn carry_out<S: Sink, E: Entropy, D: Disk>(
         }
         Command::Export(profile) => {
             answer_job(alloc, Job::Export, profile, secret, out, entropy, disk)
+        }
+        Command::Find {
+            profile,
+            name,
+            low,
+            high,
+        } => {
+            let job = Job::Find { name, low, high };
+            answer_job(alloc, job, profile, secret, out, entropy, disk)
         }
         Command::Probe => probe(secret, out, disk),
         Command::Stamp {

@@ -3,6 +3,8 @@
 
     hostile_files.py PROGRAM FOLDER SEED FIRST COUNT     makes the files FIRST to FIRST + COUNT - 1 of a seed, runs each command
                                                          on a copy of each, and compares what it says and leaves
+    hostile_files.py finds PROGRAM FOLDER SEED FIRST COUNT     the same files, but many runs of `find` alone on each whose schema can be
+                                                               read, over ranges of its tables' rowids
     hostile_files.py make SEED NUMBER FOLDER             writes one of them, as `file` with `keys` and what lies beside it
 
 For each command the reference says which lines may be printed and what the files are afterwards. Where a part of a file has several
@@ -14,6 +16,7 @@ Each wrong answer is a line of standard output. The last line is tab-separated `
 import collections
 import os
 import random
+import shlex
 import signal
 import sqlite3
 import subprocess
@@ -22,18 +25,22 @@ import tempfile
 
 from hostile_pages import KEY, SALT, Maker, Parts
 from sqlcipher_formats import (
-    JOURNAL_MAGIC, JOURNAL_MARK, PROFILES, Codec, Database, Refused, be, draw_source, export_lines, header_text, journal_checksum,
-    journal_sector, journal_segments, probe_line, recover, tag_lines, verify_lines, whole_main)
+    JOURNAL_MAGIC, JOURNAL_MARK, PROFILES, Codec, Database, Refused, be, draw_source, export_lines, find_lines, header_text,
+    journal_checksum, journal_sector, journal_segments, probe_line, recover, tag_lines, verify_lines, whole_main)
 from sqlcipher_oracle import blank_plain, make_plain
 
 NEW_KEY = b"x'ffffffffffffffffffffffffffffffffffffffffffffffffffffffffffffffff'"
 WRONG_KEY = b"x'" + b"5a" * 32 + b"'"
 NUMBER = 3735928559     # the user version that is set
-MEMORY = 32768          # KiB of address space for a run
+MEMORY = os.environ.get("MEMORY", "32768")      # KiB of address space for a run; a program that `rt try` compiled needs `unlimited`
 SECONDS = 10            # of the processor for a run
 HANGS = 120             # seconds by the clock for all runs on one file
 EDGES = (0, 1, 2, 3, 127, 128, 255, 256, 2 ** 15, 2 ** 16 - 1, 2 ** 24, 2 ** 31 - 1, 2 ** 31, 2 ** 32 - 1)
-COMMANDS = ("tags", "header", "verify", "export", "probe", "recover", "stamp", "rekey", "migrate")
+# A file of version 4 with pages of another size once in a while: it has few pages, or takes long to make.
+PROFILE_WORDS = tuple("1234") * 4 + tuple(word for word in PROFILES if ":" in word)
+COMMANDS = ("tags", "header", "verify", "export", "find", "probe", "recover", "stamp", "rekey", "migrate")
+FINDS = 8               # runs of `find` on a file, where they are tried alone
+LEAST, MOST = -2 ** 63, 2 ** 63 - 1
 
 
 # ------------------------------------------------------------------ sound files
@@ -78,13 +85,14 @@ def sound_files(profile):
 # ------------------------------------------------------------------ hostile files
 
 class Hostile:
-    """One file, and what lies beside it: `main`, `journal` and `fresh` are bytes or none."""
+    """One file, and what lies beside it: `main`, `journal` and `fresh` are bytes or none. `find` has the words of that command."""
 
     def __init__(self, seed, number, sound):
-        self.rng = random.Random(f"{seed} {number}")
+        self.name = f"{seed} {number}"
+        self.rng = random.Random(self.name)
         rng = self.rng
-        self.word = rng.choice("1234")
-        self.other = rng.choice("1234")
+        self.word = rng.choice(PROFILE_WORDS)
+        self.other = rng.choice(PROFILE_WORDS)
         self.profile = PROFILES[self.word]
         self.codec = Codec(self.profile, KEY, SALT)
         self.draw = draw_source(seed=rng.randrange(2 ** 32))
@@ -305,7 +313,9 @@ class Answers:
             self.line, self.recovered, self.refusal = None, file.main, refusal
         self.journal = file.journal if self.refusal or self.line == "nothing" else None
         self.codec = Codec(self.profile, file.key, self.recovered[:16])
-        self.shared = {}
+        self.shared, self.searched = {}, None
+        self.finds = self.choose_finds()
+        self.file.find = next(self.finds)
 
     def database(self):
         return Parts(whole_main(self.recovered, self.profile), self.codec)
@@ -360,6 +370,59 @@ class Answers:
         texts = [first] + [line for line in lines if line != first]
         return (0 if first.startswith(done) else 2), [line.replace(" | ", "\n") + "\n" for line in texts]
 
+    def choose_finds(self):
+        """(name, low, high) again and again: mostly of a table that the schema has, about rowids that are there."""
+        rng, tables, names = random.Random(f"{self.file.name} find"), [], ["none", "T", "a_t", "v"]
+        try:
+            database = self.database()
+            for _, values, root in database.schema_part()[0]:
+                name = values[1][1].decode(errors="replace") if values[1][0] == "text" else ""
+                if name.isascii() and name.isprintable():
+                    names.append(name)
+                    entries, defects = database.tree(root, (5, 13)) if root and values[0] == ("text", b"table") else ([], [root])
+                    tables += [(name, [rowid for _, rowid, _ in entries])] if entries or not defects else []
+        except Refused:
+            pass
+        while True:
+            name, rowids = rng.choice(tables) if tables and rng.random() < 0.9 else (rng.choice(names), [])
+            one, other = rng.choice(rowids or [-1, 0, 1, 5, MOST]), rng.choice(rowids or [7])
+            low, high = rng.choice(((one, one), (one, one), (one, other), (one, other), (min(one, other), max(one, other)), (LEAST, MOST),
+                                    (LEAST, one), (one, MOST), (one, one - 1), (one + 1, one + 2), (one - 2, one - 1)))
+            yield name, min(max(low, LEAST), MOST), min(max(high, LEAST), MOST)
+
+    def allowed_find(self):
+        return self.found(self.file.find)
+
+    def found(self, find):
+        """What the reference answers to these words of `find`: it walks to the first defect on its way, and prints the rows before it."""
+        self.ready()
+        name, low, high = find
+        lines, database, status = [], Database(self.recovered, self.codec), 0
+        try:
+            for line in find_lines(database, name.encode(), low, high):
+                lines.append(line)
+        except Refused as refusal:
+            lines.append(str(refusal))
+            status = refusal.code
+        text = "".join(f"{line}\n" for line in lines)
+        wrong = self.wrong_find(find, status, text)
+        if wrong:
+            raise AssertionError(f"the reference answers {text!r:.300} to {find}: {wrong}")
+        return status, [text]
+
+    def wrong_find(self, find, status, text):
+        """What is wrong with an answer to these words of `find`, or none. Any defect of the schema may be said, then any of the tree."""
+        try:
+            return self.find_answers(find).wrong(status, text)
+        except Refused as refusal:
+            return None if (status, text) == (refusal.code, f"{refusal}\n") else f"status {refusal.code} is wanted with '{refusal}'"
+
+    def find_answers(self, find):
+        self.ready()
+        self.searched = self.searched or self.database()
+        name, low, high = find
+        return self.searched.find_answers(name.encode(), low, high)
+
     def allowed_probe(self):
         if self.file.journal is not None:
             raise Refused("journal is there")
@@ -391,18 +454,24 @@ class Answers:
         if status >= 128:
             return f"it crashed or was stopped: {status}"
         wanted, texts = self.allowed(command)
-        if status != wanted:
+        if command == "find":
+            wrong = self.wrong_find(self.file.find, status, text)
+            if wrong:
+                return wrong
+        elif status != wanted:
             return f"status {status}, and {wanted} is wanted with {(texts or ['migrated'])[0]!r:.200}"
-        if texts is not None and text not in texts:
+        elif texts is not None and text not in texts:
             return f"none of {texts!r:.600} is printed"
         if wanted == 0 and command in ("stamp", "rekey", "migrate"):
             return self.wrong_change(command, text, left)
         keeps_all = command == "probe" or command == "tags" and not self.profile.tag_len
-        main, journal = (self.file.main, self.file.journal) if keeps_all else (self.recovered, self.journal)
-        if left != (main, journal, self.file.fresh):
-            return "the files are not left as they were: " + ", ".join(
-                name for name, is_left, was in zip(("file", "journal", "migrated"), left, (main, journal, self.file.fresh)) if is_left != was)
-        return None
+        return self.wrong_left(left, *((self.file.main, self.file.journal) if keeps_all else (self.recovered, self.journal)))
+
+    def wrong_left(self, left, main, journal):
+        if left == (main, journal, self.file.fresh):
+            return None
+        return "the files are not left as they were: " + ", ".join(
+            name for name, is_left, was in zip(("file", "journal", "migrated"), left, (main, journal, self.file.fresh)) if is_left != was)
 
     def wrong_change(self, command, text, left):
         main, journal, fresh = left
@@ -451,33 +520,59 @@ class Answers:
 # ------------------------------------------------------------------ runs
 
 def words_of(command, file):
-    rest = {"probe": [], "stamp": [file.word, "user-version", str(NUMBER)], "rekey": [file.word, file.word], "migrate": [file.word, file.other]}
+    rest = {"probe": [], "stamp": [file.word, "user-version", str(NUMBER)], "rekey": [file.word, file.word], "migrate": [file.word, file.other],
+            "find": find_words(file, file.find)}
     return [command] + rest.get(command, [file.word])
+
+
+def find_words(file, find):
+    return [file.word, *map(str, find)]
+
+
+def lay(folder, name, file):
+    """A new folder of this name with the file, and the keys beside it."""
+    place = os.path.join(folder, name)
+    os.makedirs(place, exist_ok=True)
+    for old in os.listdir(place):
+        os.remove(os.path.join(place, old))
+    file.write(place)
+    with open(os.path.join(folder, "keys"), "wb") as keys:
+        keys.write(file.key + b"\n" + NEW_KEY + b"\n")
+    return place
+
+
+def statuses_of(program, runs):
+    """The status of each run, or what is wrong with all of them. A run is (folder, words, where its text goes)."""
+    script = [f"ulimit -v {MEMORY}; ulimit -t {SECONDS}; ulimit -c 0"]
+    for place, words, text in runs:
+        script.append(f'cd {place} && {{ "$0" file {shlex.join(words)} < ../keys > ../{text}.text 2> ../{text}.errors; echo $?; cd ..; }}')
+    started = subprocess.Popen(["sh", "-c", "\n".join(script), program], stdout=subprocess.PIPE, start_new_session=True)
+    try:
+        statuses = started.communicate(timeout=HANGS)[0].split()
+    except subprocess.TimeoutExpired:
+        os.killpg(started.pid, signal.SIGKILL)
+        started.wait()
+        return f"a command takes more than {HANGS} seconds"
+    if len(statuses) != len(runs):
+        return f"{len(statuses)} commands of {len(runs)} ended"
+    return list(map(int, statuses))
 
 
 def run_all(program, folder, file):
     """{command: (status, text, files left)}, or what is wrong with all of them. Each runs in a folder of its own."""
-    script = [f"ulimit -v {MEMORY}; ulimit -t {SECONDS}; ulimit -c 0"]
-    for command in COMMANDS:
-        place = os.path.join(folder, command)
-        os.makedirs(place, exist_ok=True)
-        for name in os.listdir(place):
-            os.remove(os.path.join(place, name))
-        file.write(place)
-        words = " ".join(words_of(command, file))
-        script.append(f"cd {place} && {{ \"$0\" file {words} < ../keys > ../{command}.text 2> ../{command}.errors; echo $?; cd ..; }}")
-    with open(os.path.join(folder, "keys"), "wb") as keys:
-        keys.write(file.key + b"\n" + NEW_KEY + b"\n")
-    runs = subprocess.Popen(["sh", "-c", "\n".join(script), program], stdout=subprocess.PIPE, start_new_session=True)
-    try:
-        statuses = runs.communicate(timeout=HANGS)[0].split()
-    except subprocess.TimeoutExpired:
-        os.killpg(runs.pid, signal.SIGKILL)
-        runs.wait()
-        return f"a command takes more than {HANGS} seconds"
-    if len(statuses) != len(COMMANDS):
-        return f"{len(statuses)} commands of {len(COMMANDS)} ended"
-    return {command: (int(status), *left_by(folder, command)) for command, status in zip(COMMANDS, statuses)}
+    statuses = statuses_of(program, [(lay(folder, command, file), words_of(command, file), command) for command in COMMANDS])
+    if isinstance(statuses, str):
+        return statuses
+    return {command: (status, text_of(folder, command), left_in(folder, command)) for command, status in zip(COMMANDS, statuses)}
+
+
+def run_finds(program, folder, file, finds):
+    """([(status, text)] of these runs of `find` after one another, files left), or what is wrong with all of them."""
+    place = lay(folder, "find", file)
+    statuses = statuses_of(program, [(place, ["find", *find_words(file, find)], f"find-{number}") for number, find in enumerate(finds)])
+    if isinstance(statuses, str):
+        return statuses
+    return [(status, text_of(folder, f"find-{number}")) for number, status in enumerate(statuses)], left_in(folder, "find")
 
 
 def read_or_none(path):
@@ -488,18 +583,25 @@ def read_or_none(path):
         return None
 
 
-def left_by(folder, command):
-    text = read_or_none(os.path.join(folder, command + ".text")).decode(errors="replace")
-    return text, tuple(read_or_none(os.path.join(folder, command, name)) for name in ("file", "file-journal", "file-migrated"))
+def text_of(folder, name):
+    return read_or_none(os.path.join(folder, name + ".text")).decode(errors="replace")
+
+
+def left_in(folder, name):
+    return tuple(read_or_none(os.path.join(folder, name, file)) for file in ("file", "file-journal", "file-migrated"))
 
 
 def say(text):
     print(text, flush=True)
 
 
-def run(program, folder, seed, first, count):
+def sound_of_layouts():
     layouts = {(it.page_size, it.reserve): it for it in PROFILES.values()}
-    sound = {layout: sound_files(profile) for layout, profile in layouts.items()}
+    return {layout: sound_files(profile) for layout, profile in layouts.items()}
+
+
+def run(program, folder, seed, first, count):
+    sound = sound_of_layouts()
     counts = collections.Counter()
     for number in range(first, first + count):
         file = hostile(seed, number, sound)
@@ -524,14 +626,59 @@ def run(program, folder, seed, first, count):
             else:
                 counts["refused"] += 1
                 counts["another defect of the same part"] += text != answers.allowed(command)[1][0]
-    say("\t".join(f"{name}={counts[name]}" for name in (
-        "files", "journals", "played back", "runs", "sound or done", "changed", "refused", "another defect of the same part", "wrong")))
+    end(counts, ("files", "journals", "played back", "runs", "sound or done", "changed", "refused", "another defect of the same part", "wrong"))
+
+
+def finds(program, folder, seed, first, count):
+    """Many runs of `find` on each file whose schema can be read, and whose key fits."""
+    sound = sound_of_layouts()
+    counts = collections.Counter()
+    for number in range(first, first + count):
+        file = hostile(seed, number, sound)
+        answers = Answers(file)
+        counts["files"] += 1
+        try:
+            answers.ready()
+            if answers.database().schema_part()[1]:
+                continue
+        except Refused:
+            continue
+        counts["looked into"] += 1
+        asked = [find for find, _ in zip(answers.finds, range(FINDS))]
+        found = run_finds(program, folder, file, asked)
+        label = f"file {number} of seed {seed} ({', '.join(file.kinds)})"
+        if isinstance(found, str):
+            counts["wrong"] += 1
+            say(f"{label}: {found}")
+            continue
+        answered, left = found
+        wrong = answers.wrong_left(left, answers.recovered, answers.journal)
+        if wrong:
+            counts["wrong"] += 1
+            say(f"{label}: {wrong}")
+        for find, (status, text) in zip(asked, answered):
+            wrong = answers.wrong_find(find, status, text)
+            counts["runs"] += 1
+            if wrong:
+                counts["wrong"] += 1
+                say(f"{label}, find {' '.join(find_words(file, find))}: {text!r:.200} with status {status}: {wrong}")
+                continue
+            has_defect = bool(answers.find_answers(find).refusals)
+            counts["done beside a defect" if status == 0 and has_defect else "done" if status == 0 else
+                   "no such table" if text == "no such table\n" else "refused"] += 1
+            counts["rows before a refusal"] += status == 2 and text.count("\n") > 1
+            counts["another answer"] += (status, [text]) != answers.found(find)
+    end(counts, ("files", "looked into", "runs", "done", "done beside a defect", "refused", "rows before a refusal", "no such table",
+                 "another answer", "wrong"))
+
+
+def end(counts, names):
+    say("\t".join(f"{name}={counts[name]}" for name in names))
     sys.exit(1 if counts["wrong"] else 0)
 
 
 def make(seed, number, folder):
-    layouts = {(it.page_size, it.reserve): it for it in PROFILES.values()}
-    file = hostile(seed, number, {layout: sound_files(profile) for layout, profile in layouts.items()})
+    file = hostile(seed, number, sound_of_layouts())
     os.makedirs(folder, exist_ok=True)
     file.write(folder)
     with open(os.path.join(folder, "keys"), "wb") as keys:
@@ -546,7 +693,8 @@ def make(seed, number, folder):
 if __name__ == "__main__":
     if len(sys.argv) == 5 and sys.argv[1] == "make":
         make(sys.argv[2], int(sys.argv[3]), sys.argv[4])
-    elif len(sys.argv) == 6:
-        run(os.path.abspath(sys.argv[1]), os.path.abspath(sys.argv[2]), sys.argv[3], int(sys.argv[4]), int(sys.argv[5]))
+    elif len(sys.argv) in (6, 7) and (len(sys.argv) == 6 or sys.argv[1] == "finds"):
+        program, folder, seed, first, count = sys.argv[-5:]
+        (run if len(sys.argv) == 6 else finds)(os.path.abspath(program), os.path.abspath(folder), seed, int(first), int(count))
     else:
         sys.exit(__doc__)

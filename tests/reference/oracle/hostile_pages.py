@@ -4,7 +4,11 @@ Trees point anywhere, chains meet, freelists loop, some tags are turned (`Maker`
 those of the earliest part that has a defect: each defect of that part is one, whatever comes before it there (`Parts`).
 `hostile_files.py` runs the program on such files.
 """
-from sqlcipher_formats import Database, Refused, be, local_len, read_record, read_tree_page
+from dataclasses import dataclass, field
+
+from sqlcipher_formats import (
+    PATH_LIMIT, TABLE_INTERIOR, TABLE_LEAF, Database, Entry, Refused, be, children_between, entry_line, local_len, read_record,
+    read_tree_page)
 from sqlcipher_oracle import blank_plain
 
 KEY = b"x'000102030405060708090a0b0c0d0e0f101112131415161718191a1b1c1d1e1f'"
@@ -153,6 +157,10 @@ class Maker:
 class Parts(Database):
     """The defects of each part, all of them: a walk goes on behind a defect wherever the page can be read."""
 
+    def __init__(self, main, codec):
+        super().__init__(main, codec)
+        self.searched = {}
+
     def tag(self, n):
         return self.codec.tag_holds(n, self.stored(n))
 
@@ -260,10 +268,11 @@ class Parts(Database):
     def tags_part(self):
         return [f"page {n}: tag refused" for n in range(1, self.count + 1) if n not in self.leaves and not self.tag(n)]
 
-    def trees_part(self):
-        rows, found = self.tree(1, (5, 13))
-        roots = []
-        for _, rowid, payload in rows:
+    def schema_part(self):
+        """(rows as (rowid, values, root), defects) of the schema. The root is 0 where there is no tree."""
+        entries, found = self.tree(1, (5, 13))
+        rows = []
+        for _, rowid, payload in entries:
             values = read_record(payload)
             if values is None:
                 continue
@@ -273,8 +282,13 @@ class Parts(Database):
             root = values[3][1] or 0
             if root and not self.in_range(root):
                 found.append(f"root fault in row {rowid}")
-            elif root:
-                roots.append(root)
+            else:
+                rows.append((rowid, values, root))
+        return rows, found
+
+    def trees_part(self):
+        rows, found = self.schema_part()
+        roots = [root for _, _, root in rows if root]
         entries = len(rows)
         for root in roots:
             if found:
@@ -284,3 +298,180 @@ class Parts(Database):
         if found:
             return found
         return [f"ok: {len(roots) + 1} trees, {entries} entries, {self.free} free pages, {self.count - len(self.seen)} unused pages"]
+
+    def find_answers(self, name, low, high):
+        """What `find` may answer. It looks at the schema, and then at one tree: its table's root is looked for in order of rowid."""
+        if name not in self.searched:
+            self.searched[name] = self.search(name)
+        found = self.searched[name]
+        return found.answers(low, high) if isinstance(found, Unfolded) else Finds([found] if isinstance(found, str) else found)
+
+    def search(self, name):
+        """The table of this name, or the refusals one of which has to be said."""
+        self.seen = set()
+        rows, found = self.schema_part()
+        if found:
+            return found
+        for _, values, root in rows:
+            if root and values[:2] == [("text", b"table"), ("text", name)]:
+                if not self.tag(root):
+                    return f"page {root}: tag refused"
+                if self.plain(root)[0] not in (2, 5, 10, 13):
+                    return f"page {root}: bad kind"
+                if self.plain(root)[0] in (5, 13):
+                    return Unfolded(self, root)
+        return "no such table"
+
+
+@dataclass
+class Finds:
+    """What `find` may answer: one of these refusals, with these rows before it, or else what it prints where it is done."""
+    refusals: list
+    done: str = None
+    rows: set = field(default_factory=set)
+
+    def wrong(self, status, text):
+        """What is wrong with an answer, or none."""
+        if status == 0:
+            return None if self.done is not None and text == self.done else f"{self.done!r:.300} is to be printed, or one of {self.refusals!r:.300}"
+        *rows, last = text.splitlines() or [""]
+        if status != 2 or not text.endswith("\n") or last not in self.refusals:
+            return f"status {status}, and 2 is wanted with one of {self.refusals!r:.300}, or 0 with {self.done!r:.300}"
+        others = [row for row in rows if row not in self.rows]
+        return f"before the refusal stands {others[0]!r:.200}, which is no row of the range" if others else None
+
+
+class Unfolded:
+    """The pages of a table's tree on every path from its root, behind a page that is met twice too. Each page is read once."""
+    MANY = 20000        # rows; a tree in circles has more than can be listed
+
+    def __init__(self, parts, root):
+        met = parts.seen.copy()     # pages of the schema
+        self.entries, self.found = parts.tree(root, (5, 13))
+        self.parts, self.root = parts, root
+        self.pages, self.listed, self.defects = {}, {}, set()
+        layer, links = {root}, {}
+        for depth in range(1, PATH_LIMIT + 2):
+            if depth > PATH_LIMIT:
+                self.defects.update(f"page {n}: too deep" for n in layer)
+                break
+            for n in layer:
+                if n not in links:
+                    links[n] = self.look_at(n)
+            layer = {child for n in layer for child in self.children(n) if parts.in_range(child)}
+        self.defects.update(f"page {n}: page twice" for n in self.met_twice(links) | met & {root, *links, *(it for to in links.values() for it in to)})
+
+    def children(self, n):
+        kind, cells, right = self.pages[n] or (None, [], 0)
+        return [cell.left for cell in cells] + [right] if kind == TABLE_INTERIOR else []
+
+    def look_at(self, n):
+        """The pages to which page n leads, its children and those of its chains. Its defects, rows and cells are kept."""
+        parts, self.pages[n] = self.parts, None
+        if not parts.tag(n):
+            self.defects.add(f"page {n}: tag refused")
+            return []
+        try:
+            kind, cells, right = read_tree_page(parts.plain(n), n, (5, 13))
+        except Refused as refusal:
+            self.defects.add(str(refusal))
+            return []
+        if kind == TABLE_INTERIOR:
+            self.pages[n] = kind, cells, right
+            children = self.children(n)
+            if not all(map(parts.in_range, children)):
+                self.defects.add(f"page {n}: child out of range")
+            return list(filter(parts.in_range, children))
+        links, rows = [], []
+        for cell in cells:
+            chain, entry = self.row(cell, n)
+            links += chain
+            rows.append((cell.rowid, entry))
+        self.pages[n] = kind, rows, 0
+        return links
+
+    def row(self, cell, n):
+        """(pages of its chain, its entry), no entry where its chain or its record has a defect."""
+        parts, holder, following, pieces, met = self.parts, n, cell.first, [cell.local], []
+        missing = cell.length - len(cell.local)
+        for number in range(-(-missing // (parts.usable - 4))):
+            if following == 0 and number:
+                self.defects.add(f"page {holder}: chain short")
+                return met, None
+            if not parts.in_range(following):
+                self.defects.add(f"page {holder}: child out of range")
+                return met, None
+            holder = following
+            if holder in met:       # a chain in a circle never ends
+                self.defects.add(f"page {holder}: page twice")
+                return met, None
+            met.append(holder)
+            if not parts.tag(holder):
+                self.defects.add(f"page {holder}: tag refused")
+                return met, None
+            following = be(parts.plain(holder), 0)
+            pieces.append(parts.plain(holder)[4:])
+        if met and following:
+            self.defects.add(f"page {holder}: chain long")
+            return met, None
+        payload = b"".join(pieces)[:cell.length]
+        values = read_record(payload)
+        if values is None:
+            self.defects.add(f"page {n}: record fault")
+            return met, None
+        return met, Entry(n, cell.rowid, payload, values)
+
+    def met_twice(self, links):
+        """The pages to which two links lead, or one from a page that is met twice itself."""
+        counts = {self.root: 1}
+        for to in links.values():
+            for n in to:
+                counts[n] = counts.get(n, 0) + 1
+        twice = {n for n, count in counts.items() if count > 1}
+        waiting = list(twice)
+        while waiting:
+            for n in links.get(waiting.pop(), ()):
+                if n not in twice:
+                    twice.add(n)
+                    waiting.append(n)
+        return twice
+
+    def answers(self, low, high):
+        """What `find` may answer for this table: its rows where the pages that lead to them are sound, and where the tree has a defect
+        also one of its defects, with some rows of the range before it."""
+        done = self.done(low, high)
+        if self.found:
+            return Finds(self.found + sorted(self.defects - set(self.found)), done, self.lines(low, high))
+        rows = [Entry(n, rowid, payload, read_record(payload)) for n, rowid, payload in self.entries if low <= rowid <= high]
+        if self.defects or done != "".join(f"{entry_line(row)}\n" for row in rows) + f"found: {len(rows)} rows\n":
+            raise AssertionError(f"of a sound tree the reference finds {self.defects} and {done!r:.300}")
+        return Finds([], done)
+
+    def done(self, low, high):
+        """What `find` prints where it is done, none where it may not be."""
+        self.listed = {}
+        rows = self.reached(self.root, low, high, 1) if low <= high else []
+        return None if rows is None else "".join(f"{row}\n" for row in rows) + f"found: {len(rows)} rows\n"
+
+    def reached(self, n, low, high, depth):
+        """The lines of the rows that page n leads to, or none where a page, chain or record on the way is not sound."""
+        if depth > PATH_LIMIT or not self.parts.in_range(n) or self.pages[n] is None:
+            return None
+        kind, cells, right = self.pages[n]
+        if kind == TABLE_LEAF:
+            entries = [entry for rowid, entry in cells if low <= rowid <= high]
+            return None if None in entries else list(map(entry_line, entries))
+        if (n, depth) not in self.listed:
+            found = []
+            for child in children_between(cells, right, low, high):
+                more = self.reached(child, low, high, depth + 1)
+                if more is None or len(found) + len(more) > self.MANY:
+                    found = None
+                    break
+                found += more
+            self.listed[n, depth] = found
+        return self.listed[n, depth]
+
+    def lines(self, low, high):
+        return {entry_line(entry) for page in self.pages.values() if page and page[0] == TABLE_LEAF
+                for rowid, entry in page[1] if entry and low <= rowid <= high}

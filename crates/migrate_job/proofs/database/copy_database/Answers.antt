@@ -104,6 +104,12 @@ returns-in-Ok-clause-tight g c start was sound is =
     (subst (λ l. HasTree (only (of_schema middle last) last) Table 1 (new_entries rows l)) c.deref.ensures.value tree) c.requires.none.0 put)
     has c.load_schema.ensures.renamed)
 
+pub returns-in-Ok-clause-whole : goal.returns-in-Ok-clause-whole
+returns-in-Ok-clause-whole g c =
+    let middle : Pages = pages_of c.copy_trees.new.state (bytes_of (g.D.Disk.reads c.copy_trees.new.pager.disk.now).fresh) in
+    let there : middle ≡ middle = refl in
+    on_ok_weaker c.load_schema.result (λ follows. all_put_then c.in-Ok.ensures.follows follows there c.requires.none.0) c.load_schema.ensures.follows
+
 pub returns-in-Err-clause-few : goal.returns-in-Err-clause-few
 returns-in-Err-clause-few g c start was listed most sound is limit stopped =
     let before : Pages = opened_pages c.args.pager.now.codec (main_of (g.D.Disk.reads c.args.pager.now.disk.now)) c.args.pager.now.count in

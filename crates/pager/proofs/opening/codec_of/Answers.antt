@@ -1,4 +1,6 @@
-use Rattle.std.proofs.Common.{◌≡◌, ◌≤◌, List, ℕ, length, rules, ap, ◌∙◌}
+use Rattle.std.proofs.Common.{◌≡◌, ◌≤◌, List, ℕ, length, arith, ap, ◌∙◌}
+use Rattle.std.proofs.lemmas.List.{length-take-le}
+use Rattle.cipher_profile.proofs.Layouts.{IsListed-laid_out}
 use Rattle.page_codec.specs.Page.{FileKeys, keys_of, fits}
 use Rattle.pager.specs.File.{main_of}
 use Rattle.pager.proofs.FirstPage.{keys_from_page, page_is}
@@ -10,8 +12,9 @@ returns-clause-codec g c = λ told.
     let secret = c.args.secret.now in
     let main = main_of (g.D.Disk.reads c.args.disk.now) in
     let page = c.read_page.new.page in
-    let long : length page ≡ profile.page_size = search rules in
-    let listed : 16 ≤ profile.page_size = search (rules, c.requires.listed) in
+    let laid_out = IsListed-laid_out profile c.requires.listed in
+    let long : length page ≡ profile.page_size = c.read_page.auto.page ∙ length-take-le profile.page_size _ (omega (arith, laid_out.most)) in
+    let listed : 16 ≤ profile.page_size = omega (arith, laid_out.least) in
     c.of_file-codec.ensures
     ∙ ap (λ (p : List ℕ). keys_of profile secret p) (page_is profile.page_size page main long (c.requires.some told) (c.in_ok-read_page.ensures.told told))
     ∙ keys_from_page profile secret main listed (c.requires.some told)
@@ -21,8 +24,9 @@ returns-clause-fits g c = λ told.
     let profile = c.args.profile in
     let main = main_of (g.D.Disk.reads c.args.disk.now) in
     let page = c.read_page.new.page in
-    let long : length page ≡ profile.page_size = search rules in
-    let listed : 16 ≤ profile.page_size = search (rules, c.requires.listed) in
+    let laid_out = IsListed-laid_out profile c.requires.listed in
+    let long : length page ≡ profile.page_size = c.read_page.auto.page ∙ length-take-le profile.page_size _ (omega (arith, laid_out.most)) in
+    let listed : 16 ≤ profile.page_size = omega (arith, laid_out.least) in
     let paged = page_is profile.page_size page main long (c.requires.some told) (c.in_ok-read_page.ensures.told told) in
     c.key_fits-fits.ensures
     ∙ ap (λ (keys : FileKeys). fits keys page)

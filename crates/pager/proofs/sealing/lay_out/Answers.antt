@@ -1,8 +1,7 @@
-use Rattle.std.proofs.Common.{◌≡◌, ◌∙◌, ◌≤◌, ◌<◌, ◌+◌, ◌-◌, ◌*◌, ◌++◌, ℕ, List, length, take, drop, slice_index, sym, ap, subst, arith}
+use Rattle.std.proofs.Common.{◌≡◌, ◌∙◌, ◌≤◌, ◌<◌, ◌+◌, ◌-◌, ◌*◌, ◌++◌, ℕ, List, length, take, drop, sym, ap, arith}
 use Rattle.cipher_profile.specs.declared.profile.Profile.{Profile}
 use Rattle.page_codec.proofs.PageFacts.{ends_by, pages_more}
 use Rattle.pager.specs.Changed.{IsLaid, draw_of}
-use Rattle.pager.specs.Held.{bytes_of_page}
 use Rattle.pager.proofs.sealing.lay_out.Goals as goal
 
 pub laying-preserved : goal.laying-preserved

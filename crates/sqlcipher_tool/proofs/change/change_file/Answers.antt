@@ -1,4 +1,5 @@
 use Rattle.std.proofs.Common.{◌≡◌, inl, ◌≤◌, ◌<◌, true, ℕ, List, drop, length, refl, sym, ap, subst, ◌∙◌, arith, rules}
+use Rattle.cipher_profile.proofs.Layouts.{IsListed-laid_out}
 use Rattle.disk_side.specs.Published.{IsNew as IsAlone}
 use Rattle.edge_model.specs.Files.{Files, bytes_of}
 use Rattle.edge_model.specs.Images.{Each, From, LeavesOnly}
@@ -70,7 +71,8 @@ pub change_main-requires-clause-alone : goal.change_main-requires-clause-alone
 change_main-requires-clause-alone g c = λ told long image now.
     let files = g.D.Disk.reads c.args.disk.now in
     let main = main_of (g.D.Disk.reads c.recover_main.new.disk) in
-    let some : 1 ≤ c.args.old.page_size = search (rules, c.requires.listed.0) in
+    let least = (IsListed-laid_out c.args.old c.requires.listed.0).least in
+    let some : 1 ≤ c.args.old.page_size = omega (arith, least) in
     let byte : 0 < length main = omega (arith, some, long) in
     subst (λ (l : List ℕ). IsAlone l image) (sym (c.in-Ok.ensures.main told)) (done_alone c.args.old.page_size (bytes_of files.main) (bytes_of files.journal) image
     (c.in-Ok.ensures.done told (had_byte c.args.old files main (c.in-Ok.ensures.main told) byte) image now))

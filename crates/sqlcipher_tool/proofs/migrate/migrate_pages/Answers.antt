@@ -1,5 +1,6 @@
-use Rattle.std.proofs.Common.{◌≡◌, inr, ◌*◌, ◌≤◌, ℕ, List, drop, length, IsTrue, Some, Ok, Err, sym, ap, subst, ◌∙◌, rules}
+use Rattle.std.proofs.Common.{◌≡◌, inr, ◌*◌, ◌≤◌, ℕ, List, drop, length, IsTrue, Some, Ok, Err, sym, ap, subst, ◌∙◌, arith}
 use Rattle.cipher_profile.specs.Profile.{IsListed}
+use Rattle.cipher_profile.proofs.Layouts.{IsListed-laid_out}
 use Rattle.cipher_profile.specs.declared.profile.Profile.{Profile}
 use Rattle.disk_side.specs.Place.{LeavesOld}
 use Rattle.edge_model.specs.Files.{Files}
@@ -30,7 +31,7 @@ use Rattle.sqlcipher_tool.proofs.VerifiedFile.{opened_header}
 use Rattle.sqlcipher_tool.proofs.migrate.migrate_pages.Goals as goal
 
 page_some : (p : Profile) → IsListed p → 1 ≤ p.page_size
-page_some p listed = search (rules, listed)
+page_some p listed = let least = (IsListed-laid_out p listed).least in omega (arith, least)
 
 pub migrate-disk-requires-clause-alone : goal.migrate-disk-requires-clause-alone
 migrate-disk-requires-clause-alone g c = λ told image now. (c.requires.alone told image now).journal

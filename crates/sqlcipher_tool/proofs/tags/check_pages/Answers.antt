@@ -3,9 +3,10 @@ use Rattle.std.specs.Prelude.{slice_get, option_to_list}
 use Rattle.std.specs.Option.{option_or}
 use Rattle.cipher_profile.specs.declared.profile.Profile.{Profile}
 use Rattle.pager.specs.File.{main_of}
+use Rattle.pager.specs.Reads.{then_read}
 use Rattle.sqlcipher_tool.specs.Tags.{IsLoaded, is_refused, page_refused, refused_page, refused_pages}
 use Rattle.sqlcipher_tool.specs.Text.{tag_lines}
-use Rattle.sqlcipher_tool.proofs.Batches.{slice_of_batch, still_loaded}
+use Rattle.sqlcipher_tool.proofs.Batches.{slice_of_batch}
 use Rattle.sqlcipher_tool.proofs.RefusedPages.{more_pages, first_of_both, lines_more, part_of_lines, part_of_next}
 use Rattle.sqlcipher_tool.proofs.tags.check_pages.Goals as goal
 
@@ -21,8 +22,10 @@ returns-in-Err-check_page-clause-part g c = λ printed told.
     let main = main_of (g.D.Disk.reads c.args.disk.now) in
     let n = c.loop-done.done in
     let stays = ap main_of (c.loop-done.invariant.only_read told).stays in
-    let stored = slice_of_batch keys.profile c.profile.result.now.page_size c.args.pages n c.load_batch.new.buffer main
-    (main_of (g.D.Disk.reads c.loop-done.disk)) (ap (λ (p : Profile). p.page_size) c.profile.ensures.value) stays (omega arith) (c.in-Ok.ensures.loaded told) in
+    let batch = c.in-Ok.loaded in
+    let stored = slice_of_batch keys.profile c.profile.result.now.page_size batch.start batch.end n c.place_of-at.result c.load_batch.new.buffer main
+    (main_of (g.D.Disk.reads c.loop-done.disk)) c.place_of-at.ensures.value (ap (λ (p : Profile). p.page_size) c.profile.ensures.value) stays
+    c.in-Ok.ensures.here.0 c.in-Ok.ensures.here.1 (c.in-Ok.ensures.loaded told) in
     let refused : refused_page keys main (n + 1) ≡ Some (n + 1) =
     ap (λ (l : List ℕ). page_refused keys (n + 1) l) (sym stored) ∙ c.in-Err-check_page.ensures.is_refused in
     part_of_next (is_refused keys main) n c.args.pages (omega arith) refused (g.S.Sink.taken c.args.out.now) (g.S.Sink.taken c.loop-done.out)
@@ -33,6 +36,7 @@ loop-done-preserved g c =
     let keys = c.args.codec.now in
     let n = c.loop-done.done in
     let size = c.profile.result.now.page_size in
+    let batch = c.in-Ok.loaded in
     let buffer = c.load_batch.new.buffer in
     let main = main_of (g.D.Disk.reads c.args.disk.now) in
     let mid = main_of (g.D.Disk.reads c.loop-done.disk) in
@@ -41,8 +45,8 @@ loop-done-preserved g c =
     let found : IsTrue g.D.Disk.tells → refused ≡ refused_page keys main (n + 1) = λ told.
     c.in-Ok-check_page.ensures.refused
     ∙ ap (λ (l : List ℕ). page_refused keys (n + 1) l)
-    (slice_of_batch keys.profile size c.args.pages n buffer main mid (ap (λ (p : Profile). p.page_size) c.profile.ensures.value)
-    (stays told) (omega arith) (c.in-Ok.ensures.loaded told)) in
+    (slice_of_batch keys.profile size batch.start batch.end n c.place_of-at.result buffer main mid c.place_of-at.ensures.value
+    (ap (λ (p : Profile). p.page_size) c.profile.ensures.value) (stays told) c.in-Ok.ensures.here.0 c.in-Ok.ensures.here.1 (c.in-Ok.ensures.loaded told)) in
     record {
       first = λ told. c.or-first.ensures
           ∙ ap (λ (first : Option ℕ). option_or first refused) (c.loop-done.invariant.first told)
@@ -53,9 +57,10 @@ loop-done-preserved g c =
           ∙ ap (λ (l : List ℕ). l ++ tag_lines (option_to_list refused)) (c.loop-done.invariant.text printed told)
           ∙ ap (λ (last : Option ℕ). (g.S.Sink.taken c.args.out.now ++ tag_lines (refused_pages keys main n)) ++ tag_lines (option_to_list last)) (found told)
           ∙ lines_more (is_refused keys main) n (g.S.Sink.taken c.args.out.now);
-      loaded = λ told within.
-          still_loaded size c.args.pages n buffer main within (subst (λ (l : List ℕ). IsLoaded size c.args.pages n buffer l) (stays told) (c.in-Ok.ensures.loaded told));
-      only_read = search rules;
+      before = omega (arith, c.in-Ok.ensures.here.0);
+      bounded = c.in-Ok.ensures.bounded;
+      loaded = λ told. subst (λ (l : List ℕ). IsLoaded size batch.start batch.end buffer l) (stays told) (c.in-Ok.ensures.loaded told);
+      only_read = λ told. then_read (c.loop-done.invariant.only_read told) (c.load_batch.ensures.only_read told);
       disk_later = search rules;
       output_later = search rules;
     }

@@ -1,10 +1,12 @@
-use Rattle.std.proofs.Common.{◌≡◌, List, drop, length, refl, ◌∷◌, [], sym, ap, subst}
+use Rattle.std.proofs.Common.{◌≡◌, rules, List, drop, length, refl, ◌∷◌, [], sym, ap, subst}
+use mir.Val.{SFits}
+use mir.Syntax.{w64}
 use Rattle.cipher_profile.specs.declared.keys.Secret.{Secret}
 use Rattle.pager.specs.File.{main_of}
 use Rattle.sqlcipher_tool.specs.Crash.{IsDrawnFor, IsSafely, Keeps, MakesWith}
 use Rattle.sqlcipher_tool.specs.Renewal.{same_key}
-use Rattle.sqlcipher_tool.specs.Words.{draws}
-use Rattle.sqlcipher_tool.specs.declared.command.Command.TheVariants.{Tags, Header, Verify, Export, Probe, Stamp, Make}
+use Rattle.sqlcipher_tool.specs.Words.{draws, finds}
+use Rattle.sqlcipher_tool.specs.declared.command.Command.TheVariants.{Tags, Header, Verify, Export, Find, Probe, Stamp, Make}
 use Rattle.sqlcipher_tool.proofs.Asked.{causes_as, changes_as, draws_as, no_draws, none_beside, undrawn}
 use Rattle.sqlcipher_tool.specs.Behind.{LeavesRecovered}
 use Rattle.sqlcipher_tool.specs.Due.{secret_answers}
@@ -12,7 +14,11 @@ use Rattle.sqlcipher_tool.specs.Header.{header_answer}
 use Rattle.sqlcipher_tool.specs.Holding.{disk_run}
 use Rattle.sqlcipher_tool.specs.Probe.{probe_answer}
 use Rattle.sqlcipher_tool.specs.Promises.{AnswersOne}
-use Rattle.sqlcipher_tool.specs.Recovered.{recovered_answer}
+use Rattle.sqlcipher_tool.specs.Answer.{Answer}
+use Rattle.sqlcipher_tool.specs.Job.{job_answers}
+use Rattle.sqlcipher_tool.specs.declared.job.Job.TheVariants.{Find as FindRows}
+use Rattle.sqlcipher_tool.proofs.FindAnswers.{passed}
+use Rattle.sqlcipher_tool.specs.Recovered.{recovered_answer, recovered_answers}
 use Rattle.sqlcipher_tool.specs.Tags.{tags_answer}
 use Rattle.sqlcipher_tool.specs.declared.command.Command.{Command as Asked}
 use Rattle.sqlcipher_tool.proofs.Answered.{answers_one, keeps_held}
@@ -69,6 +75,12 @@ returns-in-Export-clause-keeps g c = λ told.
     subst (λ (command : Asked). Keeps command run) (sym c.in-Export.is)
     (keeps_held c.in-Export.profile.page_size run (λ image ever. (c.answer_job-in-Export.ensures.keeps told).each image ever))
 
+pub returns-in-Find-clause-keeps : goal.returns-in-Find-clause-keeps
+returns-in-Find-clause-keeps g c = λ told.
+    let run = disk_run g.D.Disk.reads g.D.Disk.images g.D.Disk.moment g.D.Disk.since c.args.disk.now c.answer_job-in-Find.new.disk in
+    subst (λ (command : Asked). Keeps command run) (sym c.in-Find.is)
+    (keeps_held c.in-Find.profile.page_size run (λ image ever. (c.answer_job-in-Find.ensures.keeps told).each image ever))
+
 pub returns-in-Probe-clause-answer : goal.returns-in-Probe-clause-answer
 returns-in-Probe-clause-answer g c = λ told.
     let files = g.D.Disk.reads c.args.disk.now in
@@ -120,14 +132,26 @@ returns-in-Verify-clause-changes g c = λ told.
 pub returns-in-Export-clause-causes : goal.returns-in-Export-clause-causes
 returns-in-Export-clause-causes g c = undrawn c.answer_job-in-Export.result (draws c.args.command) _ _ _ _ (g.E.Entropy.faults c.args.entropy.now) (g.E.Entropy.faults c.answer_job-in-Export.new.entropy) c.answer_job-in-Export.ensures.causes (ap g.E.Entropy.faults c.answer_job-in-Export.ensures.draws)
 
+pub returns-in-Find-clause-causes : goal.returns-in-Find-clause-causes
+returns-in-Find-clause-causes g c = undrawn c.answer_job-in-Find.result (draws c.args.command) _ _ _ _ (g.E.Entropy.faults c.args.entropy.now) (g.E.Entropy.faults c.answer_job-in-Find.new.entropy) c.answer_job-in-Find.ensures.causes (ap g.E.Entropy.faults c.answer_job-in-Find.ensures.draws)
+
 pub returns-in-Export-clause-own_draws : goal.returns-in-Export-clause-own_draws
 returns-in-Export-clause-own_draws g c = λ told drawing done. no_draws c.args.command (Export c.in-Export.profile) c.in-Export.is (λ secrets. refl) (λ secrets. secrets ≡ c.args.secret.now ∷ [])
     (main_of (g.D.Disk.reads c.answer_job-in-Export.new.disk)) (drop (length (g.E.Entropy.drawn c.args.entropy.now)) (g.E.Entropy.drawn c.answer_job-in-Export.new.entropy))
+
+pub returns-in-Find-clause-own_draws : goal.returns-in-Find-clause-own_draws
+returns-in-Find-clause-own_draws g c = λ told drawing done. no_draws c.args.command (Find c.in-Find.profile c.in-Find.name c.in-Find.low c.in-Find.high) c.in-Find.is (λ secrets. refl) (λ secrets. secrets ≡ c.args.secret.now ∷ [])
+    (main_of (g.D.Disk.reads c.answer_job-in-Find.new.disk)) (drop (length (g.E.Entropy.drawn c.args.entropy.now)) (g.E.Entropy.drawn c.answer_job-in-Find.new.entropy))
 
 pub returns-in-Export-clause-changes : goal.returns-in-Export-clause-changes
 returns-in-Export-clause-changes g c = λ told.
     let run = disk_run g.D.Disk.reads g.D.Disk.images g.D.Disk.moment g.D.Disk.since c.args.disk.now c.answer_job-in-Export.new.disk in
     changes_as c.answer_job-in-Export.result c.args.command (Export c.in-Export.profile) (λ secrets. secrets ≡ c.args.secret.now ∷ []) g.E.Entropy.tells (drop (length (g.E.Entropy.drawn c.args.entropy.now)) (g.E.Entropy.drawn c.answer_job-in-Export.new.entropy)) run c.in-Export.is tt
+
+pub returns-in-Find-clause-changes : goal.returns-in-Find-clause-changes
+returns-in-Find-clause-changes g c = λ told.
+    let run = disk_run g.D.Disk.reads g.D.Disk.images g.D.Disk.moment g.D.Disk.since c.args.disk.now c.answer_job-in-Find.new.disk in
+    changes_as c.answer_job-in-Find.result c.args.command (Find c.in-Find.profile c.in-Find.name c.in-Find.low c.in-Find.high) (λ secrets. secrets ≡ c.args.secret.now ∷ []) g.E.Entropy.tells (drop (length (g.E.Entropy.drawn c.args.entropy.now)) (g.E.Entropy.drawn c.answer_job-in-Find.new.entropy)) run c.in-Find.is tt
 
 pub returns-in-Probe-clause-causes : goal.returns-in-Probe-clause-causes
 returns-in-Probe-clause-causes g c = undrawn c.probe.result (draws c.args.command) _ _ _ _ (g.E.Entropy.faults c.args.entropy.now) (g.E.Entropy.faults c.args.entropy.now) c.probe.ensures.causes refl
@@ -224,6 +248,11 @@ returns-in-Export-clause-untouched g c = λ told.
     let run = disk_run g.D.Disk.reads g.D.Disk.images g.D.Disk.moment g.D.Disk.since c.args.disk.now c.answer_job-in-Export.new.disk in
     subst (λ (command : Asked). LeavesAlone (recovers_by command) run) (sym c.in-Export.is) (c.answer_job-in-Export.ensures.untouched told)
 
+pub returns-in-Find-clause-untouched : goal.returns-in-Find-clause-untouched
+returns-in-Find-clause-untouched g c = λ told.
+    let run = disk_run g.D.Disk.reads g.D.Disk.images g.D.Disk.moment g.D.Disk.since c.args.disk.now c.answer_job-in-Find.new.disk in
+    subst (λ (command : Asked). LeavesAlone (recovers_by command) run) (sym c.in-Find.is) (c.answer_job-in-Find.ensures.untouched told)
+
 pub returns-in-Stamp-clause-untouched : goal.returns-in-Stamp-clause-untouched
 returns-in-Stamp-clause-untouched g c = λ told.
     let run = disk_run g.D.Disk.reads g.D.Disk.images g.D.Disk.moment g.D.Disk.since c.args.disk.now c.change_file.new.disk in
@@ -250,6 +279,9 @@ returns-in-Verify-clause-fresh_gone g c = λ told done beside. absurd (none_besi
 
 pub returns-in-Export-clause-fresh_gone : goal.returns-in-Export-clause-fresh_gone
 returns-in-Export-clause-fresh_gone g c = λ told done beside. absurd (none_beside c.args.command (Export c.in-Export.profile) c.in-Export.is refl beside)
+
+pub returns-in-Find-clause-fresh_gone : goal.returns-in-Find-clause-fresh_gone
+returns-in-Find-clause-fresh_gone g c = λ told done beside. absurd (none_beside c.args.command (Find c.in-Find.profile c.in-Find.name c.in-Find.low c.in-Find.high) c.in-Find.is refl beside)
 
 pub returns-in-Probe-clause-fresh_gone : goal.returns-in-Probe-clause-fresh_gone
 returns-in-Probe-clause-fresh_gone g c = λ told done beside. absurd (none_beside c.args.command Probe c.in-Probe.is refl beside)
@@ -280,6 +312,11 @@ returns-in-Export-clause-recovered g c = λ told.
     let run = disk_run g.D.Disk.reads g.D.Disk.images g.D.Disk.moment g.D.Disk.since c.args.disk.now c.answer_job-in-Export.new.disk in
     subst (λ (command : Asked). LeavesRecovered c.answer_job-in-Export.result (draws command) (recovers_by command) run) (sym c.in-Export.is) (c.answer_job-in-Export.ensures.recovered told)
 
+pub returns-in-Find-clause-recovered : goal.returns-in-Find-clause-recovered
+returns-in-Find-clause-recovered g c = λ told.
+    let run = disk_run g.D.Disk.reads g.D.Disk.images g.D.Disk.moment g.D.Disk.since c.args.disk.now c.answer_job-in-Find.new.disk in
+    subst (λ (command : Asked). LeavesRecovered c.answer_job-in-Find.result (draws command) (recovers_by command) run) (sym c.in-Find.is) (c.answer_job-in-Find.ensures.recovered told)
+
 pub returns-in-Stamp-clause-recovered : goal.returns-in-Stamp-clause-recovered
 returns-in-Stamp-clause-recovered g c = λ told.
     let run = disk_run g.D.Disk.reads g.D.Disk.images g.D.Disk.moment g.D.Disk.since c.args.disk.now c.change_file.new.disk in
@@ -294,3 +331,26 @@ pub returns-in-Make-clause-recovered : goal.returns-in-Make-clause-recovered
 returns-in-Make-clause-recovered g c = λ told.
     let run = disk_run g.D.Disk.reads g.D.Disk.images g.D.Disk.moment g.D.Disk.since c.args.disk.now c.make_file.new.disk in
     subst (λ (command : Asked). LeavesRecovered c.make_file.result (draws command) (recovers_by command) run) (sym c.in-Make.is) tt
+
+pub returns-in-Verify-clause-line : goal.returns-in-Verify-clause-line
+returns-in-Verify-clause-line g c = λ printed way. c.answer_job.ensures.line printed (λ is. cc)
+
+pub returns-in-Export-clause-line : goal.returns-in-Export-clause-line
+returns-in-Export-clause-line g c = λ printed way. c.answer_job-in-Export.ensures.line printed (λ is. cc)
+
+pub returns-in-Find-clause-line : goal.returns-in-Find-clause-line
+returns-in-Find-clause-line g c = λ printed way. c.answer_job-in-Find.ensures.line printed (λ is. way (ap finds c.in-Find.is))
+
+pub returns-in-Find-clause-answer : goal.returns-in-Find-clause-answer
+returns-in-Find-clause-answer g c = λ told.
+    let files = g.D.Disk.reads c.args.disk.now in
+    let status = c.answer_job-in-Find.result in
+    let before = g.S.Sink.taken c.args.out.now in
+    let after = g.S.Sink.taken c.answer_job-in-Find.new.out in
+    let low : SFits w64 c.in-Find.low = search rules in
+    let high : SFits w64 c.in-Find.high = search rules in
+    subst (λ (command : Asked). AnswersOne (secret_answers command (c.args.secret.now ∷ []) files (g.D.Disk.reads c.answer_job-in-Find.new.disk)) status g.S.Sink.tells before after)
+    (sym c.in-Find.is)
+    (subst (λ (l : List Answer). AnswersOne l status g.S.Sink.tells before after)
+    (passed (λ a b. recovered_answers c.in-Find.profile files (job_answers (FindRows c.in-Find.name a b) c.in-Find.profile c.args.secret.now)) c.in-Find.low c.in-Find.high low high)
+    (c.answer_job-in-Find.ensures.answer told))

@@ -43,3 +43,6 @@ returns-in-Some-clause-answer g c = λ keyed told.
     let formed = sym c.parse_words.ensures.form ∙ c.in-Some.is in
     subst (λ (o : Option Asked). AnswersOne (command_answers o left files after) c.serve.result g.S.Sink.tells (g.S.Sink.taken c.args.out.now) (g.S.Sink.taken c.serve.new.out))
     (sym formed) (c.serve.ensures.answer (λ is. keyed (c.in-Some.command, formed, is)) told)
+
+pub returns-in-Some-clause-line : goal.returns-in-Some-clause-line
+returns-in-Some-clause-line g c = λ printed way. c.serve.ensures.line printed (λ is. way (c.in-Some.command, sym c.parse_words.ensures.form ∙ c.in-Some.is, is))

@@ -1,7 +1,4 @@
-use Rattle.std.proofs.Common.{◌≡◌, ◌∙◌, ℕ, List, ap, sym, subst, arith, rules}
-use Rattle.edge_model.specs.Files.{File}
-use Rattle.rollback_journal.specs.Playing.{contents, main_of}
-use Rattle.pager.specs.UnderWay.{seen_pages}
+use Rattle.std.proofs.Common.{◌∙◌, ap, arith, rules}
 use Rattle.cipher_profile.specs.declared.profile.Profile.{Profile}
 use Rattle.pager.proofs.EndingLemmas.{listed_small}
 use Rattle.pager.proofs.txn.Txn.keep_ahead.Goals as goal

@@ -1,0 +1,4 @@
+pub mod Joined
+pub mod Laid
+pub mod Parts
+pub mod Windows

@@ -1,0 +1,4 @@
+mod AnswerSteps
+mod ChainSteps
+mod PageSteps
+mod ScanSteps

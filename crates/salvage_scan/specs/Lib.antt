@@ -1,0 +1,5 @@
+pub mod Answer
+pub mod Chain
+pub mod Salvage
+pub mod Scan
+pub mod Text
