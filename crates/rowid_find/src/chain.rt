@@ -8,10 +8,9 @@ ghost use Rattle.btree_walk.specs.Causes.{IsGivenBy, is_failure};
 ghost use Rattle.rowid_find.specs.Reach.{links, links_of};
 ghost use Rattle.rowid_find.specs.Search.{IsChained};
 
-use crate::counted::Counted;
 use crate::page::load_new;
 use btree_walk::{WalkError, is_in_range};
-use db_format::{Defect, PageSource, Seen, u32_at};
+use db_format::{Counted, Defect, PageSource, Seen, u32_at};
 
 // Reads the chain of `needed` overflow pages from page `first` on, whose number stands on page `start`, behind what
 // `payload` has.

@@ -5,7 +5,6 @@
 #![tactic(auto)]
 
 mod chain;
-mod counted;
 mod error;
 mod page;
 mod row;
@@ -14,7 +13,6 @@ mod table;
 mod visit;
 mod wanted;
 
-pub use counted::Counted;
 pub use error::FindError;
 pub use search::{find, find_from};
 pub use table::table_root;

@@ -6,9 +6,8 @@ ghost use Rattle.db_format.specs.Source.{Rose};
 ghost use Rattle.btree_walk.specs.Causes.{IsGivenBy, is_failure};
 ghost use Rattle.rowid_find.specs.Search.{IsNotLoaded};
 
-use crate::counted::Counted;
 use btree_walk::WalkError;
-use db_format::{Defect, PageSource, Seen};
+use db_format::{Counted, Defect, PageSource, Seen};
 use std::alloc::Global;
 
 /// Loads page n and marks it. A page that has a mark is not asked for again.

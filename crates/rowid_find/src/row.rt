@@ -10,10 +10,9 @@ ghost use Rattle.rowid_find.specs.Reach.{row_of_cell};
 ghost use Rattle.rowid_find.specs.Search.{IsSearched};
 
 use crate::chain::read_payload;
-use crate::counted::Counted;
 use crate::error::FindError;
 use btree_walk::WalkError;
-use db_format::{Defect, PageSource, RecordView, Seen};
+use db_format::{Counted, Defect, PageSource, RecordView, Seen};
 use edge_model::Sink;
 use export_rows::{LineOut, put_entry};
 

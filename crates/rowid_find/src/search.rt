@@ -16,12 +16,11 @@ ghost use Rattle.btree_page.specs.declared.kind.Family.TheVariants.{Table};
 ghost use Rattle.rowid_find.specs.Bound.{links_below};
 ghost use Rattle.rowid_find.specs.Found.{found_rows};
 
-use crate::counted::Counted;
 use crate::error::FindError;
 use crate::row::Found;
 use crate::visit::visit;
 use btree_walk::WalkError;
-use db_format::{PageSource, Seen};
+use db_format::{Counted, PageSource, Seen};
 use edge_model::{Failed, Sink};
 use export_rows::LineOut;
 use itoa::Buffer;

@@ -11,14 +11,13 @@ ghost use Rattle.rowid_find.specs.Causes.{IfWalk};
 ghost use Rattle.rowid_find.specs.Reach.{reach};
 ghost use Rattle.rowid_find.specs.Search.{IsSearched};
 
-use crate::counted::Counted;
 use crate::error::FindError;
 use crate::page::copy_page;
 use crate::row::{Found, put_row};
 use crate::wanted::Wanted;
 use btree_page::{Family, PageFault, PageView, Step};
 use btree_walk::{WalkError, is_in_range};
-use db_format::{Defect, PageSource};
+use db_format::{Counted, Defect, PageSource};
 use edge_model::Sink;
 use std::alloc::Global;
 

@@ -2,9 +2,9 @@
 
 use crate::real_pages::PAGES;
 use btree_walk::WalkError;
-use db_format::{Defect, MemPages};
+use db_format::{Counted, Defect, MemPages};
 use edge_model::MemSink;
-use rowid_find::{Counted, FindError, find};
+use rowid_find::{FindError, find};
 use std::alloc::{AllocError, Global};
 use std::process::Abort;
 use std::test::Fail;
