@@ -23,12 +23,14 @@ real_files.sh
 stamp.sh
 hostile_files.sh
 find.sh
+salvage.sh
 two_runs.sh
 beside_an_app.sh
 renames.sh
 edges.sh
 wal.sh
 export_to_sql.py
+salvage_to_sql.py
 documents.sh
 '
 # What the others of this folder are: this script, what scripts share, what makes the product's files, and what .ci/run runs before.

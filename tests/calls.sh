@@ -96,7 +96,7 @@ cp "$scratch/small" "$scratch/left" && head -c 2048 /dev/zero > "$scratch/left-m
 [ "$(stat -c %s "$scratch/small")" -le 65536 ] && [ "$(stat -c %s "$scratch/large")" -gt 131072 ] || say "the files have other sizes"
 
 # ---- commands that read
-for words in "tags 3" "header 3" "verify 3" "export 3" "find 3 items 7 9"; do
+for words in "tags 3" "header 3" "verify 3" "export 3" "find 3 items 7 9" "salvage 3"; do
     # shellcheck disable=SC2086
     run read large none 3 3 $words
     # shellcheck disable=SC2086
@@ -104,6 +104,7 @@ for words in "tags 3" "header 3" "verify 3" "export 3" "find 3 items 7 9"; do
 done
 run read four none 4 4 verify 4
 run read four none 4 4 find 4 items -5 60
+run read four none 4 4 salvage 4
 run probe large none 3 3 probe
 
 # ---- recoveries

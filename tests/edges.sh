@@ -30,6 +30,8 @@ row() { # row STATUS OUTPUT ERRORS COMMAND: ERRORS has a piece of each line on s
     found=$?
     rows=$((rows + 1))
     [ -s "$folder/errors" ] || : > "$folder/errors"
+    # The system's table of locks may miss one for a moment while others come and go. That is said, and no row but those that ask for it is on that.
+    case $errors in *"could not be looked for"*) ;; *) sed -i '/other programs could not be looked for/d' "$folder/errors" ;; esac
     if [ "$found" -ne "$status" ] || [ "$(cat "$folder/output")" != "$output" ] || ! says "$errors"; then
         wrong=$((wrong + 1))
         echo "edges: $command: wanted $status, '$output' and '$errors'"
@@ -152,10 +154,56 @@ row 2 'key missing' 'take two, the old key and the new one' '"$tool" file.db fin
 row 2 'file is empty' 'absent.db: there is no such file' '"$tool" absent.db find 4 items 1 1 < key'
 # A name that is an index, a table WITHOUT ROWID, a view, of another case, or nothing of the schema.
 no_table='the schema has no table of this name'
-for name in items_name codes names Items ITEMS item 'items ' ' items' '"items"' "'items'" main.items sqlite_master sqlite_schema '' "it's" ïtems table; do
+for name in item 'items ' ' items' '"items"' "'items'" main.items sqlite_master sqlite_schema '' "it's" ïtems table; do
     row 2 'no such table' "$no_table" "\"\$tool\" file.db find 4 $(printf %q "$name") 1 1 < key"
 done
+other_case='is a table of almost this name: a name is compared byte for byte'
+while IFS='|' read -r name says; do
+    row 2 'no such table' "$says" "\"\$tool\" file.db find 4 $name 1 1 < key"
+done << END
+Items|\`items\` $other_case
+ITEMS|\`items\` $other_case
+Codes|\`codes\` $other_case
+codes|\`codes\` is a table WITHOUT ROWID: its rows have no rowids; use \`export\`
+items_name|\`items_name\` is an index: its entries have no rowids of their own; use \`export\`
+Items_Name|\`items_name\` is an index
+names|\`names\` is a view: it has no rows of its own
+NAMES|\`names\` is a view
+END
 rm -f found exported
+kept
+
+# Rows of a damaged file. The last line stands on standard error too, since the output may be a file.
+counts='salvaged: 44 rows, 0 lost, 0 refused pages'
+told='; rows that were deleted may be among them'
+row 0 "$counts" "$counts$told" '"$tool" file.db salvage 4 < key | tail -n 1'
+row 0 "$counts" "$counts$told" '"$tool" file.db salvage 4:4096 < key | tail -n 1'
+row 0 '' "$counts$told" '"$tool" file.db export 4 < key > exported; "$tool" file.db salvage 4 < key > found; grep "^row " exported | cmp - <(sed -E "1,4d; \$d; s/^row [0-9]+ /row /" found)'
+row 1 usage '`salvage` takes the version that wrote the file, 1, 2, 3 or 4, which `probe` finds' '"$tool" file.db salvage < key'
+row 1 usage '`salvage` takes a version and nothing else' '"$tool" file.db salvage 4 items < key'
+row 1 usage '`salvage` takes a version and nothing else' '"$tool" file.db salvage 4 4 < key'
+row 1 usage '`5` is no version' '"$tool" file.db salvage 5 < key'
+row 1 usage '`4:512` is no version' '"$tool" file.db salvage 4:512 < key'
+row 1 usage 'unknown command `Salvage`' '"$tool" file.db Salvage 4 < key'
+row 5 '' 'standard output: write: No space left on device' '"$tool" file.db salvage 4 < key > /dev/full'
+row 5 '' 'standard output: write: Bad file descriptor' '"$tool" file.db salvage 4 < key >&-'
+row 6 '' 'standard input: read: Bad file descriptor' '"$tool" file.db salvage 4 <&-'
+row 2 'key missing' 'take two, the old key and the new one' '"$tool" file.db salvage 4 < /dev/null'
+row 2 'key with salt' 'give the first 64 digits alone' 'sed "s/1f/&&&&&&&&&&&&&&&&&/" key | "$tool" file.db salvage 4'
+no_page='the key opens no page of the file under version'
+row 3 'key refused' "$no_page 4" 'echo other | "$tool" file.db salvage 4'
+row 3 'key refused' "$no_page 3" '"$tool" file.db salvage 3 < key'
+row 3 'key refused' 'ends in a carriage return' 'printf "%s\r\n" "$k0" | "$tool" file.db salvage 4'
+row 2 'file is empty' 'absent.db: there is no such file' '"$tool" absent.db salvage 4 < key'
+# Page 1 is damaged, but for the salt, and then the salt. What refuses it speaks of `salvage`.
+cp file.db broken.db && dd if=/dev/zero of=broken.db bs=16 seek=1 count=255 conv=notrunc status=none
+row 3 'key refused' 'Where the first page is damaged, `salvage 4`' '"$tool" broken.db verify 4 < key'
+row 0 'page 1: tag refused' "salvaged: 40 rows, 0 lost, 1 refused pages$told" '"$tool" broken.db salvage 4 < key > found; head -n 1 found'
+row 0 '' '' 'grep "^row " exported | cmp - <(sed -E "1d; \$d; s/^row [0-9]+ /row /" found)'
+row 4 '' $'broken.db: another run of sqlcipher-tool has the file\nbroken.db: it was not touched' 'flock broken.db "$tool" broken.db salvage 4 < key'
+printf x | dd of=broken.db conv=notrunc status=none
+row 3 'key refused' "$no_page 4" '"$tool" broken.db salvage 4 < key'
+rm -f found exported broken.db
 kept
 
 # Where the file lies.
@@ -401,6 +449,7 @@ row 0 'tags hold: 4 pages' '' '"$tool" sized.db tags 4:65536 < key'
 row 0 'stamped' '' '"$tool" sized.db stamp 4:65536 user-version 7 < key'
 row 0 'found: 0 rows' '' '"$tool" sized.db find 4:65536 items 8 9223372036854775807 < key'
 row 0 'found: 7 rows' '' '"$tool" sized.db find 4:65536 items 1 7 < key | tail -n 1'
+row 0 'salvaged: 11 rows, 0 lost, 0 refused pages' "$told" '"$tool" sized.db salvage 4:65536 < key | tail -n 1'
 row 0 'rekeyed: 4 pages' "$raw" '"$tool" sized.db rekey 4:65536 4:65536 < keys'
 row 0 '' "$raw" 'tac keys | "$tool" sized.db migrate 4:65536 4:1024 > lines.txt'
 row 0 'profile 4:1024' '' '"$tool" sized.db probe < key'
@@ -415,6 +464,7 @@ hot_journal() { # hot_journal SIZE: beside a copy of the file, its size in hex
 hot_journal 00000400
 row 2 'journal page size 1024' 'give 3, 2, 1 or 4:1024' '"$tool" hot.db recover 4'
 row 2 'journal page size 1024' 'give 3, 2, 1 or 4:1024' '"$tool" hot.db tags 4:8192 < key'
+row 2 'journal page size 1024' 'give 3, 2, 1 or 4:1024' '"$tool" hot.db salvage 4 < key'
 row 0 'played: 0' 'it had nothing to play back' '"$tool" hot.db recover 4:1024'
 hot_journal 00001000
 row 2 'journal page size 4096' 'another size: give 4;' '"$tool" hot.db recover 3'
@@ -427,6 +477,7 @@ rm -f hot.db hot.db-journal
 # A file that was cut.
 head -c 10000 file.db > cut.db
 row 2 'file is short: 10000 bytes' 'it was cut' '"$tool" cut.db verify 4 < key'
+row 0 "row 1 1 'table' 'items'" "$told" '"$tool" cut.db salvage 4 < key | head -n 1 | cut -c -23'
 
 # A table of any name: it is compared byte for byte, as it is stored.
 if has_reference; then
@@ -441,6 +492,7 @@ db.execute("CREATE TABLE altered(v)")
 db.execute("INSERT INTO altered(rowid, v) VALUES(-9223372036854775808, 'least'), (9223372036854775807, 'most')")
 db.execute("ALTER TABLE altered ADD COLUMN w DEFAULT 7")
 db.execute("CREATE INDEX other ON altered(v)")
+db.execute("CREATE TRIGGER ALTERED AFTER INSERT ON altered BEGIN SELECT 1; END")
 db.commit()
 PY
     python3 "$oracle" named.db encrypt 4 named < key
@@ -451,7 +503,7 @@ PY
     row 0 $'row -2 \'-x\'\nfound: 1 rows' '' '"$tool" named.db find 4 -x -2 -2 < key'
     row 0 $'row -3 \'\'\nfound: 1 rows' '' '"$tool" named.db find 4 "" -3 -3 < key'
     row 0 $'row -4 \'Tabl\'\nfound: 1 rows' '' '"$tool" named.db find 4 Table -9 9 < key'
-    row 2 'no such table' "$no_table" '"$tool" named.db find 4 table -9 9 < key'
+    row 2 'no such table' '`Table` is a table of almost this name' '"$tool" named.db find 4 table -9 9 < key'
     row 0 $'row -5 \'5\'\nfound: 1 rows' '' '"$tool" named.db find 4 5 -5 -5 < key'
     row 0 $'row -6 \'two\\x0a\'\nfound: 1 rows' '' '"$tool" named.db find 4 $'"'two\\nlines'"' -6 -6 < key'
     row 0 $'row -7 \'aaaa\'\nfound: 1 rows' '' '"$tool" named.db find 4 "$(printf "a%.0s" {1..900})" -7 -7 < key'
@@ -459,7 +511,10 @@ PY
     # A column that was added later is not in the rows from before.
     row 0 $'row -9223372036854775808 \'least\'\nfound: 1 rows' '' '"$tool" named.db find 4 altered -9223372036854775808 -9223372036854775808 < key'
     row 0 $'row 9223372036854775807 \'most\'\nfound: 1 rows' '' '"$tool" named.db find 4 altered -9223372036854775807 9223372036854775807 < key'
-    row 2 'no such table' "$no_table" '"$tool" named.db find 4 other 1 1 < key'
+    row 2 'no such table' '`other` is an index' '"$tool" named.db find 4 other 1 1 < key'
+    # A name that would end the line, and a table and a trigger whose names differ by case.
+    row 2 'no such table' '`two?lines` is a table of almost this name' '"$tool" named.db find 4 $'"'TWO\\nLINES'"' 1 1 < key'
+    row 2 'no such table' $'`altered` is a table of almost this name\n`ALTERED` is a trigger: it has no rows' '"$tool" named.db find 4 ALTERED 1 1 < key'
 else
     leave_out "tables of any name, since Python's cryptography is missing"
 fi
@@ -470,6 +525,7 @@ if has_reference; then
     printf '\2\2' | dd of=decrypted bs=1 seek=18 conv=notrunc status=none
     python3 "$oracle" wal.db encrypt 4 decrypted < key
     row 2 'WAL mode' 'PRAGMA cipher_compatibility = 4; PRAGMA journal_mode = DELETE; PRAGMA auto_vacuum = 0; VACUUM;' '"$tool" wal.db header 4 < key'
+    row 0 "$counts" "$counts$told" '"$tool" wal.db salvage 4 < key | tail -n 1'
 else
     leave_out "a file in WAL mode, since Python's cryptography is missing"
 fi

@@ -79,7 +79,7 @@ judge() {
         [ "$status" -eq "$wanted" ] || say "$case: ended with $status, and $wanted is wanted: $(head -n 1 "$folder/errors")"
         case ${words[0]} in
             # Rows go out as they are read: what is printed is how the whole text begins.
-            export | find) head -c "$(stat -c %s "$folder/said")" "$folder/whole.said" | cmp -s - "$folder/said" || say "$case: what is printed is no beginning of the text" ;;
+            export | find | salvage) head -c "$(stat -c %s "$folder/said")" "$folder/whole.said" | cmp -s - "$folder/said" || say "$case: what is printed is no beginning of the text" ;;
             *) [ "$status" -eq 5 ] || [ ! -s "$folder/said" ] || say "$case: status $status, and $(head -n 1 "$folder/said") is printed" ;;
         esac
         case $status in
@@ -236,6 +236,7 @@ if ${CC:-cc} -shared -fPIC -O1 -o "$scratch/refuse.so" "$top/tests/faults/refuse
     refused "migrate 3 $later_version" plain "$later_version" migrate 3 "$later_version" &
     refused "export 3" plain recovered export 3 &
     refused "find 3" plain recovered find 3 items 7 30 &
+    refused "salvage 3" plain recovered salvage 3 &
     [ ! -e "$scratch/hot-journal" ] || refused "recover 3" hot recovered recover 3 &
     wait
 else

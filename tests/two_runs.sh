@@ -101,6 +101,7 @@ leave_hot 3 "$k1" "$scratch/file" "$scratch/hot"
 
 pair rekey-rekey no "$k1 $k2" 'rekey 3 3' "$k1 $k3" 'rekey 3 3' &
 pair rekey-verify no "$k1 $k2" 'rekey 3 3' "$k1" 'verify 3' &
+pair rekey-salvage no "$k1 $k2" 'rekey 3 3' "$k1" 'salvage 3' &
 pair rekey-recover no "$k1 $k2" 'rekey 3 3' "$k1" 'recover 3' &
 pair rekey-migrate no "$k1 $k2" 'rekey 3 3' "$k1 $k3" 'migrate 3 3' &
 wait
@@ -115,5 +116,5 @@ met=$(awk '{ sum += $2 } END { print sum + 0 }' "$scratch/refused")
 # A trial in which the two never meet shows nothing.
 [ "$met" -gt 0 ] || say "no second run met the first"
 lost=$(grep -c . "$scratch/wrong" 2> /dev/null)
-echo "two runs: $((trials * 9)) trials of seed $seed, in $met of them one run met the other; ${lost:-0} lost or wrong"
+echo "two runs: $((trials * 10)) trials of seed $seed, in $met of them one run met the other; ${lost:-0} lost or wrong"
 [ ! -e "$scratch/wrong" ]

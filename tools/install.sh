@@ -12,4 +12,6 @@ program=${PROGRAM:-$top/out/sqlcipher-tool}
 install -D -m 755 "$program" "$prefix/bin/sqlcipher-tool"
 install -D -m 644 "$top/docs/sqlcipher-tool.1" "$prefix/share/man/man1/sqlcipher-tool.1"
 install -D -m 644 "$top/README.md" "$prefix/share/sqlcipher-tool/README.md"
-install -D -m 755 "$top/tools/export_to_sql.py" "$prefix/share/sqlcipher-tool/export_to_sql.py"
+for tool in export_to_sql.py salvage_to_sql.py; do
+    install -D -m 755 "$top/tools/$tool" "$prefix/share/sqlcipher-tool/$tool"
+done

@@ -9,11 +9,15 @@ mod finds;
 #[cfg(test)]
 mod moved_pages;
 #[cfg(test)]
+mod near_names;
+#[cfg(test)]
 mod pages;
 #[cfg(test)]
 mod renewal;
 #[cfg(test)]
 mod rows;
+#[cfg(test)]
+mod salvages;
 #[cfg(test)]
 mod scripts;
 #[cfg(test)]

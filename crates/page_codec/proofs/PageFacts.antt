@@ -5,13 +5,13 @@ use Rattle.std.proofs.lemmas.Bool.{cases_lt}
 use Rattle.std.proofs.lemmas.Grind.{common_steps}
 use Rattle.std.proofs.lemmas.List.{length-append, length-drop, length-take-le}
 use Rattle.std.proofs.lemmas.Slice.{between-put_mid, drop-put_mid}
-use Rattle.std.specs.Prelude.{slice_range}
+use Rattle.std.specs.Prelude.{slice_index, slice_range}
 use Rattle.cbc_mode.specs.Cbc.{IsRoundTrip, cbc_decrypted, cbc_encrypted}
 use Rattle.cbc_mode.specs.Records.{encrypted_record, record_at}
 use Rattle.cipher_profile.specs.declared.profile.Profile.{Profile}
 use Rattle.cipher_profile.specs.Profile.{IsLaidOut, usable}
 use Rattle.page_codec.specs.Page.{FileKeys, cipher_start, magic, opened, stored_iv, untagged}
-use Rattle.page_codec.specs.Pages.{page_at}
+use Rattle.page_codec.specs.Pages.{AreTagged, IsTagged, page_at}
 use Rattle.page_codec.proofs.Parts.{part_after, part_before, part_between}
 use borrow.Rule.Slice.PartMut.{put_mid}
 
@@ -94,12 +94,55 @@ pages_more P size old pages page i h within long is = record {
   left = λ k le. later size i pages page within long k (omega arith) ∙ h.left k (omega arith);
 }
 
+-- ---- pages that have their tags
+
+pub tagged_none : (file : FileKeys) (numbers : List ℕ) (at : ℕ) (old : List ℕ) → AreTagged file numbers at at old old
+tagged_none file numbers at old = record {
+  length_kept = refl;
+  done = λ k from to. absurd (omega arith);
+  before = λ k lt. refl;
+  left = λ k le. refl;
+}
+
+pub tagged_one : (file : FileKeys) (numbers : List ℕ) (i : ℕ) (old page : List ℕ)
+    → file.profile.page_size * i + file.profile.page_size ≤ length old → length page ≡ file.profile.page_size
+    → IsTagged file (slice_index numbers i) (page_at file.profile.page_size old i) page
+    → AreTagged file numbers i (i + 1) old (replaced file.profile.page_size i old page)
+tagged_one file numbers i old page within long is =
+    let size : ℕ = file.profile.page_size in
+    record {
+      length_kept = length-replaced size i old page within long;
+      done = λ k from to.
+          let e : i ≡ k = omega arith in
+          subst (λ (m : ℕ). IsTagged file (slice_index numbers m) (page_at size old m) (page_at size (replaced size i old page) m)) e
+          (subst (IsTagged file (slice_index numbers i) (page_at size old i)) (sym (there size i old page within long)) is);
+      before = λ k lt. earlier size i old page within long k lt;
+      left = λ k le. later size i old page within long k (omega arith);
+    }
+
+pub tagged_then : (file : FileKeys) (numbers : List ℕ) (from mid to : ℕ) (old between new : List ℕ) → from ≤ mid → mid ≤ to
+    → AreTagged file numbers from mid old between → AreTagged file numbers mid to between new → AreTagged file numbers from to old new
+tagged_then file numbers from mid to old between new first second f s =
+    let size : ℕ = file.profile.page_size in
+    record {
+      length_kept = s.length_kept ∙ f.length_kept;
+      done = λ k begins ends. elim (cases_lt k mid) as
+          (λ _. IsTagged file (slice_index numbers k) (page_at size old k) (page_at size new k)) [
+            | inl lt ↦ subst (IsTagged file (slice_index numbers k) (page_at size old k)) (sym (s.before k lt)) (f.done k begins lt)
+            | inr le ↦
+                subst (λ (page : List ℕ). IsTagged file (slice_index numbers k) page (page_at size new k)) (f.left k (omega arith))
+                (s.done k (omega arith) ends)
+          ];
+      before = λ k lt. s.before k (omega arith) ∙ f.before k lt;
+      left = λ k le. s.left k le ∙ f.left k (omega arith);
+    }
+
 pub length-page : (size i : ℕ) (pages : List ℕ) → size * i + size ≤ length pages → length (page_at size pages i) ≡ size
 length-page size i pages within = length-take-le size (drop (size * i) pages) (omega (arith, within, length-drop (size * i) pages))
 
 -- ---- pages as records of blocks
 
-start_later : (n : ℕ) → 2 ≤ n → cipher_start n ≡ 0
+pub start_later : (n : ℕ) → 2 ≤ n → cipher_start n ≡ 0
 start_later n le = grind (arith, common_steps)
 
 pub whole_blocks : (size stride count : ℕ) → 16 * stride ≡ size → size * count ≡ 16 * (stride * count)

@@ -1,5 +1,5 @@
 -- Pages that stand one after another.
-use Rattle.std.specs.Prelude.{◌≡◌, ℕ, ◌*◌, List, take, drop, IsTrue}
+use Rattle.std.specs.Prelude.{◌≡◌, ℕ, ◌*◌, ◌<◌, ◌≤◌, List, length, slice_index, take, drop, IsTrue}
 use Rattle.cipher_profile.specs.Profile.{usable}
 use Rattle.page_codec.specs.Page.{FileKeys, accepts, opened, sealed, tag, with_tag}
 
@@ -16,3 +16,11 @@ pub record IsTagged (file : FileKeys) (n : ℕ) (old new : List ℕ) : Type 0 wh
   pub is : new ≡ with_tag file.profile (tag file n old) old
   pub accepted : IsTrue (accepts file n new)
   pub opens_as_before : opened file n new ≡ opened file n old
+
+-- pages `from` to `to - 1`, counted from 0, have their tags now, and the others are as they were
+pub record AreTagged (file : FileKeys) (numbers : List ℕ) (from to : ℕ) (old new : List ℕ) : Type 0 where
+  pub length_kept : length new ≡ length old
+  pub done : (i : ℕ) → from ≤ i → i < to
+      → IsTagged file (slice_index numbers i) (page_at file.profile.page_size old i) (page_at file.profile.page_size new i)
+  pub before : (i : ℕ) → i < from → page_at file.profile.page_size new i ≡ page_at file.profile.page_size old i
+  pub left : (i : ℕ) → to ≤ i → page_at file.profile.page_size new i ≡ page_at file.profile.page_size old i

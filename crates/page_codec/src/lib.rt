@@ -5,6 +5,7 @@ mod codec;
 mod laws;
 mod opening;
 mod sealing;
+mod side_by_side;
 mod tag;
 
 pub use codec::Codec;

@@ -1,12 +1,17 @@
 // Sealing a plain page, or several side by side.
-ghost use Rattle.std.specs.Prelude.{◌≡◌, ℕ, ◌*◌, ◌<◌, ◌≤◌, ◌++◌, All, length, slice_index, take, drop, IsTrue};
+ghost use Rattle.std.specs.Prelude.{◌≡◌, ℕ, ◌+◌, ◌*◌, ◌<◌, ◌≤◌, ◌++◌, All, length, slice_index, take, drop, IsTrue};
+ghost use Rattle.sha2.specs.Sha512.{sha512};
+ghost use Rattle.hmac_core.specs.Hmac.{key_block};
+ghost use Rattle.cipher_profile.specs.declared.profile.HashKind.TheVariants.{Sha512};
 ghost use Rattle.cipher_profile.specs.Profile.{usable};
 ghost use Rattle.page_codec.specs.Page.{accepts, cipher_start, magic, opened, sealed, tag, untagged, with_tag};
-ghost use Rattle.page_codec.specs.Pages.{IsTagged, page_at, sealed_page};
+ghost use Rattle.page_codec.specs.Pages.{AreTagged, IsTagged, page_at, sealed_page};
 
 use crate::codec::{Codec, IV_LEN, cipher_start};
 use crate::laws::key_law;
+use crate::side_by_side::four_numbers;
 use cbc_mode::{cbc_encrypt, cbc_encrypt_records, cbc_round_trip_law};
+use hash_lanes::FourMacs;
 
 impl Codec {
     /// Seals a plain page as page n, numbered from 1. The drawn bytes fill the reserve, and must serve no other page.
@@ -63,15 +68,63 @@ impl Codec {
 
     // Writes each page's tag over its place.
     fn put_tags(&self, numbers: &[u32], pages: &mut [u8])
+        requires numbers { All (λ n. 2 ≤ n) numbers.now }
         requires size { length pages.old ≡ self.now.profile.page_size * length numbers.now }
         ensures size { length pages.new ≡ length pages.old }
         ensures pages { (i : ℕ) → i < length numbers.now → IsTagged self.now (slice_index numbers.now i)
             (page_at self.now.profile.page_size pages.old i) (page_at self.now.profile.page_size pages.new i) }
     {
+        let done = self.put_fours(numbers, pages);
         let _usable = self.profile.usable();
         let size = self.profile.page_size as usize;
-        'pages: for i in 0..numbers.len() {
+        'rest: for i in done..numbers.len() {
             self.put_tag(numbers[i], &mut pages[size * i..size * i + size]);
+        }
+    }
+
+    // The same for as many of the first pages as are taken by fours, which the answer counts.
+    fn put_fours(&self, numbers: &[u32], pages: &mut [u8]) -> usize
+        requires numbers { All (λ n. 2 ≤ n) numbers.now }
+        requires size { length pages.old ≡ self.now.profile.page_size * length numbers.now }
+        ensures within { result ≤ length numbers.now }
+        ensures tagged { AreTagged self.now numbers.now 0 result pages.old pages.new }
+    {
+        if numbers.len() < 4 || !self.hashes_fours() {
+            return 0;
+        }
+        let macs = FourMacs::new(&self.keys.mac);
+        let fours = numbers.len() / 4;
+        'fours: for k in 0..fours {
+            self.put_four_tags(&macs, 4 * k, numbers, pages);
+        }
+        4 * fours
+    }
+
+    // Writes the tags of the four pages from this one on, counted from 0, over their places.
+    fn put_four_tags(&self, macs: &FourMacs, at: usize, numbers: &[u32], pages: &mut [u8])
+        requires numbers { All (λ n. 2 ≤ n) numbers.now }
+        requires size { length pages.old ≡ self.now.profile.page_size * length numbers.now }
+        requires within { at + 4 ≤ length numbers.now }
+        requires hash { self.now.profile.hash ≡ Sha512 }
+        requires key { macs.now ≡ key_block sha512 128 self.now.keys.mac }
+        ensures { AreTagged self.now numbers.now at (at + 4) pages.old pages.new }
+    {
+        let size = self.profile.page_size as usize;
+        let tag_at = self.profile.usable() + IV_LEN;
+        let ends = four_numbers(
+            numbers[at],
+            numbers[at + 1],
+            numbers[at + 2],
+            numbers[at + 3],
+        );
+        let tags = macs.tags(&pages[size * at..], size, tag_at, &ends, 4);
+        'pages: for j in 0..4 {
+            let i = at + j;
+            self.place_tag(
+                numbers[i],
+                &tags[64 * j..64 * j + 64],
+                &mut pages[size * i..size * i + size],
+            );
         }
     }
 
@@ -104,11 +157,23 @@ impl Codec {
         ensures accepted { IsTrue (accepts self.now n stored.new) }
         ensures opens_as_before { opened self.now n stored.new ≡ opened self.now n stored.old }
     {
+        if self.profile.tag_len > 0 {
+            let mac = self.tag(n, stored);
+            self.place_tag(n, &mac, stored);
+        }
+    }
+
+    // The same where the tag is known: these bytes begin with it.
+    fn place_tag(&self, n: u32, mac: &[u8], stored: &mut [u8])
+        requires size { length stored.old ≡ self.now.profile.page_size }
+        requires mac_size { length mac.now ≡ 64 }
+        requires tag { take self.now.profile.tag_len mac.now ≡ tag self.now n stored.old }
+        ensures value { stored.new ≡ with_tag self.now.profile (tag self.now n stored.old) stored.old }
+        ensures accepted { IsTrue (accepts self.now n stored.new) }
+        ensures opens_as_before { opened self.now n stored.new ≡ opened self.now n stored.old }
+    {
         let tag_at = self.profile.usable() + IV_LEN;
         let tag_len = self.profile.tag_len as usize;
-        if tag_len > 0 {
-            let tag = self.tag(n, stored);
-            stored[tag_at..tag_at + tag_len].copy_from_slice(&tag[..tag_len]);
-        }
+        stored[tag_at..tag_at + tag_len].copy_from_slice(&mac[..tag_len]);
     }
 }

@@ -31,6 +31,8 @@ pub fn salvage<D: Disk, K: Sink>(
     ensures on { IsTrue D.tells → IsReported K.tells (file_pages codec.now (D.reads disk.old)) (K.taken out.old) (K.taken out.new) result }
     // the key is refused exactly where the profile has tags and no page is accepted
     ensures key { IsTrue D.tells → IsKeyAnswered codec.now.profile.tag_len (file_pages codec.now (D.reads disk.old)) result }
+    // where the key opens no page, nothing is put
+    ensures unopened { IsTrue D.tells → 0 < codec.now.profile.tag_len → IsNoneAccepted (file_pages codec.now (D.reads disk.old)) → out.new ≡ out.old }
     // why it stopped
     ensures stop { IfErr result (IsStop codec.now.profile.tag_len (D.faults disk.old) (D.faults disk.new)
         (K.faults out.old) (K.faults out.new) (out.new ≡ out.old)) }
@@ -76,6 +78,7 @@ fn salvage_pages<D: Disk, K: Sink>(
     requires pages { IsTrue D.tells → pages ≡ (file_pages codec.now (D.reads disk.old)).count }
     ensures on { IsTrue D.tells → IsReported K.tells (file_pages codec.now (D.reads disk.old)) (K.taken out.old) (K.taken out.new) result }
     ensures key { IsTrue D.tells → IsKeyAnswered codec.now.profile.tag_len (file_pages codec.now (D.reads disk.old)) result }
+    ensures unopened { IsTrue D.tells → 0 < codec.now.profile.tag_len → IsNoneAccepted (file_pages codec.now (D.reads disk.old)) → out.new ≡ out.old }
     ensures stop { IfErr result (IsStop codec.now.profile.tag_len (D.faults disk.old) (D.faults disk.new)
         (K.faults out.old) (K.faults out.new) (out.new ≡ out.old)) }
     ensures later { D.faults disk.old ≤ D.faults disk.new }

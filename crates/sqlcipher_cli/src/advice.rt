@@ -2,9 +2,11 @@
 use crate::failure::{Conflict, Failure, Shown};
 use crate::folder::Folder;
 use crate::key_words::{explain_new_key, remark_on};
+use crate::near::explain_names;
 use crate::streams::InputSource;
 use crate::usage::explain_usage;
 use cipher_profile::probed_profiles;
+use schema_names::NearName;
 use sqlcipher_tool::{Refusal, Status};
 use std::fmt::Display;
 
@@ -35,18 +37,15 @@ const LAYOUT_DIFFERS: &str =
 
 const FILE_THERE: &str = "there is such a file already: `make` takes a new name";
 
-const NO_TABLE: &str =
-    "the schema has no table of this name whose rows have rowids: a name is compared byte for byte, case and all; a view has no rows of \
-    its own, and those of an index or of a WITHOUT ROWID table have no rowids: for these use `export`, which shows every name";
-
-const SHORT: &str = "the file ends before its last page: it was cut, or it was not copied whole";
+const SHORT: &str =
+    "the file ends before its last page: it was cut, or it was not copied whole; `salvage` prints the rows of the pages that are there";
 
 const RAGGED: &str =
-    "the file does not end with a page: it was cut, or something stands behind its pages";
+    "the file does not end with a page: it was cut, or something stands behind its pages; `salvage` prints the rows of its whole pages";
 
 const DAMAGED: &str =
     "the file is damaged, or its journal is missing: put the FILE-journal of the same moment beside it and give `recover`; \
-    else another copy is the way";
+    else another copy is the way, or `salvage`, which prints the rows that can still be read";
 
 const TAGS_REFUSED: &str =
     "a page that is not in use may never have been sealed: `verify` looks at those that are; where one of them is refused the file \
@@ -73,6 +72,8 @@ pub struct Ended<'r, 'f> {
     pub words: &'r [&'r str],
     /// What failed, at status 4 to 7.
     pub failure: Option<Failure<'f>>,
+    /// The names that are near that of `find`, where there is no table of it.
+    pub near: Vec<NearName>,
 }
 
 impl<'r, 'f> Ended<'r, 'f> {
@@ -225,6 +226,17 @@ fn explain_status(rt: &HostRuntime, run: &Ended, input: &InputSource, folder: &m
     }
 }
 
+/// The counts of a salvage once more, since the output may be a file, and what they leave open.
+pub fn explain_salvaged(rt: &HostRuntime, counts: &str) {
+    say(
+        rt,
+        format_args!(
+            "{counts}; rows that were deleted may be among them, and a row that changed its page may come twice. \
+            tools/salvage_to_sql.py turns them into SQL"
+        ),
+    );
+}
+
 fn explain_key(rt: &HostRuntime, run: &Ended, input: &InputSource, folder: &mut Folder) {
     if folder.is_plain() {
         say(rt, NOT_ENCRYPTED);
@@ -236,6 +248,15 @@ fn explain_key(rt: &HostRuntime, run: &Ended, input: &InputSource, folder: &mut 
             "the key fits under no version; an app may set its own rounds or hash. The README's section \"When the key is refused\" \
             lists what else it may be",
         );
+    } else if run.words.first() == Some(&"salvage") {
+        say(
+            rt,
+            format_args!(
+                "the key opens no page of the file under version {}: on a copy whose first page is whole `probe` finds the version. The \
+                README's section \"When the key is refused\" lists what else it may be",
+                run.version()
+            ),
+        );
     } else {
         let version = run.version();
         let order = match run.words {
@@ -246,7 +267,8 @@ fn explain_key(rt: &HostRuntime, run: &Ended, input: &InputSource, folder: &mut 
             rt,
             format_args!(
                 "the key does not fit under version {version}: `probe` finds the version and the size of its pages.{order} The README's \
-                section \"When the key is refused\" lists what else it may be"
+                section \"When the key is refused\" lists what else it may be. Where the first page is damaged, `salvage {version}` opens the \
+                others"
             ),
         );
     }
@@ -260,7 +282,7 @@ fn explain_refusal(rt: &HostRuntime, run: &Ended, refusal: Refusal, is_played: b
         Refusal::KeyForm => KEY_WITH_SALT,
         Refusal::LayoutDiffers => LAYOUT_DIFFERS,
         Refusal::FileThere => FILE_THERE,
-        Refusal::NoTable => NO_TABLE,
+        Refusal::NoTable => return explain_names(rt, run.words, run.near.as_slice()),
         Refusal::JournalThere => JOURNAL_THERE,
         Refusal::JournalPageSize { found } => return explain_journal_pages(rt, found),
         Refusal::SuperJournal => SUPER_JOURNAL,

@@ -2,10 +2,10 @@
 
 /// The text of `--help`.
 pub const HELP: &str = "\
-sqlcipher-tool checks SQLCipher database files, plays back the journal that a stop
-has left, sets two numbers of their header, changes their key, and writes their
-database anew in another version. It writes nothing else to them. It also makes
-databases of any number of rows.
+sqlcipher-tool checks SQLCipher database files, prints their rows, plays back the
+journal that a stop has left, sets two numbers of their header, changes their key,
+and writes their database anew in another version. It writes nothing else to them.
+It also makes databases of any number of rows.
 
 usage: sqlcipher-tool FILE COMMAND [PROFILE [PROFILE | N | FIELD N | NAME LOW HIGH]] < KEYS
        sqlcipher-tool --help | -h | help | --version
@@ -19,6 +19,10 @@ commands
   export PROFILE  check the whole database, and print every row and entry as text,
                   which tools/export_to_sql.py turns into SQL (it is installed in
                   share/sqlcipher-tool)
+  salvage PROFILE print the rows of a damaged file: those of every page that can be
+                  read, whatever became of the others, and which pages and rows
+                  can't be. Rows that were deleted may be among them.
+                  tools/salvage_to_sql.py turns the text into SQL
   find PROFILE NAME LOW HIGH
                   print the rows of the table NAME with rowids from LOW to HIGH, as
                   `export` does, and `found: R rows`. It reads the schema and the

@@ -20,6 +20,7 @@ mod identity;
 mod key_line;
 mod key_words;
 mod lock_table;
+mod near;
 mod paths;
 mod progress;
 mod role_file;
@@ -32,9 +33,10 @@ mod usage;
 use advice::Ended;
 use failure::failed;
 use folder_disk::FolderDisk;
+use near::names_near;
 use paths::Paths;
 use progress::Progress;
-use sqlcipher_tool::{Status, run};
+use sqlcipher_tool::{Refusal, Status, run};
 use std::alloc::{AllocError, Global};
 use std::process::ExitCode;
 use std::{env, io};
@@ -191,6 +193,11 @@ fn serve(rt: &HostRuntime, file: &str, words: &[&str]) -> Status
     let mut entropy = DeviceEntropy::new(rt);
     let alloc = rt.alloc();
     let status = run(alloc, words, &mut input, &mut out, &mut entropy, &mut disk);
+    let near = if status == Status::Refused(Refusal::NoTable) {
+        names_near(rt, words, &input.line, &mut entropy, &mut disk)
+    } else {
+        None
+    };
     progress.clear();
     disk.folder.discard_fresh();
     let failure = match status {
@@ -205,7 +212,11 @@ fn serve(rt: &HostRuntime, file: &str, words: &[&str]) -> Status
         path: file,
         words,
         failure,
+        near: near.unwrap_or(Vec::new(alloc)),
     };
     advice::explain(rt, &run, &input, &mut disk.folder);
+    if status == Status::Done && words.first() == Some(&"salvage") {
+        advice::explain_salvaged(rt, out.last_line());
+    }
     status
 }

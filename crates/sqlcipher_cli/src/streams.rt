@@ -113,11 +113,16 @@ fn read_some(rt: &HostRuntime, buf: &mut [u8]) -> io::Result<usize>
     Err(io::ErrorKind::Interrupted.into())
 }
 
+/// How many of the last bytes of the output are kept: more than the last line of `salvage` has.
+const TAIL: usize = 128;
+
 /// Standard output. A write that takes nothing is a fault.
 #[derive(Drop)]
 pub struct OutputSink<'a> {
     rt: &'a HostRuntime,
     progress: &'a Progress<'a>,
+    /// The last bytes that were written, zeros before them.
+    tail: [u8; TAIL],
     /// How often the stream has failed.
     pub faults: u64,
     /// The last failure.
@@ -129,10 +134,32 @@ impl<'a> OutputSink<'a> {
         OutputSink {
             rt,
             progress,
+            tail: [0; TAIL],
             faults: 0,
             last: None,
         }
     }
+
+    /// The last line that was written, without its line feed. Of a longer one the end.
+    pub fn last_line(&self) -> &str {
+        last_line_of(&self.tail)
+    }
+}
+
+fn keep_tail(tail: &mut [u8; TAIL], written: &[u8]) {
+    let kept = written.len().min(TAIL);
+    tail.copy_within(kept.., 0);
+    tail[TAIL - kept..].copy_from_slice(&written[written.len() - kept..]);
+}
+
+fn last_line_of(tail: &[u8; TAIL]) -> &str {
+    let mut start = 0;
+    'bytes: for i in 0..TAIL - 1 {
+        if tail[i] == b'\n' || tail[i] == 0 {
+            start = i + 1;
+        }
+    }
+    str::from_utf8(&tail[start..TAIL - 1]).unwrap_or("")
 }
 
 impl<'a> Sink for OutputSink<'a> {
@@ -145,6 +172,9 @@ impl<'a> Sink for OutputSink<'a> {
     fn put(&mut self, piece: &[u8]) -> Result<usize, Failed> {
         self.progress.clear();
         let outcome = called("standard output", "write", write_some(self.rt, piece));
+        if let Ok(count) = outcome {
+            keep_tail(&mut self.tail, &piece[..count]);
+        }
         settle(&mut self.faults, &mut self.last, outcome)
     }
 }

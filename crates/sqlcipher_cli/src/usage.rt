@@ -4,7 +4,7 @@ use crate::failure::Shown;
 use cipher_profile::profile_of;
 
 /// The commands that take a version and nothing else.
-const READERS: [&str; 5] = ["tags", "header", "verify", "export", "recover"];
+const READERS: [&str; 6] = ["tags", "header", "verify", "export", "salvage", "recover"];
 
 /// Says what is missing, or which word is none.
 pub fn explain_usage(rt: &HostRuntime, words: &[&str]) {

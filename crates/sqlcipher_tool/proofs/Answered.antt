@@ -13,7 +13,7 @@ use Rattle.sqlcipher_tool.specs.Answer.{Answer, IsAnswer, IsAnswered, IsFault, I
 use Rattle.sqlcipher_tool.specs.Crash.{KeepsHeld}
 use Rattle.sqlcipher_tool.specs.Due.{and_secrets, key_answer, key_lines, keyed_answers, secret_answers}
 use Rattle.sqlcipher_tool.specs.declared.command.Command.{Command}
-use Rattle.sqlcipher_tool.specs.declared.command.Command.TheVariants.{Tags, Header, Verify, Export, Find, Probe, Recover, Stamp, Rekey, Migrate, Make}
+use Rattle.sqlcipher_tool.specs.declared.command.Command.TheVariants.{Tags, Header, Verify, Export, Salvage, Find, Probe, Recover, Stamp, Rekey, Migrate, Make}
 use Rattle.sqlcipher_tool.specs.declared.job.Job.TheVariants.{Verify as VerifyPages, Export as ExportPages, Find as FindRows}
 use Rattle.sqlcipher_tool.specs.declared.status.Status.{Status}
 use Rattle.sqlcipher_tool.specs.declared.status.Status.TheVariants.{Done, Usage, Refused, KeyRefused, DiskFault, OutputFault, InputFault, EntropyFault, OutOfMemory}
@@ -142,6 +142,8 @@ secrets_due (Verify profile) [] files last is = absurd (omega (arith, is))
 secrets_due (Verify profile) (secret ∷ rest) files last is = recovered_some VerifyPages profile secret files
 secrets_due (Export profile) [] files last is = absurd (omega (arith, is))
 secrets_due (Export profile) (secret ∷ rest) files last is = recovered_some ExportPages profile secret files
+secrets_due (Salvage profile) [] files last is = absurd (omega (arith, is))
+secrets_due (Salvage profile) (secret ∷ rest) files last is = after_some (recovery_of profile files) _ (omega arith)
 secrets_due (Find profile name low high) [] files last is = absurd (omega (arith, is))
 secrets_due (Find profile name low high) (secret ∷ rest) files last is = recovered_some (FindRows name low high) profile secret files
 secrets_due Probe [] files last is = absurd (omega (arith, is))

@@ -18,7 +18,7 @@ use Rattle.sqlcipher_tool.specs.Promises.{takes_keys}
 use Rattle.sqlcipher_tool.specs.Words.{draws, keys_taken, lacks_tags, layouts_differ, writes_beside}
 use Rattle.sqlcipher_tool.specs.declared.status.Refusal.TheVariants.{NoTags, LayoutDiffers}
 use Rattle.sqlcipher_tool.specs.declared.command.Command.{Command}
-use Rattle.sqlcipher_tool.specs.declared.command.Command.TheVariants.{Tags, Header, Verify, Export, Find, Probe, Recover, Stamp, Rekey, Migrate, Make}
+use Rattle.sqlcipher_tool.specs.declared.command.Command.TheVariants.{Tags, Header, Verify, Export, Salvage, Find, Probe, Recover, Stamp, Rekey, Migrate, Make}
 use Rattle.sqlcipher_tool.specs.declared.status.Refusal.{Refusal}
 use Rattle.sqlcipher_tool.specs.declared.status.Status.{Status}
 use Rattle.sqlcipher_tool.specs.declared.status.Status.TheVariants.{Done, Refused, OutputFault}
@@ -49,6 +49,7 @@ changes_of status (Tags profile) tells drawn run gave given more was = was
 changes_of status (Header profile) tells drawn run gave given more was = was
 changes_of status (Verify profile) tells drawn run gave given more was = was
 changes_of status (Export profile) tells drawn run gave given more was = was
+changes_of status (Salvage profile) tells drawn run gave given more was = was
 changes_of status (Find profile name low high) tells drawn run gave given more was = was
 changes_of status Probe tells drawn run gave given more was = was
 changes_of status (Recover profile) tells drawn run gave given more was = was
@@ -181,6 +182,7 @@ module _ {D : Type 0} (reads : D → Files) (images : D → Files → Type 0) (m
   unchanged_keeps (Header profile) disk = held profile.page_size disk
   unchanged_keeps (Verify profile) disk = held profile.page_size disk
   unchanged_keeps (Export profile) disk = held profile.page_size disk
+  unchanged_keeps (Salvage profile) disk = held profile.page_size disk
   unchanged_keeps (Find profile name low high) disk = held profile.page_size disk
   unchanged_keeps Probe disk = stays disk
   unchanged_keeps (Recover profile) disk = held profile.page_size disk
@@ -208,6 +210,7 @@ module _ {D : Type 0} (reads : D → Files) (images : D → Files → Type 0) (m
   unchanged_changes status (Header profile) gave tells drawn disk never = tt
   unchanged_changes status (Verify profile) gave tells drawn disk never = tt
   unchanged_changes status (Export profile) gave tells drawn disk never = tt
+  unchanged_changes status (Salvage profile) gave tells drawn disk never = tt
   unchanged_changes status (Find profile name low high) gave tells drawn disk never = tt
   unchanged_changes status Probe gave tells drawn disk never = tt
   unchanged_changes status (Recover profile) gave tells drawn disk never = tt

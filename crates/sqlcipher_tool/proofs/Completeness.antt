@@ -32,9 +32,11 @@ use Rattle.rollback_journal.specs.declared.recovery.Recovery.{Recovery}
 use Rattle.rowid_find.specs.Found.{found_rows}
 use Rattle.rowid_find.specs.Lines.{found_report}
 use Rattle.rollback_journal.specs.declared.recovery.RecoverError.{RecoverError}
-use Rattle.sqlcipher_tool.specs.Answer.{Answer, IsFault, done, first_of, refused}
+use Rattle.salvage_scan.specs.Salvage.{salvage_lines}
+use Rattle.salvage_scan.specs.Text.{salvage_report}
+use Rattle.sqlcipher_tool.specs.Answer.{Answer, IsFault, done, first_of, key_refused, refused}
 use Rattle.sqlcipher_tool.specs.declared.command.Command.{Command}
-use Rattle.sqlcipher_tool.specs.declared.command.Command.TheVariants.{Tags, Header, Verify, Export, Find, Probe, Recover, Stamp, Rekey, Migrate, Make}
+use Rattle.sqlcipher_tool.specs.declared.command.Command.TheVariants.{Tags, Header, Verify, Export, Salvage, Find, Probe, Recover, Stamp, Rekey, Migrate, Make}
 use Rattle.sqlcipher_tool.specs.declared.job.Job.TheVariants.{Verify as VerifyPages, Export as ExportPages, Find as FindRows}
 use Rattle.sqlcipher_tool.specs.declared.status.Refusal.{Refusal}
 use Rattle.sqlcipher_tool.specs.declared.status.Refusal.TheVariants.{FileThere, JournalThere}
@@ -53,7 +55,8 @@ use Rattle.sqlcipher_tool.specs.Promises.{AnswersOne}
 use Rattle.sqlcipher_tool.specs.Recovered.{after_recovery, answers_after, recovered_answer, recovered_answers, recovered_main, recovery_answer, recovery_of}
 use Rattle.sqlcipher_tool.specs.Rekey.{rekey_answers}
 use Rattle.sqlcipher_tool.specs.Renewal.{pages_under}
-use Rattle.sqlcipher_tool.specs.Servable.{AfterRecovery, CanBeServed, ForOne, ForTwo, HasFewPages, HasTable, HasTags, IsDoneAlone, IsDoneOrStarved, IsFree, IsProbed, IsServable, NoneRose}
+use Rattle.sqlcipher_tool.specs.Salvage.{file_pages, salvage_answer, salvage_causes, salvaged_answer}
+use Rattle.sqlcipher_tool.specs.Servable.{AfterRecovery, CanBeServed, ForOne, ForTwo, HasFewPages, HasPages, HasTable, HasTags, IsDoneAlone, IsDoneOrStarved, IsFree, IsProbed, IsServable, NoneRose}
 use Rattle.sqlcipher_tool.specs.Stamp.{stamp_answer, stamped_answer}
 use Rattle.sqlcipher_tool.specs.Tags.{file_answer, is_refused, pages_answer, refused_pages, tags_answer, tags_causes}
 use Rattle.sqlcipher_tool.specs.Text.{header_report, made_report, migrated_report, probe_report, recovery_line, rekeyed_report, stamped_report, tags_report, verify_report}
@@ -248,6 +251,41 @@ tags_alone profile secret file listed has =
     accepted = none_where (is_refused keys file) count (λ i within.
         not_of (accepts keys (1 + i) (page_stored keys file (1 + i))) (has.accepted (1 + i) (number_is count (1 + i) (omega arith) (omega (arith, within)))))
 
+-- ---- salvage
+
+salvage_alone : (profile : Profile) (secret : Secret) (file : List ℕ) → IsListed profile → HasPages profile secret file → IsDoneAlone (salvage_answer profile secret file ∷ [])
+salvage_alone profile secret file listed has = (
+  salvage_report (salvage_lines (file_pages keys file)),
+  ap (λ (o : Option Answer). unwrap_or o (salvaged_answer keys file) ∷ []) none
+      ∙ ap (λ (b : Bool). (if b then key_refused else done (salvage_report (salvage_lines (file_pages keys file)))) ∷ []) has.opens,
+)
+  where
+    keys : FileKeys
+    keys = keys_of profile secret file
+
+    size : ℕ
+    size = profile.page_size
+
+    some : 0 < size
+    some = listed_some profile listed
+
+    long : size ≤ length file
+    long = whole_len (length file) size some has.some
+
+    none_of_three : (a b d : Bool) (w x y : Answer) → a ≡ false → b ≡ false → d ≡ false
+        → first_of (record { holds = a; answer = w } ∷ record { holds = b; answer = x } ∷ record { holds = d; answer = y } ∷ []) ≡ None
+    none_of_three true b d w x y one two three = cc
+    none_of_three false true d w x y one two three = cc
+    none_of_three false false true w x y one two three = cc
+    none_of_three false false false w x y one two three = refl
+
+    none : first_of (salvage_causes profile file) ≡ None
+    none =
+        none_of_three (length file == 0) (nat_lt (length file) size) (nat_lt largest_database (whole_pages profile file * size)) _ _ _
+        (not_none (length file) (omega (arith, some, long)))
+        (no_more (length file) size long)
+        (no_more largest_database (whole_pages profile file * size) has.few)
+
 -- ---- probe
 
 found_alone : (o : Option Profile) → is_some o ≡ true → IsDoneAlone (found_answer o ∷ [])
@@ -351,6 +389,8 @@ servable_done (Verify profile) secrets files after served =
     one_secret secrets _ _ (λ secret. all_alone profile files _ (job_answers VerifyPages profile secret) (λ file. verify_alone profile secret file served))
 servable_done (Export profile) secrets files after served =
     one_secret secrets _ _ (λ secret. all_alone profile files _ (job_answers ExportPages profile secret) (λ file. export_alone profile secret file served))
+servable_done (Salvage profile) secrets files after served =
+    one_secret secrets _ _ (λ secret. all_alone profile files _ (λ file. salvage_answer profile secret file ∷ []) (λ file. salvage_alone profile secret file served))
 servable_done (Find profile name low high) secrets files after served =
     one_secret secrets _ _ (λ secret. all_alone profile files _ (job_answers (FindRows name low high) profile secret) (λ file. find_alone profile secret file name low high))
 servable_done Probe secrets files after served = one_secret secrets _ _ (λ secret. probe_alone secret files)

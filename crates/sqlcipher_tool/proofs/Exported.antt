@@ -65,7 +65,8 @@ some_put pages tells before after part checked =
       begun = put;
     }) checked
 
-put_so : (status : Status) (answer : Answer) (before after : List ℕ) → IsFault status → PutsPart answer.text before after → PutsPart answer.begun before after
+-- of an answer
+pub put_so : (status : Status) (answer : Answer) (before after : List ℕ) → IsFault status → PutsPart answer.text before after → PutsPart answer.begun before after
     → PutsSo status answer before after
 put_so Done answer before after fault text begun = absurd fault
 put_so Usage answer before after fault text begun = absurd fault

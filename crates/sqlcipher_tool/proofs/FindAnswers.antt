@@ -1,12 +1,11 @@
 -- What `find` answers, by what its search came to.
-use Rattle.std.proofs.Common.{◌≡◌, ◌⊎◌, ⊎_elim, inl, inr, ◌≤◌, ℕ, ℤ, Bool, true, false, IsTrue, List, [], ◌∷◌, ◌++◌, length, Option, Some, None, Result, Ok, Err, refl, sym, ap, ◌∙◌, subst, arith, append-nil, append_assoc}
+use Rattle.std.proofs.Common.{◌≡◌, ◌⊎◌, ⊎_elim, inl, inr, ℕ, ℤ, Bool, true, false, IsTrue, List, [], ◌∷◌, ◌++◌, length, Option, Some, None, Err, refl, sym, ap, ◌∙◌, subst, arith, append-nil, append_assoc}
 use Rattle.std.specs.List.{Contains}
 use mir.Val.{SFits, of_z, to_z}
 use mir.Syntax.{w64}
 use Rattle.std.proofs.lemmas.Int.{to_z-of_z}
 use Rattle.db_format.specs.Pages.{Pages, nothing}
 use Rattle.db_format.specs.declared.defect.Defect.{Defect as FormatDefect}
-use Rattle.db_format.specs.declared.defect.Defect.TheVariants.{BadKind}
 use Rattle.btree_page.specs.declared.kind.Family.TheVariants.{Table as TableFamily}
 use Rattle.btree_model.specs.Finding.{Finding, place, leaf, entry, key, fault, refused as refused_page, entries, faults, refusals, is_sound}
 use Rattle.btree_model.specs.Records.{tree_part}
@@ -14,7 +13,6 @@ use Rattle.btree_model.specs.Schema.{schema_part}
 use Rattle.btree_walk.specs.Causes.{IsAmong}
 use Rattle.btree_walk.specs.declared.error.WalkError.{WalkError}
 use Rattle.btree_walk.specs.declared.error.WalkError.TheVariants.{Defect as Found, Source, OutOfMemory as MemoryEnds}
-use Rattle.export_rows.specs.Out.{MovesPart}
 use Rattle.pager.specs.Causes.{MayRefuse}
 use Rattle.pager.specs.declared.fill.PageError.{PageError}
 use Rattle.pager.specs.declared.fill.PageError.TheVariants.{OutOfRange, TagRefused, DiskFault as PageFault, EntropyFault as DrawFault, AllPinned}
@@ -25,12 +23,12 @@ use Rattle.rowid_find.specs.Found.{found_rows}
 use Rattle.rowid_find.specs.Lines.{count_line, found_report, rows_text}
 use Rattle.rowid_find.specs.Reach.{reach_all}
 use Rattle.rowid_find.specs.Search.{IsAllFound, IsCut, IsCutOff}
-use Rattle.rowid_find.specs.Table.{IsSearchedSchema, IsTableRead, IsTableStop, Table, at_root, no_table, unaccepted, no_kind, schema_rows, table_of}
+use Rattle.rowid_find.specs.Table.{IsSearchedSchema, IsTableRead, IsTableStop, Table, at_root, unaccepted, no_kind, schema_rows, table_of}
 use Rattle.rowid_find.proofs.SearchSteps.{text_both}
 use Rattle.rowid_find.proofs.SoundFound.{sound_reach}
 use Rattle.schema_map.proofs.SoundParts.{sound_faults, sound_refusals}
 use Rattle.sqlcipher_tool.specs.Answer.{Answer, IsFault, Puts, PutsLine, PutsPart, done, is_defect, refused}
-use Rattle.sqlcipher_tool.specs.Find.{before_stop, ended_answer, find_answers, first_stop, met_answer, rows_answer, table_answer}
+use Rattle.sqlcipher_tool.specs.Find.{before_stop, ended_answer, find_answers, first_stop, met_answer, table_answer}
 use Rattle.sqlcipher_tool.specs.Promises.{AnswersOne, PutsSo}
 use Rattle.sqlcipher_tool.specs.Stop.{stop_answer}
 use Rattle.sqlcipher_tool.specs.Text.{refusal_line}
@@ -39,7 +37,7 @@ use Rattle.sqlcipher_tool.specs.Walked.{walk_stop}
 use Rattle.sqlcipher_tool.specs.declared.opening.Stop.{Stop}
 use Rattle.sqlcipher_tool.specs.declared.opening.Stop.TheVariants.{DiskFault as StopDisk, OutOfMemory as StopMemory}
 use Rattle.sqlcipher_tool.specs.declared.status.Refusal.{Refusal}
-use Rattle.sqlcipher_tool.specs.declared.status.Refusal.TheVariants.{PageTag, Defect as RefusedDefect, NoTable}
+use Rattle.sqlcipher_tool.specs.declared.status.Refusal.TheVariants.{PageTag, Defect as RefusedDefect}
 use Rattle.sqlcipher_tool.specs.declared.status.Status.{Status}
 use Rattle.sqlcipher_tool.specs.declared.status.Status.TheVariants.{Done, Refused, DiskFault, OutputFault, OutOfMemory}
 use Rattle.sqlcipher_tool.proofs.Verified.{among_pages, among_stops, some_is}

@@ -11,6 +11,7 @@ pub mod SomeDue
 pub mod Exported
 pub mod Verified
 pub mod FindAnswers
+pub mod NearNames
 pub mod VerifiedFile
 pub mod SamePages
 pub mod DoneAnswers
@@ -35,6 +36,7 @@ pub mod Asked
 pub mod Numbers
 pub mod Rowids
 pub mod Served
+pub mod Salvaging
 pub mod Completeness
 pub mod MadeServable
 pub mod MigrateServable

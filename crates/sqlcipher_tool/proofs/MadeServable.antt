@@ -15,16 +15,18 @@ use Rattle.pager.specs.File.{whole_pages}
 use Rattle.pager.specs.Opening.{Opened}
 use Rattle.pager.specs.Pages.{is_number}
 use Rattle.pager.specs.declared.opening.OpenError.{OpenError}
+use Rattle.pager.proofs.BatchLemmas.{number_is}
 use Rattle.sqlcipher_tool.specs.declared.command.Command.{Command}
-use Rattle.sqlcipher_tool.specs.declared.command.Command.TheVariants.{Tags, Header, Verify, Export, Find, Probe, Recover, Stamp, Rekey, Migrate, Make}
+use Rattle.sqlcipher_tool.specs.declared.command.Command.TheVariants.{Tags, Header, Verify, Export, Salvage, Find, Probe, Recover, Stamp, Rekey, Migrate, Make}
 use Rattle.sqlcipher_tool.specs.Opening.{opened_with}
 use Rattle.sqlcipher_tool.specs.Plain.{IsClean}
-use Rattle.sqlcipher_tool.specs.Servable.{CanBeServed, HasTags, IsProbed, IsReading, IsServable, standing}
+use Rattle.sqlcipher_tool.specs.Servable.{CanBeServed, HasPages, HasTags, IsProbed, IsReading, IsServable, standing}
 use Rattle.sqlcipher_tool.proofs.Completeness.{listed_some}
 use Rattle.sqlcipher_tool.proofs.Databases.{counted_pages}
 use Rattle.sqlcipher_tool.proofs.MadeFile.{made_clean}
 use Rattle.sqlcipher_tool.proofs.Numbers.{le_true}
 use Rattle.sqlcipher_tool.proofs.OpenedParts.{IsOpen, open_parts}
+use Rattle.sqlcipher_tool.proofs.Salvaging.{page_opened}
 
 module _ (profile : Profile) (secret : Secret) (rows : ℕ) (file : File) (fresh : Option File) (listed : IsListed profile) (made : IsMade profile secret rows file.bytes) where
   abbrev keys : FileKeys
@@ -43,6 +45,11 @@ module _ (profile : Profile) (secret : Secret) (rows : ℕ) (file : File) (fresh
     fit = is_open.fit;
     accepted = λ n number. made.accepted n (subst (λ (count : ℕ). is_number count n ≡ true) whole number);
   }
+
+  has_pages : HasPages profile secret file.bytes
+  has_pages =
+      let first : is_number (whole_pages profile file.bytes) 1 ≡ true = number_is (whole_pages profile file.bytes) 1 (omega arith) (omega (arith, has_tags.some)) in
+      record { some = has_tags.some; few = has_tags.few; opens = page_opened keys file.bytes 1 first (has_tags.accepted 1 first) }
 
   opens : IsOk (opened_with profile secret file.bytes)
   opens = ap (λ (r : Result Opened OpenError). is_ok r) made.opens
@@ -64,6 +71,7 @@ module _ (profile : Profile) (secret : Secret) (rows : ℕ) (file : File) (fresh
   made_servable second (Verify other) is = subst (λ (p : Profile). IsServable (Verify p) (secret ∷ second ∷ []) (standing file fresh)) (sym is) (record { recovers = refl; holds = clean })
   made_servable second (Export other) is =
       subst (λ (p : Profile). IsServable (Export p) (secret ∷ second ∷ []) (standing file fresh)) (sym is) (record { recovers = refl; holds = (clean.held, clean.opens) })
+  made_servable second (Salvage other) is = subst (λ (p : Profile). IsServable (Salvage p) (secret ∷ second ∷ []) (standing file fresh)) (sym is) (record { recovers = refl; holds = has_pages })
   made_servable second (Find other name low high) is = absurd is
   made_servable second Probe is = probed
   made_servable second (Recover other) is = refl

@@ -17,7 +17,7 @@ true_le a b is = search rules
 pub lt_true : (a b : ℕ) → a < b → nat_lt a b ≡ true
 lt_true a b less = search (rules, less)
 
-true_lt : (a b : ℕ) → nat_lt a b ≡ true → a < b
+pub true_lt : (a b : ℕ) → nat_lt a b ≡ true → a < b
 true_lt a b is = search rules
 
 pub no_less : (a b : ℕ) → nat_lt a b ≡ false → b ≤ a

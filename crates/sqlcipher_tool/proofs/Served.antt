@@ -7,9 +7,8 @@ use Rattle.cipher_profile.specs.declared.profile.Profile.{Profile}
 use Rattle.cipher_profile.specs.Profile.{IsListed, profile_named}
 use Rattle.cipher_profile.proofs.Names.{named_listed}
 use Rattle.sqlcipher_tool.specs.declared.command.Command.{Command}
-use Rattle.sqlcipher_tool.specs.declared.command.Command.TheVariants.{Tags, Header, Verify, Export, Probe, Recover, Rekey, Migrate}
+use Rattle.sqlcipher_tool.specs.declared.command.Command.TheVariants.{Tags, Header, Verify, Export, Salvage, Probe, Recover, Rekey, Migrate}
 use Rattle.sqlcipher_tool.specs.Words.{IsServed, field_named, find_form, form, make_form, number_named, rowid_named, stamp_form, two_profiles}
-use Rattle.sqlcipher_tool.proofs.Verified.{some_is}
 
 -- none, or a command that is served
 abbrev MaybeServed : Option Command → Type 0
@@ -56,7 +55,8 @@ maybe_served (name ∷ word ∷ []) =
     (either (bytes_eq name (codes "header")) _ _ (mapped Header profile listed)
     (either (bytes_eq name (codes "verify")) _ _ (mapped Verify profile listed)
     (either (bytes_eq name (codes "export")) _ _ (mapped Export profile listed)
-    (either (bytes_eq name (codes "recover")) _ _ (mapped Recover profile listed) tt))))
+    (either (bytes_eq name (codes "salvage")) _ _ (mapped Salvage profile listed)
+    (either (bytes_eq name (codes "recover")) _ _ (mapped Recover profile listed) tt)))))
 maybe_served (name ∷ first ∷ second ∷ []) =
     either (bytes_eq name (codes "rekey")) _ _ (two_served Rekey (λ old new one other. (one, other)) first second)
     (either (bytes_eq name (codes "migrate")) _ _ (two_served Migrate (λ old new one other. (one, other)) first second)

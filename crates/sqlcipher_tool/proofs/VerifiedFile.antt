@@ -128,7 +128,7 @@ refused_due r answers stop is answer same =
 
 -- ---- no answer to a file is that to a recovery
 
-abbrev AreOfFile : List Answer → Type 0
+abbrev pub AreOfFile : List Answer → Type 0
 AreOfFile [] = Unit {0}
 AreOfFile (answer ∷ rest) = IsOfFile answer × AreOfFile rest
 

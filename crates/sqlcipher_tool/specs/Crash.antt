@@ -11,7 +11,7 @@ use Rattle.cipher_profile.specs.declared.keys.Secret.{Secret}
 use Rattle.cipher_profile.specs.declared.profile.Profile.{Profile}
 use Rattle.rollback_journal.specs.Recovery.{Keeps as KeepsRecovered}
 use Rattle.sqlcipher_tool.specs.declared.command.Command.{Command}
-use Rattle.sqlcipher_tool.specs.declared.command.Command.TheVariants.{Tags, Header, Verify, Export, Find, Probe, Recover, Stamp, Rekey, Migrate, Make}
+use Rattle.sqlcipher_tool.specs.declared.command.Command.TheVariants.{Tags, Header, Verify, Export, Salvage, Find, Probe, Recover, Stamp, Rekey, Migrate, Make}
 use Rattle.sqlcipher_tool.specs.declared.status.Status.{Status}
 use Rattle.sqlcipher_tool.specs.declared.status.Status.TheVariants.{Done, Usage, Refused, KeyRefused, DiskFault, OutputFault, InputFault, EntropyFault, OutOfMemory}
 use Rattle.sqlcipher_tool.specs.Holding.{Held, HoldsOnly, HoldsOneOf, AreOfSize, DiskRun, held_by}
@@ -130,6 +130,7 @@ Keeps (Tags profile) run = KeepsHeld profile.page_size run
 Keeps (Header profile) run = KeepsHeld profile.page_size run
 Keeps (Verify profile) run = KeepsHeld profile.page_size run
 Keeps (Export profile) run = KeepsHeld profile.page_size run
+Keeps (Salvage profile) run = KeepsHeld profile.page_size run
 Keeps (Find profile name low high) run = KeepsHeld profile.page_size run
 Keeps Probe run = Stays run
 Keeps (Recover profile) run = KeepsHeld profile.page_size run
@@ -145,6 +146,7 @@ Changes status (Tags profile) gave tells drawn run = Unit {0}
 Changes status (Header profile) gave tells drawn run = Unit {0}
 Changes status (Verify profile) gave tells drawn run = Unit {0}
 Changes status (Export profile) gave tells drawn run = Unit {0}
+Changes status (Salvage profile) gave tells drawn run = Unit {0}
 Changes status (Find profile name low high) gave tells drawn run = Unit {0}
 Changes status Probe gave tells drawn run = Unit {0}
 Changes status (Recover profile) gave tells drawn run = Unit {0}

@@ -9,7 +9,7 @@ use Rattle.cipher_profile.specs.KeyLine.{after_line, key_line}
 use Rattle.pager.specs.File.{main_of}
 use Rattle.sqlcipher_tool.specs.Answer.{Answer, refused, usage}
 use Rattle.sqlcipher_tool.specs.declared.command.Command.{Command}
-use Rattle.sqlcipher_tool.specs.declared.command.Command.TheVariants.{Tags, Header, Verify, Export, Find, Probe, Recover, Stamp, Rekey, Migrate, Make}
+use Rattle.sqlcipher_tool.specs.declared.command.Command.TheVariants.{Tags, Header, Verify, Export, Salvage, Find, Probe, Recover, Stamp, Rekey, Migrate, Make}
 use Rattle.sqlcipher_tool.specs.declared.status.Refusal.{Refusal}
 use Rattle.sqlcipher_tool.specs.declared.status.Refusal.TheVariants.{NoTags, LayoutDiffers, KeyMissing as RefusedMissing, KeyEmpty as RefusedEmpty, KeyTooLong as RefusedLong, KeyForm as RefusedForm}
 use Rattle.sqlcipher_tool.specs.declared.status.Status.TheVariants.{InputFault}
@@ -22,6 +22,7 @@ use Rattle.sqlcipher_tool.specs.Probe.{probe_answer}
 use Rattle.sqlcipher_tool.specs.Recovered.{recovered_answer, recovered_answers, recovery_answer, recovery_of}
 use Rattle.sqlcipher_tool.specs.Rekey.{rekey_answers}
 use Rattle.sqlcipher_tool.specs.Renewal.{pages_under}
+use Rattle.sqlcipher_tool.specs.Salvage.{salvage_answer}
 use Rattle.sqlcipher_tool.specs.Stamp.{stamp_answer}
 use Rattle.sqlcipher_tool.specs.Tags.{tags_answer}
 use Rattle.sqlcipher_tool.specs.Words.{form, keys_taken, lacks_tags, layouts_differ}
@@ -69,6 +70,8 @@ secret_answers (Verify profile) secrets files after =
     with_one secrets (λ secret. recovered_answers profile files (job_answers VerifyPages profile secret))
 secret_answers (Export profile) secrets files after =
     with_one secrets (λ secret. recovered_answers profile files (job_answers ExportPages profile secret))
+secret_answers (Salvage profile) secrets files after =
+    with_one secrets (λ secret. recovered_answers profile files (λ file. salvage_answer profile secret file ∷ []))
 secret_answers (Find profile name low high) secrets files after =
     with_one secrets (λ secret. recovered_answers profile files (job_answers (FindRows name low high) profile secret))
 secret_answers Probe secrets files after = with_one secrets (λ secret. probe_answer secret files ∷ [])

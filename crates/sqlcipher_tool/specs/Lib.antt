@@ -11,6 +11,7 @@ pub mod Holding
 pub mod Job
 pub mod Make
 pub mod Migrate
+pub mod Names
 pub mod Opening
 pub mod Probe
 pub mod Promises
@@ -18,6 +19,7 @@ pub mod Recovered
 pub mod Rekey
 pub mod Renewal
 pub mod Reported
+pub mod Salvage
 pub mod Servable
 pub mod Stamp
 pub mod Stop

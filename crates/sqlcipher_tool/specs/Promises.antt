@@ -8,7 +8,7 @@ use Rattle.sqlcipher_tool.specs.Answer.{Answer, IsAnswered, PutsPart}
 use Rattle.edge_model.specs.Files.{Files}
 use Rattle.sqlcipher_tool.specs.Make.{has_main_or_journal}
 use Rattle.sqlcipher_tool.specs.declared.command.Command.{Command}
-use Rattle.sqlcipher_tool.specs.declared.command.Command.TheVariants.{Tags, Header, Verify, Export, Find, Probe, Recover, Stamp, Rekey, Migrate, Make}
+use Rattle.sqlcipher_tool.specs.declared.command.Command.TheVariants.{Tags, Header, Verify, Export, Salvage, Find, Probe, Recover, Stamp, Rekey, Migrate, Make}
 use Rattle.sqlcipher_tool.specs.declared.status.Refusal.TheVariants.{JournalPageSize, SuperJournal}
 use Rattle.sqlcipher_tool.specs.declared.status.Status.{Status}
 use Rattle.sqlcipher_tool.specs.declared.status.Status.TheVariants.{Done, Usage, Refused, KeyRefused, DiskFault, OutputFault, InputFault, EntropyFault, OutOfMemory}
@@ -34,6 +34,7 @@ is_in_the_way (Tags profile) files = false
 is_in_the_way (Header profile) files = false
 is_in_the_way (Verify profile) files = false
 is_in_the_way (Export profile) files = false
+is_in_the_way (Salvage profile) files = false
 is_in_the_way (Find profile name low high) files = false
 is_in_the_way Probe files = false
 is_in_the_way (Recover profile) files = false

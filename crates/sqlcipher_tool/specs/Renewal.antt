@@ -4,7 +4,7 @@ use Rattle.cipher_profile.specs.declared.keys.Secret.{Secret}
 use Rattle.cipher_profile.specs.declared.profile.Profile.{Profile}
 use Rattle.page_codec.specs.Page.{FileKeys, keys_of}
 use Rattle.sqlcipher_tool.specs.declared.command.Command.{Command}
-use Rattle.sqlcipher_tool.specs.declared.command.Command.TheVariants.{Tags, Header, Verify, Export, Find, Probe, Recover, Stamp, Rekey, Migrate, Make}
+use Rattle.sqlcipher_tool.specs.declared.command.Command.TheVariants.{Tags, Header, Verify, Export, Salvage, Find, Probe, Recover, Stamp, Rekey, Migrate, Make}
 use Rattle.fresh_file.specs.Draws.{HasOwnDraws}
 use Rattle.make_job.specs.Made.{IsMade}
 use Rattle.pager.specs.Database.{count_of}
@@ -44,6 +44,7 @@ renewal (Tags profile) secrets = None
 renewal (Header profile) secrets = None
 renewal (Verify profile) secrets = None
 renewal (Export profile) secrets = None
+renewal (Salvage profile) secrets = None
 renewal (Find profile name low high) secrets = None
 renewal Probe secrets = None
 renewal (Recover profile) secrets = None
@@ -80,6 +81,7 @@ IsNew (Tags profile) renewal before after = ⊥
 IsNew (Header profile) renewal before after = ⊥
 IsNew (Verify profile) renewal before after = ⊥
 IsNew (Export profile) renewal before after = ⊥
+IsNew (Salvage profile) renewal before after = ⊥
 IsNew (Find profile name low high) renewal before after = ⊥
 IsNew Probe renewal before after = ⊥
 IsNew (Recover profile) renewal before after = ⊥
@@ -94,6 +96,7 @@ AreDrawn (Tags profile) renewal file drawn = ⊥
 AreDrawn (Header profile) renewal file drawn = ⊥
 AreDrawn (Verify profile) renewal file drawn = ⊥
 AreDrawn (Export profile) renewal file drawn = ⊥
+AreDrawn (Salvage profile) renewal file drawn = ⊥
 AreDrawn (Find profile name low high) renewal file drawn = ⊥
 AreDrawn Probe renewal file drawn = ⊥
 AreDrawn (Recover profile) renewal file drawn = ⊥

@@ -1,5 +1,5 @@
 -- Where nothing stands in the way of a command, so that Done alone is due to it.
-use Rattle.std.specs.Prelude.{◌≡◌, ◌⊎◌, ◌<◌, ◌≤◌, ◌*◌, ℕ, true, List, [], ◌∷◌, IsOk, Option, Some, None, Ok}
+use Rattle.std.specs.Prelude.{◌≡◌, ◌⊎◌, ◌<◌, ◌≤◌, ◌*◌, ℕ, true, false, List, [], ◌∷◌, IsOk, Option, Some, None, Ok}
 use Rattle.btree_model.specs.Content.{Content}
 use Rattle.btree_model.specs.Finding.{is_sound}
 use Rattle.btree_model.specs.Records.{tree_part}
@@ -22,7 +22,7 @@ use Rattle.pager.specs.Pages.{is_number, opened_pages}
 use Rattle.rowid_find.specs.Table.{at_root, schema_rows, table_of}
 use Rattle.sqlcipher_tool.specs.Answer.{Answer, done}
 use Rattle.sqlcipher_tool.specs.declared.command.Command.{Command}
-use Rattle.sqlcipher_tool.specs.declared.command.Command.TheVariants.{Tags, Header, Verify, Export, Find, Probe, Recover, Stamp, Rekey, Migrate, Make}
+use Rattle.sqlcipher_tool.specs.declared.command.Command.TheVariants.{Tags, Header, Verify, Export, Salvage, Find, Probe, Recover, Stamp, Rekey, Migrate, Make}
 use Rattle.sqlcipher_tool.specs.declared.status.Status.{Status}
 use Rattle.sqlcipher_tool.specs.declared.status.Status.TheVariants.{Done, OutOfMemory}
 use Rattle.sqlcipher_tool.specs.Due.{key_lines, word_refusal}
@@ -30,6 +30,7 @@ use Rattle.sqlcipher_tool.specs.Opening.{opened_with}
 use Rattle.sqlcipher_tool.specs.Plain.{IsClean, Opens}
 use Rattle.sqlcipher_tool.specs.Probe.{is_fitting}
 use Rattle.sqlcipher_tool.specs.Recovered.{recovered_main, recovery_of}
+use Rattle.sqlcipher_tool.specs.Salvage.{opens_none}
 use Rattle.sqlcipher_tool.specs.Words.{form, keys_taken}
 
 -- ---- what each command asks of the files
@@ -57,6 +58,12 @@ pub record HasTags (profile : Profile) (secret : Secret) (file : List ℕ) : Typ
   pub fit : fits (keys_of profile secret file) (page_stored (keys_of profile secret file) file 1) ≡ true
   pub accepted : (n : ℕ) → is_number (whole_pages profile file) n ≡ true
       → accepts (keys_of profile secret file) n (page_stored (keys_of profile secret file) file n) ≡ true
+
+-- the file has a page, and no more than are served; where the profile has tags a page is accepted
+pub record HasPages (profile : Profile) (secret : Secret) (file : List ℕ) : Type 0 where
+  pub some : 0 < whole_pages profile file
+  pub few : whole_pages profile file * profile.page_size ≤ largest_database
+  pub opens : opens_none (keys_of profile secret file) file ≡ false
 
 -- no journal is there, and the key fits under some profile
 pub record IsProbed (secret : Secret) (files : Files) : Type 0 where
@@ -91,6 +98,7 @@ IsServable (Header profile) secrets files = ForOne secrets (λ secret. AfterReco
 IsServable (Verify profile) secrets files = ForOne secrets (λ secret. AfterRecovery profile files (λ file. IsClean (keys_of profile secret file) file))
 IsServable (Export profile) secrets files =
     ForOne secrets (λ secret. AfterRecovery profile files (λ file. (held : Content) × Opens (keys_of profile secret file) file held))
+IsServable (Salvage profile) secrets files = ForOne secrets (λ secret. AfterRecovery profile files (HasPages profile secret))
 IsServable (Find profile name low high) secrets files = ForOne secrets (λ secret. AfterRecovery profile files (HasTable profile secret name))
 IsServable Probe secrets files = ForOne secrets (λ secret. IsProbed secret files)
 IsServable (Recover profile) secrets files = IsOk (recovery_of profile files)
@@ -122,6 +130,7 @@ IsReading profile (Tags other) = other ≡ profile
 IsReading profile (Header other) = other ≡ profile
 IsReading profile (Verify other) = other ≡ profile
 IsReading profile (Export other) = other ≡ profile
+IsReading profile (Salvage other) = other ≡ profile
 IsReading profile (Find other name low high) = ⊥
 IsReading profile Probe = Unit {0}
 IsReading profile (Recover other) = other ≡ profile

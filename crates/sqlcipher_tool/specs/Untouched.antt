@@ -7,7 +7,7 @@ use Rattle.pager.specs.File.{main_of}
 use Rattle.sqlcipher_tool.specs.Holding.{DiskRun}
 use Rattle.sqlcipher_tool.specs.Recovered.{recovery_of}
 use Rattle.sqlcipher_tool.specs.declared.command.Command.{Command}
-use Rattle.sqlcipher_tool.specs.declared.command.Command.TheVariants.{Tags, Header, Verify, Export, Find, Probe, Recover, Stamp, Rekey, Migrate, Make}
+use Rattle.sqlcipher_tool.specs.declared.command.Command.TheVariants.{Tags, Header, Verify, Export, Salvage, Find, Probe, Recover, Stamp, Rekey, Migrate, Make}
 
 -- the profile by which it recovers Main; `probe` and `make` recover nothing
 abbrev pub recovers_by : Command → Option Profile
@@ -15,6 +15,7 @@ recovers_by (Tags profile) = Some profile
 recovers_by (Header profile) = Some profile
 recovers_by (Verify profile) = Some profile
 recovers_by (Export profile) = Some profile
+recovers_by (Salvage profile) = Some profile
 recovers_by (Find profile name low high) = Some profile
 recovers_by Probe = None
 recovers_by (Recover profile) = Some profile

@@ -6,6 +6,7 @@
 -- | `header P`                 | Header profile P                | 1         | no    |
 -- | `verify P`                 | Verify profile P                | 1         | no    |
 -- | `export P`                 | Export profile P                | 1         | no    |
+-- | `salvage P`                | Salvage profile P               | 1         | no    |
 -- | `find P NAME LOW HIGH`     | Find profile P NAME LOW HIGH    | 1         | no    |
 -- | `probe`                    | Probe                           | 1         | no    |
 -- | `recover P`                | Recover profile P               | 0         | no    |
@@ -24,7 +25,7 @@ use Rattle.std.specs.Str.Parse.{digits_value, starts_with_minus}
 use Rattle.cipher_profile.specs.Profile.{IsListed, profile_named}
 use Rattle.cipher_profile.specs.declared.profile.Profile.{Profile}
 use Rattle.sqlcipher_tool.specs.declared.command.Command.{Command}
-use Rattle.sqlcipher_tool.specs.declared.command.Command.TheVariants.{Tags, Header, Verify, Export, Find, Probe, Recover, Stamp, Rekey, Migrate, Make}
+use Rattle.sqlcipher_tool.specs.declared.command.Command.TheVariants.{Tags, Header, Verify, Export, Salvage, Find, Probe, Recover, Stamp, Rekey, Migrate, Make}
 use Rattle.sqlcipher_tool.specs.declared.command.Field.{Field}
 use Rattle.sqlcipher_tool.specs.declared.command.Field.TheVariants.{UserVersion, ApplicationId}
 
@@ -91,7 +92,8 @@ form (name ∷ word ∷ []) =
     else (if bytes_eq name (codes "header") then option_map Header (profile_named word)
     else (if bytes_eq name (codes "verify") then option_map Verify (profile_named word)
     else (if bytes_eq name (codes "export") then option_map Export (profile_named word)
-    else (if bytes_eq name (codes "recover") then option_map Recover (profile_named word) else None))))
+    else (if bytes_eq name (codes "salvage") then option_map Salvage (profile_named word)
+    else (if bytes_eq name (codes "recover") then option_map Recover (profile_named word) else None)))))
 form (name ∷ first ∷ second ∷ []) =
     if bytes_eq name (codes "rekey") then two_profiles Rekey first second
     else (if bytes_eq name (codes "migrate") then two_profiles Migrate first second
@@ -106,6 +108,7 @@ IsServed (Tags profile) = IsListed profile
 IsServed (Header profile) = IsListed profile
 IsServed (Verify profile) = IsListed profile
 IsServed (Export profile) = IsListed profile
+IsServed (Salvage profile) = IsListed profile
 IsServed (Find profile name low high) = IsListed profile
 IsServed Probe = Unit {0}
 IsServed (Recover profile) = IsListed profile
@@ -120,6 +123,7 @@ lacks_tags (Tags profile) = profile.tag_len == 0
 lacks_tags (Header profile) = false
 lacks_tags (Verify profile) = false
 lacks_tags (Export profile) = false
+lacks_tags (Salvage profile) = false
 lacks_tags (Find profile name low high) = false
 lacks_tags Probe = false
 lacks_tags (Recover profile) = false
@@ -134,6 +138,7 @@ layouts_differ (Tags profile) = false
 layouts_differ (Header profile) = false
 layouts_differ (Verify profile) = false
 layouts_differ (Export profile) = false
+layouts_differ (Salvage profile) = false
 layouts_differ (Find profile name low high) = false
 layouts_differ Probe = false
 layouts_differ (Recover profile) = false
@@ -148,6 +153,7 @@ keys_taken (Tags profile) = 1
 keys_taken (Header profile) = 1
 keys_taken (Verify profile) = 1
 keys_taken (Export profile) = 1
+keys_taken (Salvage profile) = 1
 keys_taken (Find profile name low high) = 1
 keys_taken Probe = 1
 keys_taken (Recover profile) = 0
@@ -162,6 +168,7 @@ takes_memory (Tags profile) = true
 takes_memory (Header profile) = true
 takes_memory (Verify profile) = true
 takes_memory (Export profile) = true
+takes_memory (Salvage profile) = true
 takes_memory (Find profile name low high) = true
 takes_memory Probe = false
 takes_memory (Recover profile) = true
@@ -176,6 +183,7 @@ draws (Tags profile) = false
 draws (Header profile) = false
 draws (Verify profile) = false
 draws (Export profile) = false
+draws (Salvage profile) = false
 draws (Find profile name low high) = false
 draws Probe = false
 draws (Recover profile) = false
@@ -190,6 +198,7 @@ finds (Tags profile) = false
 finds (Header profile) = false
 finds (Verify profile) = false
 finds (Export profile) = false
+finds (Salvage profile) = false
 finds (Find profile name low high) = true
 finds Probe = false
 finds (Recover profile) = false
@@ -204,6 +213,7 @@ writes_beside (Tags profile) = false
 writes_beside (Header profile) = false
 writes_beside (Verify profile) = false
 writes_beside (Export profile) = false
+writes_beside (Salvage profile) = false
 writes_beside (Find profile name low high) = false
 writes_beside Probe = false
 writes_beside (Recover profile) = false

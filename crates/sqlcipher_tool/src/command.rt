@@ -57,6 +57,8 @@ pub enum Command<'w> {
     Verify(Profile),
     /// Print all rows and entries.
     Export(Profile),
+    /// Print the rows of a damaged file.
+    Salvage(Profile),
     /// Print the rows of a table whose rowids lie in a range.
     Find {
         /// The file's profile.
@@ -127,6 +129,7 @@ impl<'w> Command<'w> {
             Command::Header(_)
             | Command::Verify(_)
             | Command::Export(_)
+            | Command::Salvage(_)
             | Command::Find { .. }
             | Command::Probe
             | Command::Recover(_)
@@ -149,6 +152,7 @@ impl<'w> Command<'w> {
             | Command::Header(_)
             | Command::Verify(_)
             | Command::Export(_)
+            | Command::Salvage(_)
             | Command::Find { .. }
             | Command::Probe
             | Command::Recover(_)
@@ -191,6 +195,9 @@ fn command_on<'w>(name: &str, word: &str) -> Option<Command<'w>>
     }
     if name == "export" {
         return Some(Command::Export(profile?));
+    }
+    if name == "salvage" {
+        return Some(Command::Salvage(profile?));
     }
     if name == "recover" {
         return Some(Command::Recover(profile?));

@@ -13,10 +13,12 @@ mod job;
 mod laws;
 mod make;
 mod migrate;
+mod names;
 mod opening;
 mod probe;
 mod recovery;
 mod rekey;
+mod salvage;
 mod stamp;
 mod status;
 mod tags;
@@ -33,5 +35,7 @@ pub use laws::{
     rekey_clean_law, rekey_done_law, rekey_opens_law, unread_leaves_law, verify_clean_law,
     verify_done_law, verify_run_law,
 };
+pub use names::near_names;
+pub use opening::Stop;
 pub use status::{Refusal, Status};
 pub use top::run;

@@ -1,8 +1,9 @@
 // A file is opened for its secret: nothing stands in the way, and the key fits.
-ghost use Rattle.std.specs.Prelude.{◌≡◌, ◌⊎◌, ◌≤◌, length, None, Ok, IfOk, OnOk, IfErr, IsTrue};
+ghost use Rattle.std.specs.Prelude.{◌≡◌, ◌⊎◌, ◌*◌, ◌/◌, ◌<◌, ◌≤◌, length, None, Ok, IfOk, OnOk, IfErr, IsTrue};
 ghost use Rattle.edge_model.specs.Causes.{HasCause, Rose};
 ghost use Rattle.edge_model.specs.OnlyRead.{OnlyRead};
 ghost use Rattle.cipher_profile.specs.Profile.{IsListed};
+ghost use Rattle.db_format.specs.Count.{largest_database};
 ghost use Rattle.page_codec.specs.Page.{keys_of};
 ghost use Rattle.pager.specs.File.{main_of};
 ghost use Rattle.sqlcipher_tool.specs.Answer.{first_of};
@@ -10,9 +11,11 @@ ghost use Rattle.sqlcipher_tool.specs.Opening.{length_causes, key_causes, opened
 ghost use Rattle.sqlcipher_tool.specs.Stop.{stop_answer, IsLate, IsOutside};
 ghost use Rattle.sqlcipher_tool.specs.declared.opening.Stop.TheVariants.{DiskFault};
 ghost use Rattle.sqlcipher_tool.specs.declared.opening.ChangeError.TheVariants.{Stopped};
+ghost use Rattle.sqlcipher_tool.specs.declared.status.Refusal.TheVariants.{TooLarge};
 
 use crate::status::Refusal;
 use cipher_profile::{Profile, Secret, derive};
+use db_format::LARGEST_DATABASE;
 use edge_model::{Disk, Failed};
 use page_codec::Codec;
 use pager::{OpenError, OpenedFile, codec_of, read_main};
@@ -125,6 +128,21 @@ pub fn served_length<D: Disk>(disk: &mut D, profile: Profile) -> Result<u64, Sto
 {
     let length = pager::served_length(disk, &profile)?;
     Ok(length)
+}
+
+/// How many whole pages a file of this length has, where they are served.
+pub fn count_whole_pages(length: u64, profile: Profile) -> Result<u32, Stop>
+    requires { IsListed profile }
+    ensures pages { IfOk result (λ pages. (pages ≡ length / profile.page_size) × (pages * profile.page_size ≤ largest_database)) }
+    ensures stop { IfErr result (λ stop. (stop ≡ Stop.Refused (TooLarge (length / profile.page_size))) × (largest_database < length / profile.page_size * profile.page_size)) }
+{
+    let _usable = profile.usable();
+    let size = u64::from(profile.page_size);
+    let pages = length / size;
+    if pages * size > LARGEST_DATABASE {
+        return Err(Stop::Refused(Refusal::TooLarge { pages }));
+    }
+    Ok(pages as u32)
 }
 
 /// The codec that the secret gives for Main, where its key fits.

@@ -4,7 +4,6 @@ ghost use Rattle.edge_model.specs.Causes.{HasCause, Rose};
 ghost use Rattle.edge_model.specs.Images.{From, LeavesOnly};
 ghost use Rattle.edge_model.specs.OnlyRead.{OnlyRead};
 ghost use Rattle.cipher_profile.specs.Profile.{IsListed};
-ghost use Rattle.db_format.specs.Count.{largest_database};
 ghost use Rattle.page_codec.specs.Page.{keys_of};
 ghost use Rattle.rollback_journal.specs.Recovery.{Keeps};
 ghost use Rattle.sqlcipher_tool.specs.Behind.{HasOnlyRead, IsRecovered};
@@ -13,19 +12,17 @@ ghost use Rattle.pager.specs.File.{main_of, whole_pages};
 ghost use Rattle.sqlcipher_tool.specs.Holding.{disk_run};
 ghost use Rattle.sqlcipher_tool.specs.Promises.{IsUnrecovered};
 ghost use Rattle.sqlcipher_tool.specs.Recovered.{recovered_answer};
-ghost use Rattle.sqlcipher_tool.specs.Tags.{IsLoaded, page_refused, refused_pages, pages_answer, tags_causes, tags_answer};
+ghost use Rattle.sqlcipher_tool.specs.Tags.{AreKnown, refused_pages, refused_unless, pages_answer, tags_causes, tags_answer};
 ghost use Rattle.sqlcipher_tool.specs.Stop.{stop_answer, IsLate};
 ghost use Rattle.sqlcipher_tool.specs.Text.{tag_lines};
 ghost use Rattle.sqlcipher_tool.specs.Untouched.{HasNoFile, IsUnwritten};
-ghost use Rattle.sqlcipher_tool.specs.declared.status.Refusal.TheVariants.{TooLarge};
 
 use crate::conclusion::{conclude, conclude_stop};
-use crate::opening::{Stop, fitting_codec, served_length};
+use crate::opening::{Stop, count_whole_pages, fitting_codec, served_length};
 use crate::recovery::recover_main;
 use crate::status::{Refusal, Status};
 use crate::text::{refusal_line, tags_report};
 use cipher_profile::{Profile, Secret};
-use db_format::LARGEST_DATABASE;
 use edge_model::{Disk, Failed, Sink};
 use page_codec::Codec;
 use pager::read_main;
@@ -34,10 +31,10 @@ use std::alloc::Global;
 // How many bytes are read at once at most: the largest page.
 const BUFFER: usize = 65536;
 
-// And how many pages.
+// And how many pages, whose tags are checked together.
 const MOST_PAGES: usize = 16;
 
-// The pages of Main that stand in the buffer: those after the first so many, up to so many.
+// The pages of Main of which it is known whether they are accepted: those after the first so many, up to so many.
 #[derive(Clone, Copy, Debug, PartialEq, Eq)]
 struct Batch {
     start: u32,
@@ -124,21 +121,6 @@ fn open_for_tags<D: Disk>(
     Ok((codec, pages))
 }
 
-// How many whole pages a file of this length has, where they are served.
-fn count_whole_pages(length: u64, profile: Profile) -> Result<u32, Stop>
-    requires { IsListed profile }
-    ensures pages { IfOk result (λ pages. (pages ≡ length / profile.page_size) × (pages * profile.page_size ≤ largest_database)) }
-    ensures stop { IfErr result (λ stop. (stop ≡ Stop.Refused (TooLarge (length / profile.page_size))) × (largest_database < length / profile.page_size * profile.page_size)) }
-{
-    let _usable = profile.usable();
-    let size = u64::from(profile.page_size);
-    let pages = length / size;
-    if pages * size > LARGEST_DATABASE {
-        return Err(Stop::Refused(Refusal::TooLarge { pages }));
-    }
-    Ok(pages as u32)
-}
-
 // `tags`, where nothing stands in the way.
 fn tags_of_pages<S: Sink, D: Disk>(codec: &Codec, pages: u32, out: &mut S, disk: &mut D) -> Status
     requires listed { IsListed codec.now.profile }
@@ -181,18 +163,15 @@ fn check_pages<S: Sink, D: Disk>(
     ensures only_read { IsTrue D.tells → OnlyRead D.reads D.images D.moment D.since disk.old disk.new }
 {
     let mut buffer = [0u8; BUFFER];
-    let profile = *codec.profile();
-    let _usable = profile.usable();
-    let size = profile.page_size as usize;
+    let mut held = [false; MOST_PAGES];
     let mut batch = Batch { start: 0, end: 0 };
     let mut first = None;
     for done in 0..pages {
-        match load_batch(disk, size, done, pages, batch, &mut buffer) {
+        match load_batch(disk, codec, done, pages, batch, &mut buffer, &mut held) {
             Ok(loaded) => batch = loaded,
             Err(_) => return Err(CheckFault::Disk),
         }
-        let at = place_of(batch, done, size);
-        match check_page(out, codec, done + 1, &buffer[at..at + size]) {
+        match check_page(out, done + 1, held[place_of(batch, done)]) {
             Ok(refused) => first = first.or(refused),
             Err(_) => return Err(CheckFault::Output),
         }
@@ -200,37 +179,40 @@ fn check_pages<S: Sink, D: Disk>(
     Ok(first)
 }
 
-// The batch that has the page after so many: the one that is there, or else the next, which is read.
+// The batch that has the page after so many: the one that is known, or else the next, which is read and checked.
 fn load_batch<D: Disk>(
     disk: &mut D,
-    size: usize,
+    codec: &Codec,
     done: u32,
     pages: u32,
     batch: Batch,
     buffer: &mut [u8],
+    held: &mut [bool],
 ) -> Result<Batch, Failed>
-    requires size { (512 ≤ size) × (size ≤ 65536) }
+    requires tagged { 0 < codec.now.profile.tag_len }
     requires room { length buffer.old ≡ 65536 }
+    requires places { length held.old ≡ 16 }
     requires more { done < pages }
-    requires whole { IsTrue D.tells → pages * size ≤ length (main_of (D.reads disk.old)) }
+    requires whole { IsTrue D.tells → pages * codec.now.profile.page_size ≤ length (main_of (D.reads disk.old)) }
     requires before { batch.start ≤ done }
-    requires bounded { (batch.end - batch.start) * size ≤ 65536 }
-    requires loaded { IsTrue D.tells → IsLoaded size batch.start batch.end buffer.old (main_of (D.reads disk.old)) }
+    requires bounded { batch.end ≤ batch.start + 16 }
+    requires known { IsTrue D.tells → AreKnown codec.now batch.start batch.end held.old (main_of (D.reads disk.old)) }
     ensures here { IfOk result (λ batch. (batch.start ≤ done) × (done < batch.end)) }
-    ensures bounded { IfOk result (λ batch. (batch.end - batch.start) * size ≤ 65536) }
-    ensures loaded { IfOk result (λ batch. IsTrue D.tells → IsLoaded size batch.start batch.end buffer.new (main_of (D.reads disk.old))) }
+    ensures bounded { IfOk result (λ batch. batch.end ≤ batch.start + 16) }
+    ensures known { IfOk result (λ batch. IsTrue D.tells → AreKnown codec.now batch.start batch.end held.new (main_of (D.reads disk.old))) }
     ensures cause { HasCause (D.faults disk.old) (D.faults disk.new) result }
     ensures only_read { IsTrue D.tells → OnlyRead D.reads D.images D.moment D.since disk.old disk.new }
 {
     if done < batch.end {
         return Ok(batch);
     }
+    let profile = *codec.profile();
+    let _usable = profile.usable();
+    let size = profile.page_size as usize;
     let count = pages_at_once(size, pages - done);
-    read_main(
-        disk,
-        done as u64 * size as u64,
-        &mut buffer[..count as usize * size],
-    )?;
+    let length = count as usize * size;
+    read_main(disk, done as u64 * size as u64, &mut buffer[..length])?;
+    codec.tags_hold(done + 1, &buffer[..length], &mut held[..count as usize]);
     Ok(Batch {
         start: done,
         end: done + count,
@@ -243,41 +225,32 @@ fn pages_at_once(size: usize, left: u32) -> u32
     requires some { 1 ≤ left }
     ensures value { result ≡ min left (min 16 (65536 / size)) }
     ensures some { 1 ≤ result }
+    ensures most { result ≤ 16 }
     ensures bounded { result * size ≤ 65536 }
 {
     let held = MOST_PAGES.min(BUFFER / size);
     left.min(held as u32)
 }
 
-// Where the page after so many begins in the buffer, in bytes.
-#[tactic(auto, using(crate::proofs::Batches::slice_within))]
-fn place_of(batch: Batch, done: u32, size: usize) -> usize
+// Which page of its batch the page after so many is, counted from 0.
+fn place_of(batch: Batch, done: u32) -> usize
     requires here { (batch.start ≤ done) × (done < batch.end) }
-    requires bounded { (batch.end - batch.start) * size ≤ 65536 }
-    ensures value { result ≡ (done - batch.start) * size }
-    ensures within { result + size ≤ 65536 }
+    requires bounded { batch.end ≤ batch.start + 16 }
+    ensures value { result ≡ done - batch.start }
+    ensures within { result < 16 }
 {
-    (done - batch.start) as usize * size
+    (done - batch.start) as usize
 }
 
-// Page n of a file, which is stored so, where it is not accepted, for which it prints a line.
-fn check_page<S: Sink>(
-    out: &mut S,
-    codec: &Codec,
-    n: u32,
-    page: &[u8],
-) -> Result<Option<u32>, Failed>
-    requires number { 1 ≤ n }
-    requires listed { IsListed codec.now.profile }
-    requires tagged { 0 < codec.now.profile.tag_len }
-    requires size { length page.now ≡ codec.now.profile.page_size }
-    ensures refused { IfOk result (λ refused. refused ≡ page_refused codec.now n page.now) }
+// Page n of a file, where its tag does not hold, for which it prints a line.
+fn check_page<S: Sink>(out: &mut S, n: u32, holds: bool) -> Result<Option<u32>, Failed>
+    ensures refused { IfOk result (λ refused. refused ≡ refused_unless holds n) }
     ensures text { IfOk result (λ refused. IsTrue S.tells → S.taken out.new ≡ S.taken out.old ++ tag_lines (option_to_list refused)) }
     ensures part { OnErr result (IsTrue S.tells → PutsPart (tag_lines (n ∷ [])) (S.taken out.old) (S.taken out.new)) }
-    ensures is_refused { OnErr result (page_refused codec.now n page.now ≡ Some n) }
+    ensures is_refused { OnErr result (refused_unless holds n ≡ Some n) }
     ensures cause { HasCause (S.faults out.old) (S.faults out.new) result }
 {
-    if codec.tag_holds(n, page) {
+    if holds {
         return Ok(None);
     }
     refusal_line(&Refusal::PageTag { page: n }).put(out)?;

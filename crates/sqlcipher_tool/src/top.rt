@@ -27,6 +27,7 @@ use crate::job::{Job, answer_job};
 use crate::make::make_file;
 use crate::probe::probe;
 use crate::recovery::report_recovery;
+use crate::salvage::salvage_file;
 use crate::status::Status;
 use crate::tags::tags;
 use crate::text::usage_line;
@@ -170,6 +171,7 @@ fn serve<K: Source, S: Sink, E: Entropy, D: Disk>(
         | Command::Header(_)
         | Command::Verify(_)
         | Command::Export(_)
+        | Command::Salvage(_)
         | Command::Find { .. }
         | Command::Probe
         | Command::Stamp { .. }
@@ -265,6 +267,7 @@ fn carry_out<S: Sink, E: Entropy, D: Disk>(
         Command::Export(profile) => {
             answer_job(alloc, Job::Export, profile, secret, out, entropy, disk)
         }
+        Command::Salvage(profile) => salvage_file(alloc, profile, secret, out, disk),
         Command::Find {
             profile,
             name,

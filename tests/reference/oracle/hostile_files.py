@@ -28,6 +28,7 @@ from sqlcipher_formats import (
     JOURNAL_MAGIC, JOURNAL_MARK, PROFILES, Codec, Database, Refused, be, draw_source, export_lines, find_lines, header_text,
     journal_checksum, journal_sector, journal_segments, probe_line, recover, tag_lines, verify_lines, whole_main)
 from sqlcipher_oracle import blank_plain, make_plain
+from sqlcipher_salvage import salvage_lines
 
 NEW_KEY = b"x'ffffffffffffffffffffffffffffffffffffffffffffffffffffffffffffffff'"
 WRONG_KEY = b"x'" + b"5a" * 32 + b"'"
@@ -38,7 +39,7 @@ HANGS = 120             # seconds by the clock for all runs on one file
 EDGES = (0, 1, 2, 3, 127, 128, 255, 256, 2 ** 15, 2 ** 16 - 1, 2 ** 24, 2 ** 31 - 1, 2 ** 31, 2 ** 32 - 1)
 # A file of version 4 with pages of another size once in a while: it has few pages, or takes long to make.
 PROFILE_WORDS = tuple("1234") * 4 + tuple(word for word in PROFILES if ":" in word)
-COMMANDS = ("tags", "header", "verify", "export", "find", "probe", "recover", "stamp", "rekey", "migrate")
+COMMANDS = ("tags", "header", "verify", "export", "find", "salvage", "probe", "recover", "stamp", "rekey", "migrate")
 FINDS = 8               # runs of `find` on a file, where they are tried alone
 LEAST, MOST = -2 ** 63, 2 ** 63 - 1
 
@@ -422,6 +423,9 @@ class Answers:
         self.searched = self.searched or self.database()
         name, low, high = find
         return self.searched.find_answers(name.encode(), low, high)
+
+    def allowed_salvage(self):
+        return 0, ["".join(f"{line}\n" for line in salvage_lines(self.ready(), self.codec))]
 
     def allowed_probe(self):
         if self.file.journal is not None:

@@ -1,4 +1,4 @@
-use Rattle.std.proofs.Common.{◌≡◌, ℕ, List, [], ◌∷◌, Option, Result, Ok, Err, sym, ap, subst, ◌∙◌}
+use Rattle.std.proofs.Common.{ℕ, List, [], ◌∷◌, Option, Ok, Err, sym, ap, subst, ◌∙◌}
 use mir.Val.{of_z, to_z}
 use mir.Syntax.{w64}
 use Rattle.db_format.specs.Pages.{Pages}

@@ -1,4 +1,4 @@
-use Rattle.std.proofs.Common.{List, [], ◌∷◌, ap, sym, subst, rules}
+use Rattle.std.proofs.Common.{List, sym, subst, rules}
 use mir.Val.{SFits}
 use mir.Syntax.{w64}
 use Rattle.pager.specs.File.{main_of}

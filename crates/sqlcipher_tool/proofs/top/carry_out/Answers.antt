@@ -6,7 +6,7 @@ use Rattle.pager.specs.File.{main_of}
 use Rattle.sqlcipher_tool.specs.Crash.{IsDrawnFor, IsSafely, Keeps, MakesWith}
 use Rattle.sqlcipher_tool.specs.Renewal.{same_key}
 use Rattle.sqlcipher_tool.specs.Words.{draws, finds}
-use Rattle.sqlcipher_tool.specs.declared.command.Command.TheVariants.{Tags, Header, Verify, Export, Find, Probe, Stamp, Make}
+use Rattle.sqlcipher_tool.specs.declared.command.Command.TheVariants.{Tags, Header, Verify, Export, Salvage, Find, Probe, Stamp, Make}
 use Rattle.sqlcipher_tool.proofs.Asked.{causes_as, changes_as, draws_as, no_draws, none_beside, undrawn}
 use Rattle.sqlcipher_tool.specs.Behind.{LeavesRecovered}
 use Rattle.sqlcipher_tool.specs.Due.{secret_answers}
@@ -75,6 +75,12 @@ returns-in-Export-clause-keeps g c = λ told.
     subst (λ (command : Asked). Keeps command run) (sym c.in-Export.is)
     (keeps_held c.in-Export.profile.page_size run (λ image ever. (c.answer_job-in-Export.ensures.keeps told).each image ever))
 
+pub returns-in-Salvage-clause-keeps : goal.returns-in-Salvage-clause-keeps
+returns-in-Salvage-clause-keeps g c = λ told.
+    let run = disk_run g.D.Disk.reads g.D.Disk.images g.D.Disk.moment g.D.Disk.since c.args.disk.now c.salvage_file.new.disk in
+    subst (λ (command : Asked). Keeps command run) (sym c.in-Salvage.is)
+    (keeps_held c.in-Salvage.profile.page_size run (λ image ever. (c.salvage_file.ensures.keeps told).each image ever))
+
 pub returns-in-Find-clause-keeps : goal.returns-in-Find-clause-keeps
 returns-in-Find-clause-keeps g c = λ told.
     let run = disk_run g.D.Disk.reads g.D.Disk.images g.D.Disk.moment g.D.Disk.since c.args.disk.now c.answer_job-in-Find.new.disk in
@@ -132,12 +138,19 @@ returns-in-Verify-clause-changes g c = λ told.
 pub returns-in-Export-clause-causes : goal.returns-in-Export-clause-causes
 returns-in-Export-clause-causes g c = undrawn c.answer_job-in-Export.result (draws c.args.command) _ _ _ _ (g.E.Entropy.faults c.args.entropy.now) (g.E.Entropy.faults c.answer_job-in-Export.new.entropy) c.answer_job-in-Export.ensures.causes (ap g.E.Entropy.faults c.answer_job-in-Export.ensures.draws)
 
+pub returns-in-Salvage-clause-causes : goal.returns-in-Salvage-clause-causes
+returns-in-Salvage-clause-causes g c = undrawn c.salvage_file.result (draws c.args.command) _ _ _ _ (g.E.Entropy.faults c.args.entropy.now) (g.E.Entropy.faults c.args.entropy.now) c.salvage_file.ensures.causes refl
+
 pub returns-in-Find-clause-causes : goal.returns-in-Find-clause-causes
 returns-in-Find-clause-causes g c = undrawn c.answer_job-in-Find.result (draws c.args.command) _ _ _ _ (g.E.Entropy.faults c.args.entropy.now) (g.E.Entropy.faults c.answer_job-in-Find.new.entropy) c.answer_job-in-Find.ensures.causes (ap g.E.Entropy.faults c.answer_job-in-Find.ensures.draws)
 
 pub returns-in-Export-clause-own_draws : goal.returns-in-Export-clause-own_draws
 returns-in-Export-clause-own_draws g c = λ told drawing done. no_draws c.args.command (Export c.in-Export.profile) c.in-Export.is (λ secrets. refl) (λ secrets. secrets ≡ c.args.secret.now ∷ [])
     (main_of (g.D.Disk.reads c.answer_job-in-Export.new.disk)) (drop (length (g.E.Entropy.drawn c.args.entropy.now)) (g.E.Entropy.drawn c.answer_job-in-Export.new.entropy))
+
+pub returns-in-Salvage-clause-own_draws : goal.returns-in-Salvage-clause-own_draws
+returns-in-Salvage-clause-own_draws g c = λ told drawing done. no_draws c.args.command (Salvage c.in-Salvage.profile) c.in-Salvage.is (λ secrets. refl) (λ secrets. secrets ≡ c.args.secret.now ∷ [])
+    (main_of (g.D.Disk.reads c.salvage_file.new.disk)) (drop (length (g.E.Entropy.drawn c.args.entropy.now)) (g.E.Entropy.drawn c.args.entropy.now))
 
 pub returns-in-Find-clause-own_draws : goal.returns-in-Find-clause-own_draws
 returns-in-Find-clause-own_draws g c = λ told drawing done. no_draws c.args.command (Find c.in-Find.profile c.in-Find.name c.in-Find.low c.in-Find.high) c.in-Find.is (λ secrets. refl) (λ secrets. secrets ≡ c.args.secret.now ∷ [])
@@ -147,6 +160,11 @@ pub returns-in-Export-clause-changes : goal.returns-in-Export-clause-changes
 returns-in-Export-clause-changes g c = λ told.
     let run = disk_run g.D.Disk.reads g.D.Disk.images g.D.Disk.moment g.D.Disk.since c.args.disk.now c.answer_job-in-Export.new.disk in
     changes_as c.answer_job-in-Export.result c.args.command (Export c.in-Export.profile) (λ secrets. secrets ≡ c.args.secret.now ∷ []) g.E.Entropy.tells (drop (length (g.E.Entropy.drawn c.args.entropy.now)) (g.E.Entropy.drawn c.answer_job-in-Export.new.entropy)) run c.in-Export.is tt
+
+pub returns-in-Salvage-clause-changes : goal.returns-in-Salvage-clause-changes
+returns-in-Salvage-clause-changes g c = λ told.
+    let run = disk_run g.D.Disk.reads g.D.Disk.images g.D.Disk.moment g.D.Disk.since c.args.disk.now c.salvage_file.new.disk in
+    changes_as c.salvage_file.result c.args.command (Salvage c.in-Salvage.profile) (λ secrets. secrets ≡ c.args.secret.now ∷ []) g.E.Entropy.tells (drop (length (g.E.Entropy.drawn c.args.entropy.now)) (g.E.Entropy.drawn c.args.entropy.now)) run c.in-Salvage.is tt
 
 pub returns-in-Find-clause-changes : goal.returns-in-Find-clause-changes
 returns-in-Find-clause-changes g c = λ told.
@@ -248,6 +266,11 @@ returns-in-Export-clause-untouched g c = λ told.
     let run = disk_run g.D.Disk.reads g.D.Disk.images g.D.Disk.moment g.D.Disk.since c.args.disk.now c.answer_job-in-Export.new.disk in
     subst (λ (command : Asked). LeavesAlone (recovers_by command) run) (sym c.in-Export.is) (c.answer_job-in-Export.ensures.untouched told)
 
+pub returns-in-Salvage-clause-untouched : goal.returns-in-Salvage-clause-untouched
+returns-in-Salvage-clause-untouched g c = λ told.
+    let run = disk_run g.D.Disk.reads g.D.Disk.images g.D.Disk.moment g.D.Disk.since c.args.disk.now c.salvage_file.new.disk in
+    subst (λ (command : Asked). LeavesAlone (recovers_by command) run) (sym c.in-Salvage.is) (c.salvage_file.ensures.untouched told)
+
 pub returns-in-Find-clause-untouched : goal.returns-in-Find-clause-untouched
 returns-in-Find-clause-untouched g c = λ told.
     let run = disk_run g.D.Disk.reads g.D.Disk.images g.D.Disk.moment g.D.Disk.since c.args.disk.now c.answer_job-in-Find.new.disk in
@@ -279,6 +302,9 @@ returns-in-Verify-clause-fresh_gone g c = λ told done beside. absurd (none_besi
 
 pub returns-in-Export-clause-fresh_gone : goal.returns-in-Export-clause-fresh_gone
 returns-in-Export-clause-fresh_gone g c = λ told done beside. absurd (none_beside c.args.command (Export c.in-Export.profile) c.in-Export.is refl beside)
+
+pub returns-in-Salvage-clause-fresh_gone : goal.returns-in-Salvage-clause-fresh_gone
+returns-in-Salvage-clause-fresh_gone g c = λ told done beside. absurd (none_beside c.args.command (Salvage c.in-Salvage.profile) c.in-Salvage.is refl beside)
 
 pub returns-in-Find-clause-fresh_gone : goal.returns-in-Find-clause-fresh_gone
 returns-in-Find-clause-fresh_gone g c = λ told done beside. absurd (none_beside c.args.command (Find c.in-Find.profile c.in-Find.name c.in-Find.low c.in-Find.high) c.in-Find.is refl beside)
@@ -312,6 +338,11 @@ returns-in-Export-clause-recovered g c = λ told.
     let run = disk_run g.D.Disk.reads g.D.Disk.images g.D.Disk.moment g.D.Disk.since c.args.disk.now c.answer_job-in-Export.new.disk in
     subst (λ (command : Asked). LeavesRecovered c.answer_job-in-Export.result (draws command) (recovers_by command) run) (sym c.in-Export.is) (c.answer_job-in-Export.ensures.recovered told)
 
+pub returns-in-Salvage-clause-recovered : goal.returns-in-Salvage-clause-recovered
+returns-in-Salvage-clause-recovered g c = λ told.
+    let run = disk_run g.D.Disk.reads g.D.Disk.images g.D.Disk.moment g.D.Disk.since c.args.disk.now c.salvage_file.new.disk in
+    subst (λ (command : Asked). LeavesRecovered c.salvage_file.result (draws command) (recovers_by command) run) (sym c.in-Salvage.is) (c.salvage_file.ensures.recovered told)
+
 pub returns-in-Find-clause-recovered : goal.returns-in-Find-clause-recovered
 returns-in-Find-clause-recovered g c = λ told.
     let run = disk_run g.D.Disk.reads g.D.Disk.images g.D.Disk.moment g.D.Disk.since c.args.disk.now c.answer_job-in-Find.new.disk in
@@ -337,6 +368,9 @@ returns-in-Verify-clause-line g c = λ printed way. c.answer_job.ensures.line pr
 
 pub returns-in-Export-clause-line : goal.returns-in-Export-clause-line
 returns-in-Export-clause-line g c = λ printed way. c.answer_job-in-Export.ensures.line printed (λ is. cc)
+
+pub returns-in-Salvage-clause-line : goal.returns-in-Salvage-clause-line
+returns-in-Salvage-clause-line g c = λ printed way. c.salvage_file.ensures.line printed
 
 pub returns-in-Find-clause-line : goal.returns-in-Find-clause-line
 returns-in-Find-clause-line g c = λ printed way. c.answer_job-in-Find.ensures.line printed (λ is. way (ap finds c.in-Find.is))

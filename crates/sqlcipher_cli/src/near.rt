@@ -1,0 +1,58 @@
+// The names that are near that of `find`, where there is no table of it: on standard error, since the answer is given.
+use crate::advice::say;
+use crate::failure::Shown;
+use crate::folder_disk::FolderDisk;
+use crate::key_line::{KeptLine, KeyLine};
+use crate::streams::DeviceEntropy;
+use cipher_profile::read_key;
+use schema_names::{NearName, SchemaKind};
+use sqlcipher_tool::near_names;
+use std::str;
+
+const NO_TABLE: &str =
+    "the schema has no table of this name whose rows have rowids: a name is compared byte for byte, case and all; a view has no rows of \
+    its own, and those of an index or of a WITHOUT ROWID table have no rowids: for these use `export`, which shows every name";
+
+/// The names of the schema that are that of these words of `find` but for case. The key line is that of the run, and the files are
+/// read as it left them. Where the names can't be had there are none, which is no fault of the run.
+pub fn names_near(
+    rt: &HostRuntime,
+    words: &[&str],
+    line: &KeyLine,
+    entropy: &mut DeviceEntropy,
+    disk: &mut FolderDisk,
+) -> Option<Vec<NearName>> {
+    let secret = read_key(&mut KeptLine::new(line)).ok()?;
+    near_names(rt.alloc(), words, &secret, entropy, disk).ok()
+}
+
+/// Says what is there in the place of the table.
+pub fn explain_names(rt: &HostRuntime, words: &[&str], names: &[NearName]) {
+    if names.is_empty() {
+        say(rt, NO_TABLE);
+    }
+    let sought = words.get(2).copied().unwrap_or("");
+    for near in names {
+        if let Ok(stored) = str::from_utf8(near.name.as_slice()) {
+            explain_name(rt, near, stored, stored == sought);
+        }
+    }
+}
+
+// What has this name. A table is of the very name only where its rows have no rowids, since `find` would have found it.
+fn explain_name(rt: &HostRuntime, near: &NearName, stored: &str, is_sought: bool) {
+    let name = Shown(stored);
+    let words = match near.kind {
+        SchemaKind::Table if !is_sought => {
+            "a table of almost this name: a name is compared byte for byte, case and all"
+        }
+        SchemaKind::Table if near.has_tree => {
+            "a table WITHOUT ROWID: its rows have no rowids; use `export`"
+        }
+        SchemaKind::Table => "a virtual table: its rows stand in other tables; use `export`",
+        SchemaKind::Index => "an index: its entries have no rowids of their own; use `export`",
+        SchemaKind::View => "a view: it has no rows of its own",
+        SchemaKind::Trigger => "a trigger: it has no rows",
+    };
+    say(rt, format_args!("`{name}` is {words}"));
+}
