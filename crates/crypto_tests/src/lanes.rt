@@ -1,6 +1,7 @@
-// SHA-512 and its HMAC of four messages at once: the first by the printed vectors, the others by `hashlib` and `hmac` of Python 3.
+// SHA-512 of four messages at once and SHA-1 of eight, and their HMACs: the first of each by the printed vectors, the others by `hashlib`
+// and `hmac` of Python 3.
 use crate::hex_text::is_hex_of;
-use hash_lanes::{FourMacs, sha512_of_four};
+use hash_lanes::{EightMacs, FourMacs, sha1_of_eight, sha512_of_four};
 
 // FIPS 180-4, the example "abc", and "abd", "abe", "abf".
 const DIGESTS: [&str; 4] = [
@@ -31,6 +32,58 @@ fn four_messages_have_tags_of_their_own(rt: HostRuntime) {
     let macs = FourMacs::new(&[0x0b; 20]);
     let tags = macs.tags(b"Hi THi WHi THi T", 4, 4, b"hereherehosehese", 4);
     for (i, (text, tag)) in TAGS.iter().zip(tags.chunks_exact(64)).enumerate() {
+        assert!(rt; is_hex_of(text, tag), "message {i}");
+    }
+}
+
+// FIPS 180-4, the example "abc", and "abd" to "abj".
+const SHA1_DIGESTS: [&str; 8] = [
+    "a9993e364706816aba3e25717850c26c9cd0d89d",
+    "cb4cc28df0fdbe0ecf9d9662e294b118092a5735",
+    "c9a2a5540dcfc3ebad99e723223675d3f15edc54",
+    "4d3ef0bbfc1daba1a476e2734d9776b811b812ef",
+    "d1f85e55fba9f5b6db087e58762c7c8e370f6a57",
+    "e0b5ccdc5ff9dc06cbc5b1664cf50ae29d296b82",
+    "715a5d4d840064196cfa2f6763ef29067adb4d87",
+    "4bfa459d998f7cce2263f00f1af699f6587ad4e3",
+];
+
+#[test]
+fn eight_messages_have_digests_of_their_own(rt: HostRuntime) {
+    let digests = sha1_of_eight(b"abcabdabeabfabgabhabiabj", 3, 3);
+    for (i, (text, digest)) in SHA1_DIGESTS
+        .iter()
+        .zip(digests.chunks_exact(20))
+        .enumerate()
+    {
+        assert!(rt; is_hex_of(text, digest), "message {i}");
+    }
+}
+
+// RFC 2202, section 3, "Hi There" under 20 bytes of 0x0b, and "Hi Where", "Hi Those", "Hi These", "My Where", "My There", "My These",
+// "My Those".
+const SHA1_TAGS: [&str; 8] = [
+    "b617318655057264e28bc0b6fb378c8ef146be00",
+    "fce5c5a060c7c13a0e0f324cf0e09cf4d4f4691b",
+    "cd665db88478d91b98f364171292f83147a78e8f",
+    "897972eb4c4aac68a1276b497c6c1d1a84c7710b",
+    "ab542df04ede78be640c5db1627393f7ed778e94",
+    "a7c281c999cdab16ec635f20638f37b3e84e8055",
+    "86cd6602cf2d758b3954fa3cfa7203fa8452d4dc",
+    "827781580531c8a18df98f4919f67e99fdf8abd6",
+];
+
+#[test]
+fn eight_messages_have_tags_of_their_own(rt: HostRuntime) {
+    let macs = EightMacs::new(&[0x0b; 20]);
+    let tags = macs.tags(
+        b"Hi THi WHi THi TMy WMy TMy TMy T",
+        4,
+        4,
+        b"hereherehosehesehereherehesehose",
+        4,
+    );
+    for (i, (text, tag)) in SHA1_TAGS.iter().zip(tags.chunks_exact(20)).enumerate() {
         assert!(rt; is_hex_of(text, tag), "message {i}");
     }
 }

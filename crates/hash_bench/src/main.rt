@@ -1,24 +1,34 @@
-//! Hashes four messages of 4,096 bytes by SHA-512, one after another and all at once.
+//! Hashes messages of 4,096 bytes, one after another and all at once: four by SHA-512 and eight by SHA-1.
 //!
-//! `hash_bench`: whether both ways give the same digests. `hash_bench TIMES`: also the least time that each way took, in
-//! nanoseconds, over so many tries that alternate.
+//! `hash_bench`: whether both ways give the same digests. `hash_bench TIMES`: also, in a line for each hash, the least time that each way
+//! took, in nanoseconds, over so many tries that alternate.
 #![tactic(auto)]
 
-use hash_lanes::sha512_of_four;
+use hash_lanes::{sha1_of_eight, sha512_of_four};
+use sha1::Sha1;
 use sha2::{Digest, Sha512};
 use std::time::Instant;
 use std::{env, io};
 
 const LENGTH: usize = 4096;
 
-const TEXT: usize = 16384;
+const TEXT: usize = 32768;
 
-fn one_after_another(text: &[u8; TEXT]) -> [u8; 256] {
+fn four_after_another(text: &[u8; TEXT]) -> [u8; 256] {
     let mut out = [0u8; 256];
     for i in 0..4usize {
         let mut hasher = Sha512::new();
         hasher.update(&text[LENGTH * i..LENGTH * i + LENGTH]);
         out[64 * i..64 * i + 64].copy_from_slice(&hasher.finalize());
+    }
+    out
+}
+
+fn eight_after_another(text: &[u8; TEXT]) -> [u8; 160] {
+    let mut out = [0u8; 160];
+    for i in 0..8usize {
+        let digest = Sha1::digest(&text[LENGTH * i..LENGTH * i + LENGTH]);
+        out[20 * i..20 * i + 20].copy_from_slice(&digest);
     }
     out
 }
@@ -34,21 +44,28 @@ fn main(rt: HostRuntime) -> io::Result<()> {
         text[i] = (i % 251) as u8;
     }
     let mut same = true;
-    let mut single = u128::MAX;
-    let mut at_once = u128::MAX;
+    let mut least = [u128::MAX; 4];
     for _ in 0..times {
         let begun = Instant::now(&rt)?;
-        let first = one_after_another(&text);
-        single = single.min(begun.elapsed(&rt)?.as_nanos());
+        let first = four_after_another(&text);
+        least[0] = least[0].min(begun.elapsed(&rt)?.as_nanos());
         let begun = Instant::now(&rt)?;
         let second = sha512_of_four(&text, LENGTH, LENGTH);
-        at_once = at_once.min(begun.elapsed(&rt)?.as_nanos());
+        least[1] = least[1].min(begun.elapsed(&rt)?.as_nanos());
         same = same && first == second;
+        let begun = Instant::now(&rt)?;
+        let third = eight_after_another(&text);
+        least[2] = least[2].min(begun.elapsed(&rt)?.as_nanos());
+        let begun = Instant::now(&rt)?;
+        let fourth = sha1_of_eight(&text, LENGTH, LENGTH);
+        least[3] = least[3].min(begun.elapsed(&rt)?.as_nanos());
+        same = same && third == fourth;
         text[0] = first[0];
     }
     println!(rt; "{same}")?;
     if times > 1 {
-        println!(rt; "{single} {at_once}")?;
+        println!(rt; "{} {}", least[0], least[1])?;
+        println!(rt; "{} {}", least[2], least[3])?;
     }
     Ok(())
 }

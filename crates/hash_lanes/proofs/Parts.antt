@@ -3,7 +3,6 @@ use Rattle.std.proofs.Common.{◌≡◌, ℕ, zero, suc, ◌+◌, ◌-◌, ◌*�
 use Rattle.std.specs.Prelude.{slice_index_or}
 use Rattle.std.proofs.lemmas.List.{drop-drop, drop-take, drop_at, length-drop, length-take-le, take-append-le}
 use Rattle.hash_lanes.specs.Lanes.{across, four, words}
-use Rattle.hash_lanes.specs.Messages.{tail_blocks}
 
 -- ---- lanes
 
@@ -79,12 +78,12 @@ module _ (a b c d : List ℕ) (n s : ℕ) (la : length a ≡ n) (lb : length b �
 
 -- ---- the last bytes of a message
 
--- what is left of a piece, and an end, as they were cut out
-pub tail_at : (r rest end pad text ends : List ℕ) (start at len end_start end_len from end_from : ℕ) → at ≤ len → start + len ≤ length text
+-- what is left of a piece, and an end, as they were cut out; `filled` says how many bytes so many fill with their padding
+pub tail_at : (filled : ℕ → ℕ) (r rest end pad text ends : List ℕ) (start at len end_start end_len from end_from : ℕ) → at ≤ len → start + len ≤ length text
     → end_start + end_len ≤ length ends → from ≡ start + at → end_from ≡ end_start → rest ≡ take (len - at) (drop from text)
-    → end ≡ take end_len (drop end_from ends) → take (tail_blocks (length rest + length end) * 128) r ≡ rest ++ (end ++ pad)
-    → take (tail_blocks (len - at + end_len) * 128) r ≡ drop at (take len (drop start text)) ++ (take end_len (drop end_start ends) ++ pad)
-tail_at r rest end pad text ends start at len end_start end_len from end_from within room end_room from_is end_from_is rest_is end_is is =
+    → end ≡ take end_len (drop end_from ends) → take (filled (length rest + length end)) r ≡ rest ++ (end ++ pad)
+    → take (filled (len - at + end_len)) r ≡ drop at (take len (drop start text)) ++ (take end_len (drop end_start ends) ++ pad)
+tail_at filled r rest end pad text ends start at len end_start end_len from end_from within room end_room from_is end_from_is rest_is end_is is =
     let start_room : len ≤ length (drop start text) = omega (arith, length-drop start text) in
     let whole : at + (len - at) ≡ len = omega arith in
     let cut : rest ≡ drop at (take len (drop start text)) =
@@ -95,4 +94,4 @@ tail_at r rest end pad text ends start at len end_start end_len from end_from wi
     ap length rest_is ∙ length-take-le (len - at) (drop from text) (omega (arith, length-drop from text)) in
     let end_long : length end ≡ end_len =
     ap length end_is ∙ length-take-le end_len (drop end_from ends) (omega (arith, length-drop end_from ends)) in
-    (λ t. take (tail_blocks (sym rest_long t + sym end_long t) * 128) r) ∙ is ∙ (λ t. cut t ++ (end_cut t ++ pad))
+    (λ t. take (filled (sym rest_long t + sym end_long t)) r) ∙ is ∙ (λ t. cut t ++ (end_cut t ++ pad))

@@ -1,2 +1,3 @@
 pub mod Lanes
 pub mod Messages
+pub mod Sha1Lanes

@@ -1,4 +1,4 @@
--- Four messages of one length in a text.
+-- Messages of one length in a text.
 use Rattle.std.specs.Prelude.{ℕ, ◌+◌, ◌*◌, ◌/◌, List, ◌++◌, take, drop}
 
 -- piece i, from 0, of the pieces of `len` bytes that begin `stride` bytes apart

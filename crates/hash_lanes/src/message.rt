@@ -6,19 +6,11 @@ ghost use Rattle.hash_lanes.specs.Messages.{message, piece, tail_blocks};
 
 use crate::block::{Hashes, absorb};
 use crate::constants::INITIAL_HASH;
+use crate::pieces::{padded, part};
 use crate::words::Lanes;
 use std::simd::prelude::*;
 
 const BLOCK: usize = 128;
-
-// The padding's first bytes: a bit 1, then zeros.
-const PADDING: [u8; 128] = [
-    0x80, 0, 0, 0, 0, 0, 0, 0, 0, 0, 0, 0, 0, 0, 0, 0, 0, 0, 0, 0, 0, 0, 0, 0, 0, 0, 0, 0, 0, 0, 0,
-    0, 0, 0, 0, 0, 0, 0, 0, 0, 0, 0, 0, 0, 0, 0, 0, 0, 0, 0, 0, 0, 0, 0, 0, 0, 0, 0, 0, 0, 0, 0, 0,
-    0, 0, 0, 0, 0, 0, 0, 0, 0, 0, 0, 0, 0, 0, 0, 0, 0, 0, 0, 0, 0, 0, 0, 0, 0, 0, 0, 0, 0, 0, 0, 0,
-    0, 0, 0, 0, 0, 0, 0, 0, 0, 0, 0, 0, 0, 0, 0, 0, 0, 0, 0, 0, 0, 0, 0, 0, 0, 0, 0, 0, 0, 0, 0, 0,
-    0,
-];
 
 /// One hash value in all four lanes.
 pub fn spread(hash: &[u64; 8]) -> Hashes
@@ -68,26 +60,11 @@ fn tail(rest: &[u8], end: &[u8], total: u128) -> [u8; 256]
     requires bits { total < 2 ^ 100 }
     ensures { take (tail_blocks (length rest.now + length end.now) * 128) result ≡ rest.now ++ (end.now ++ padding total) }
 {
-    let used = rest.len() + end.len();
-    let size = BLOCK * tail_blocks(used);
-    let mut out = [0u8; 256];
-    out[..rest.len()].copy_from_slice(rest);
-    out[rest.len()..used].copy_from_slice(end);
-    out[used..size - 16].copy_from_slice(&PADDING[..size - 16 - used]);
-    out[size - 16..size].copy_from_slice(&(total * 8).to_be_bytes());
-    out
+    let size = BLOCK * tail_blocks(rest.len() + end.len());
+    padded(rest, end, &(total * 8).to_be_bytes(), size)
 }
 
-// So many bytes from this one on.
-fn part(bytes: &[u8], at: usize, len: usize) -> &[u8]
-    requires { at + len ≤ length bytes.now }
-    ensures bytes { result.now ≡ take len (drop at bytes.now) }
-    ensures length { length result.now ≡ len }
-{
-    &bytes[at..at + len]
-}
-
-// Four of them, one after another.
+// Four last parts, one after another.
 fn joined(a: &[u8; 256], b: &[u8; 256], c: &[u8; 256], d: &[u8; 256]) -> [u8; 1024]
     ensures { result ≡ a.now ++ (b.now ++ (c.now ++ d.now)) }
 {

@@ -11,7 +11,7 @@ returns c zero lt =
     ap (λ (l : List ℕ). take s (drop (0 * 256) l)) c.joined.ensures
     ∙ first_of a c.tail-second.result c.tail-third.result c.tail-fourth.result 256 s (omega (arith, c.tail-first.type_inv))
     (omega (arith, c.tail-second.type_inv)) (omega (arith, c.tail-third.type_inv)) (omega (arith, c.requires.room))
-    ∙ tail_at a c.part.result.now c.part-2.result.now (padding c.args.total)
+    ∙ tail_at (λ used. tail_blocks used * 128) a c.part.result.now c.part-2.result.now (padding c.args.total)
     c.args.text.now c.args.ends.now (0 * c.args.stride) c.args.at c.args.len (0 * c.args.end_len)
     c.args.end_len c.args.at 0
     c.requires.within.0 (omega (arith, c.requires.within.1)) (omega (arith, c.requires.ends)) (omega arith) (omega arith)
@@ -22,7 +22,7 @@ returns c (suc zero) lt =
     ap (λ (l : List ℕ). take s (drop (1 * 256) l)) c.joined.ensures
     ∙ second_of c.tail-first.result a c.tail-third.result c.tail-fourth.result 256 s (omega (arith, c.tail-first.type_inv))
     (omega (arith, c.tail-second.type_inv)) (omega (arith, c.tail-third.type_inv)) (omega (arith, c.requires.room))
-    ∙ tail_at a c.part-3.result.now c.part-4.result.now (padding c.args.total)
+    ∙ tail_at (λ used. tail_blocks used * 128) a c.part-3.result.now c.part-4.result.now (padding c.args.total)
     c.args.text.now c.args.ends.now (1 * c.args.stride) c.args.at c.args.len (1 * c.args.end_len)
     c.args.end_len (c.args.stride + c.args.at) c.args.end_len
     c.requires.within.0 (omega (arith, c.requires.within.1)) (omega (arith, c.requires.ends)) (omega arith) (omega arith)
@@ -33,7 +33,7 @@ returns c (suc (suc zero)) lt =
     ap (λ (l : List ℕ). take s (drop (2 * 256) l)) c.joined.ensures
     ∙ third_of c.tail-first.result c.tail-second.result a c.tail-fourth.result 256 s (omega (arith, c.tail-first.type_inv))
     (omega (arith, c.tail-second.type_inv)) (omega (arith, c.tail-third.type_inv)) (omega (arith, c.requires.room))
-    ∙ tail_at a c.part-5.result.now c.part-6.result.now (padding c.args.total)
+    ∙ tail_at (λ used. tail_blocks used * 128) a c.part-5.result.now c.part-6.result.now (padding c.args.total)
     c.args.text.now c.args.ends.now (2 * c.args.stride) c.args.at c.args.len (2 * c.args.end_len)
     c.args.end_len (2 * c.args.stride + c.args.at) (2 * c.args.end_len)
     c.requires.within.0 (omega (arith, c.requires.within.1)) (omega (arith, c.requires.ends)) (omega arith) (omega arith)
@@ -44,7 +44,7 @@ returns c (suc (suc (suc zero))) lt =
     ap (λ (l : List ℕ). take s (drop (3 * 256) l)) c.joined.ensures
     ∙ fourth_of c.tail-first.result c.tail-second.result c.tail-third.result a 256 s (omega (arith, c.tail-first.type_inv))
     (omega (arith, c.tail-second.type_inv)) (omega (arith, c.tail-third.type_inv)) (omega (arith, c.requires.room))
-    ∙ tail_at a c.part-7.result.now c.part-8.result.now (padding c.args.total)
+    ∙ tail_at (λ used. tail_blocks used * 128) a c.part-7.result.now c.part-8.result.now (padding c.args.total)
     c.args.text.now c.args.ends.now (3 * c.args.stride) c.args.at c.args.len (3 * c.args.end_len)
     c.args.end_len (3 * c.args.stride + c.args.at) (3 * c.args.end_len)
     c.requires.within.0 (omega (arith, c.requires.within.1)) (omega (arith, c.requires.ends)) (omega arith) (omega arith)

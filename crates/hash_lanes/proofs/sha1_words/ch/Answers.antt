@@ -1,0 +1,5 @@
+use Rattle.std.proofs.Common.{refl}
+use Rattle.hash_lanes.proofs.sha1_words.ch.Goals as goal
+
+pub returns : goal.returns
+returns c = λ f g h ex ey ez. rw (ex, ey, ez) refl
