@@ -1,7 +1,9 @@
+pub mod Escapes
 mod HeaderLemmas
 pub mod RecordLemmas
 pub mod RelationLemmas
 pub mod RowLemmas
 pub mod SerialLemmas
 mod SeenLemmas
+pub mod TextLemmas
 pub mod VarintLemmas

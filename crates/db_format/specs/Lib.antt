@@ -11,6 +11,7 @@ pub mod Rules
 pub mod Seen
 pub mod Serial
 pub mod Source
+pub mod Text
 pub mod Value
 pub mod Values
 pub mod Varint

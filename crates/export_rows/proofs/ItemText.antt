@@ -12,7 +12,8 @@ use Rattle.btree_model.specs.Finding.{Row}
 use Rattle.btree_model.specs.Schema.{Root, no_column, no_tree, at_page, root_of, root_of_value, rowid_or_0}
 use Rattle.btree_model.specs.Tree.{root_family}
 use Rattle.export_rows.specs.Lines.{schema_line}
-use Rattle.export_rows.specs.Report.{entry_text, item_at, item_count, item_text, row_text}
+use Rattle.row_text.specs.Lines.{entry_text, row_text}
+use Rattle.export_rows.specs.Report.{item_at, item_count, item_text}
 use Rattle.schema_map.specs.Alone.{tree_rows}
 use Rattle.schema_map.specs.Root.{number_of, root_number}
 

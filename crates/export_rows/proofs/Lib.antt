@@ -1,10 +1,8 @@
+pub mod ColumnSteps
 pub mod CursorSteps
-pub mod Escapes
 pub mod Handing
 pub mod ItemText
-pub mod Moving
 pub mod PartSteps
 pub mod SchemaText
 pub mod TreeText
-pub mod ValueSteps
 pub mod Zeros

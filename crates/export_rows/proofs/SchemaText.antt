@@ -20,14 +20,14 @@ use Rattle.schema_map.specs.Root.{number_of, root_number}
 use Rattle.schema_map.specs.Schema.{schema_row}
 use Rattle.schema_map.specs.declared.schema.SchemaRow.{SchemaRow}
 use Rattle.export_rows.specs.Causes.{IfWalk, IsLate}
-use Rattle.export_rows.specs.Out.{Moves, MovesPart}
+use Rattle.row_text.specs.Out.{Moves, MovesPart}
 use Rattle.export_rows.specs.Report.{item_at, item_count, item_text}
 use Rattle.schema_map.specs.Alone.{tree_rows}
 use Rattle.export_rows.specs.Schema.{IsSchemaOf, kept_text, row_count, rows_text}
 use Rattle.schema_map.specs.Alone.{schema_rows}
 use Rattle.export_rows.specs.declared.error.ExportError.{ExportError}
 use Rattle.export_rows.specs.declared.error.ExportError.TheVariants.{Walk, OutputFault}
-use Rattle.export_rows.proofs.Moving.{cut, restated, restated_part, then, then_part, waits}
+use Rattle.row_text.proofs.Moving.{cut, restated, restated_part, then, then_part, waits}
 use Rattle.schema_map.proofs.SoundParts.{database_few, database_place, database_recorded, database_trees, none_contained, root_part, sound_faults, sound_refusals}
 
 -- ---- a kept row is the row of the content

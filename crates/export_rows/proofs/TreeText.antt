@@ -12,11 +12,11 @@ use Rattle.btree_model.specs.Tree.{root_family, tree_walk}
 use Rattle.btree_walk.specs.declared.cursor.Cursor.{Cursor}
 use Rattle.btree_walk.specs.Cursor.{IsAt, IsMade, IsNext, walked}
 use Rattle.btree_walk.proofs.CursorLemmas.{at_made}
-use Rattle.export_rows.specs.Lines.{entry_line}
-use Rattle.export_rows.specs.Out.{Moves, MovesPart}
-use Rattle.export_rows.specs.Report.{row_text}
+use Rattle.row_text.specs.Lines.{entry_line}
+use Rattle.row_text.specs.Out.{Moves, MovesPart}
+use Rattle.row_text.specs.Lines.{row_text}
 use Rattle.schema_map.specs.Alone.{tree_rows}
-use Rattle.export_rows.proofs.Moving.{cut, restated, restated_part, then, then_part, waits}
+use Rattle.row_text.proofs.Moving.{cut, restated, restated_part, then, then_part, waits}
 
 -- the cursor gave these entries of the tree, and their lines are moved
 pub record IsSoFar (pages : Pages) (root : ℕ) (cursor : Cursor) (seen : Test) (rows : ℕ) (told : Bool) (before waiting after left : List ℕ) : Type 0 where

@@ -6,18 +6,8 @@ use Rattle.btree_page.specs.declared.kind.Family.{Family}
 use Rattle.btree_page.specs.declared.kind.Family.TheVariants.{Table, Index}
 use Rattle.db_format.specs.declared.header.Header.{Header}
 use Rattle.db_format.specs.Value.{Datum}
-use Rattle.export_rows.specs.Text.{spaced}
-
-abbrev pub line : List ℕ → List ℕ
-line text = text ++ codes "\n"
-
--- what an entry begins with: its rowid, in a table
-abbrev pub entry_head : Option ℤ → List ℕ
-entry_head None = codes "entry"
-entry_head (Some rowid) = codes "row " ++ signed_decimal rowid
-
-abbrev pub entry_line : Option ℤ → List Datum → List ℕ
-entry_line rowid values = line (entry_head rowid ++ spaced values)
+use Rattle.db_format.specs.Text.{spaced}
+use Rattle.row_text.specs.Lines.{line}
 
 -- what a schema row says of its tree, if it has one
 abbrev pub kind_text : Option Family → List ℕ

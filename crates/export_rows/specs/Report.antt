@@ -3,12 +3,10 @@ use Rattle.std.specs.Prelude.{ℕ, ℤ, List, [], ◌++◌, length, Some, None, 
 use Rattle.std.specs.List.{flat_map}
 use Rattle.db_format.specs.Pages.{Pages}
 use Rattle.db_format.specs.Record.{columns}
-use Rattle.btree_model.specs.Finding.{Row, entries}
-use Rattle.btree_model.specs.Content.{Content, Entry, SchemaItem, with_tree, alone, entry_of, item_of, without_fourth}
-use Rattle.export_rows.specs.Lines.{database_line, end_line, entry_line, schema_line}
-
-abbrev pub entry_text : Entry → List ℕ
-entry_text entry = entry_line entry.rowid (unwrap_or (columns entry.payload) [])
+use Rattle.btree_model.specs.Finding.{entries}
+use Rattle.btree_model.specs.Content.{Content, SchemaItem, with_tree, alone, item_of, without_fourth}
+use Rattle.row_text.specs.Lines.{entry_text}
+use Rattle.export_rows.specs.Lines.{database_line, end_line, schema_line}
 
 abbrev pub item_text : SchemaItem → List ℕ
 item_text (with_tree rowid values family entries) = schema_line rowid values (Some family) ++ flat_map entry_text entries
@@ -24,9 +22,6 @@ item_count (alone rowid payload) = 0
 
 abbrev pub entry_count : Content → ℕ
 entry_count held = sum_by item_count held.rows
-
-abbrev pub row_text : Row → List ℕ
-row_text row = entry_text (entry_of row)
 
 -- ---- one schema row
 

@@ -10,17 +10,17 @@ ghost use Rattle.btree_walk.specs.Causes.{IsGivenBy, is_failure};
 ghost use Rattle.schema_map.specs.Parts.{IsEarliest};
 ghost use Rattle.export_rows.specs.Causes.{IfWalk, IsLate, after_check, is_defect};
 ghost use Rattle.export_rows.specs.Lines.{database_line, end_line, kept_of};
-ghost use Rattle.export_rows.specs.Out.{Moves, MovesPart};
+ghost use Rattle.row_text.specs.Out.{Moves, MovesPart};
 ghost use Rattle.export_rows.specs.Report.{entry_count, export_report};
 ghost use Rattle.export_rows.specs.Schema.{IsSchemaOf, row_count, rows_text};
 
 use crate::error::ExportError;
 use crate::item::put_item;
-use crate::line_out::LineOut;
 use crate::lines::{put_database, put_end};
 use btree_walk::WalkError;
 use db_format::{Defect, Header, LONGEST_PAYLOAD, PageSource};
 use edge_model::Sink;
+use row_text::LineOut;
 use schema_map::{SchemaRow, census};
 use std::alloc::Global;
 

@@ -8,17 +8,17 @@ ghost use Rattle.btree_model.specs.Records.{tree_part};
 ghost use Rattle.btree_model.specs.Tree.{root_family};
 ghost use Rattle.btree_walk.specs.Causes.{IsAmong, IsGivenBy, is_failure};
 ghost use Rattle.export_rows.specs.Causes.{IfWalk};
-ghost use Rattle.export_rows.specs.Out.{Moves, MovesPart};
+ghost use Rattle.row_text.specs.Out.{Moves, MovesPart};
 ghost use Rattle.schema_map.specs.Root.{number_of};
 ghost use Rattle.export_rows.specs.Report.{item_at, item_count, item_text};
 
 use crate::error::ExportError;
-use crate::line_out::LineOut;
 use crate::lines::put_schema_row;
 use crate::tree::put_tree;
 use btree_walk::{WalkError, tree_family};
 use db_format::{Defect, PageSource, RecordView};
 use edge_model::Sink;
+use row_text::LineOut;
 use std::alloc::Global;
 
 /// Appends the line of a schema row and those of its tree, whose root is 0 where it has none. Answers how many entries the

@@ -2,14 +2,13 @@
 ghost use Rattle.std.specs.Prelude.{◌≡◌, ◌≤◌, ◌+◌, ◌++◌, codes, decimal, length, OnOk, OnErr, IsTrue};
 ghost use Rattle.edge_model.specs.Causes.{HasCause};
 ghost use Rattle.btree_model.specs.Content.{without_fourth};
-ghost use Rattle.export_rows.specs.Lines.{database_line, end_line, entry_head, entry_line, kept_of, kind_text, schema_line};
-ghost use Rattle.export_rows.specs.Out.{Moves, MovesPart};
+ghost use Rattle.export_rows.specs.Lines.{database_line, end_line, kept_of, kind_text, schema_line};
+ghost use Rattle.row_text.specs.Out.{Moves, MovesPart};
 
-use crate::line_out::LineOut;
-use crate::values::put_values;
 use btree_page::Family;
 use db_format::{Header, RecordView};
 use edge_model::{Failed, Sink};
+use row_text::{LineOut, put_values};
 
 /// Appends the line of a database with this header.
 pub fn put_database<K: Sink>(line: &mut LineOut, out: &mut K, header: &Header) -> Result<(), Failed>
@@ -60,37 +59,6 @@ fn push_names(line: &mut LineOut, header: &Header)
     push_field(line, b" application-id ", header.application_id);
     push_field(line, b" sqlite ", header.sqlite_number);
     line.push(b"\n");
-}
-
-/// Appends the line of an entry: with its rowid in a table.
-pub fn put_entry<K: Sink>(
-    line: &mut LineOut,
-    out: &mut K,
-    rowid: Option<i64>,
-    row: &RecordView<'_>,
-) -> Result<(), Failed>
-    ensures done { OnOk result (IsTrue K.tells → Moves (entry_line rowid row.now) (K.taken out.old) line.old (K.taken out.new) line.new) }
-    ensures part { OnErr result (IsTrue K.tells → MovesPart (entry_line rowid row.now) (K.taken out.old) line.old (K.taken out.new)) }
-    ensures cause { HasCause (K.faults out.old) (K.faults out.new) result }
-{
-    line.make_room(out)?;
-    push_head(line, rowid);
-    let mut values = row.values();
-    put_values(line, out, &mut values, row.columns() as usize)?;
-    line.write(out, b"\n")
-}
-
-fn push_head(line: &mut LineOut, rowid: Option<i64>)
-    requires { length line.old + 30 ≤ 65536 }
-    ensures { line.new ≡ line.old ++ entry_head rowid }
-{
-    match rowid {
-        None => line.push(b"entry"),
-        Some(rowid) => {
-            line.push(b"row ");
-            line.push_signed(rowid);
-        }
-    }
 }
 
 /// Appends the line of a schema row, whose tree is of this family, if it has one.

@@ -8,16 +8,15 @@ ghost use Rattle.btree_model.specs.Records.{tree_part};
 ghost use Rattle.btree_model.specs.Tree.{root_family};
 ghost use Rattle.btree_walk.specs.Causes.{IsAmong, IsGivenBy, is_failure};
 ghost use Rattle.export_rows.specs.Causes.{IfWalk};
-ghost use Rattle.export_rows.specs.Out.{Moves, MovesPart};
-ghost use Rattle.export_rows.specs.Report.{row_text};
+ghost use Rattle.row_text.specs.Out.{Moves, MovesPart};
+ghost use Rattle.row_text.specs.Lines.{row_text};
 ghost use Rattle.schema_map.specs.Alone.{tree_rows};
 
 use crate::error::ExportError;
-use crate::line_out::LineOut;
-use crate::lines::put_entry;
 use btree_walk::{Cursor, WalkError};
 use db_format::{Defect, PageSource, RecordView, Seen};
 use edge_model::Sink;
+use row_text::{LineOut, put_entry};
 use std::alloc::Global;
 
 /// Appends a line for each entry of the tree with this root, and answers how many there are.

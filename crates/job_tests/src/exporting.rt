@@ -3,11 +3,10 @@ ghost use Rattle.std.specs.Prelude.{◌≡◌};
 ghost use Rattle.db_format.specs.Source.{no_pins};
 
 use crate::sealed::{Piece, lay};
-use db_format::{Header, MemPages, PageSource, RecordView, Value, read_header};
+use db_format::{Header, MemPages, PageSource, RecordView, Value, read_header, write_value_text};
 use edge_model::{MemSink, Sink};
-use export_rows::{
-    ExportError, LineOut, export, put_database, put_end, put_entry, put_schema_row, put_value,
-};
+use export_rows::{ExportError, export, put_database, put_end, put_schema_row};
+use row_text::{LineOut, put_entry, put_value};
 use std::alloc::{AllocError, Global};
 use std::test::Fail;
 
@@ -39,6 +38,10 @@ fn each_kind_of_value_has_its_text(rt: HostRuntime) -> Result<(), Fail> {
         let (whole, found) = put(rt.alloc(), &value, 0)?;
         assert!(rt; whole, "{value:?}");
         assert_eq!(rt; found.as_slice(), text, "{value:?}");
+        let mut built = b": ".to_vec(rt.alloc())?;
+        assert!(rt; write_value_text(&value, &mut built).is_ok(), "{value:?}");
+        assert_eq!(rt; &built[..2], b": ".as_slice(), "{value:?}");
+        assert_eq!(rt; &built[2..], text, "{value:?}");
     }
     Ok(())
 }

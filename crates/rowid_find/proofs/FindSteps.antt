@@ -8,8 +8,8 @@ use Rattle.btree_model.specs.Finding.{Finding, place, fault, entries, places, is
 use Rattle.btree_model.proofs.FindingLemmas.{entries-append, sound_both}
 use Rattle.btree_walk.specs.declared.error.WalkError.{WalkError}
 use Rattle.btree_walk.specs.declared.error.WalkError.TheVariants.{Defect, Source, OutOfMemory}
-use Rattle.export_rows.specs.Out.{Moves, MovesPart}
-use Rattle.export_rows.proofs.Moving.{cut, restated, restated_part, then as moves_on, then_part as moves_part}
+use Rattle.row_text.specs.Out.{Moves, MovesPart}
+use Rattle.row_text.proofs.Moving.{cut, restated, restated_part, then as moves_on, then_part as moves_part}
 use Rattle.rowid_find.specs.Causes.{after_flush}
 use Rattle.rowid_find.specs.Lines.{count_line, found_report, rows_text}
 use Rattle.rowid_find.specs.Once.{are_new, once}

@@ -11,9 +11,9 @@ use Rattle.btree_model.specs.Finding.{Row, Finding, entry, is_sound}
 use Rattle.btree_model.specs.Walk.{payload_of}
 use Rattle.btree_walk.specs.declared.error.WalkError.{WalkError}
 use Rattle.btree_walk.specs.declared.error.WalkError.TheVariants.{Defect as Found}
-use Rattle.export_rows.specs.Lines.{entry_line}
-use Rattle.export_rows.specs.Out.{Moves, MovesPart}
-use Rattle.export_rows.proofs.Moving.{restated, restated_part}
+use Rattle.row_text.specs.Lines.{entry_line}
+use Rattle.row_text.specs.Out.{Moves, MovesPart}
+use Rattle.row_text.proofs.Moving.{restated, restated_part}
 use Rattle.rowid_find.specs.Lines.{rows_text}
 use Rattle.rowid_find.specs.Reach.{links_of, row_at, row_found, row_of_cell}
 use Rattle.rowid_find.specs.Search.{Met, State, IsChainRead, IsChainStopped, IsLost, IsSoFar, IsStopped}

@@ -9,8 +9,8 @@ use Rattle.btree_model.specs.Finding.{Finding, fault, places, entries, is_sound}
 use Rattle.btree_model.proofs.FindingLemmas.{places-append, entries-append, sound_both}
 use Rattle.btree_walk.specs.declared.error.WalkError.{WalkError}
 use Rattle.btree_walk.specs.declared.error.WalkError.TheVariants.{Defect as Found, Source, OutOfMemory}
-use Rattle.export_rows.specs.Report.{row_text}
-use Rattle.export_rows.proofs.Moving.{restated, restated_part, then as moves_then, then_part as moves_part, waits}
+use Rattle.row_text.specs.Lines.{row_text}
+use Rattle.row_text.proofs.Moving.{restated, restated_part, then as moves_then, then_part as moves_part, waits}
 use Rattle.std.proofs.Common.{Err}
 use Rattle.db_format.specs.Source.{Rose}
 use Rattle.btree_walk.specs.Causes.{IsGivenBy, is_failure}

@@ -10,7 +10,7 @@ use Rattle.btree_model.specs.Records.{tree_part}
 use Rattle.btree_model.specs.Tree.{max_path, tree_walk}
 use Rattle.btree_model.proofs.UnmarkedLemmas.{sound_right}
 use Rattle.btree_walk.specs.declared.error.WalkError.TheVariants.{Defect, Source, OutOfMemory}
-use Rattle.export_rows.specs.Out.{MovesPart}
+use Rattle.row_text.specs.Out.{MovesPart}
 use Rattle.rowid_find.specs.declared.error.FindError.{FindError}
 use Rattle.rowid_find.specs.declared.error.FindError.TheVariants.{Walk, OutputFault}
 use Rattle.rowid_find.specs.Found.{found_rows, rows_between}

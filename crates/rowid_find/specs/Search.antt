@@ -8,7 +8,7 @@ use Rattle.btree_model.specs.Finding.{Row, Finding, place, fault, refused, place
 use Rattle.btree_model.specs.Walk.{chain_bytes}
 use Rattle.btree_walk.specs.declared.error.WalkError.{WalkError}
 use Rattle.btree_walk.specs.declared.error.WalkError.TheVariants.{Defect, Source, OutOfMemory}
-use Rattle.export_rows.specs.Out.{Moves, MovesPart}
+use Rattle.row_text.specs.Out.{Moves, MovesPart}
 use Rattle.rowid_find.specs.declared.error.FindError.{FindError}
 use Rattle.rowid_find.specs.declared.error.FindError.TheVariants.{Walk, OutputFault}
 use Rattle.rowid_find.specs.Lines.{count_line, found_report, rows_text}

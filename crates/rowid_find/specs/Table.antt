@@ -1,6 +1,6 @@
 -- The table of a name: of the rows of the schema that have this name, the first whose tree has rows with rowids (Database File
 -- Format, section 2.6). The tree of an index, and that of a table without rowids, is passed over.
-use Rattle.std.specs.Prelude.{◌≡◌, ◌⊎◌, ℕ, ◌==◌, ◌&&◌, not, Bool, true, false, List, [], ◌∷◌, map, codes, Option, Some, None, Result, Ok, Err, if◌then◌else◌, ⊤}
+use Rattle.std.specs.Prelude.{◌≡◌, ◌⊎◌, ℕ, ◌==◌, ◌&&◌, not, Bool, true, false, List, [], ◌∷◌, codes, Option, Some, None, Result, Ok, Err, if◌then◌else◌, ⊤}
 use Rattle.std.specs.List.{find}
 use Rattle.std.specs.Str.{bytes_eq}
 use Rattle.db_format.specs.declared.defect.Defect.TheVariants.{BadKind}
@@ -11,12 +11,12 @@ use Rattle.db_format.specs.Value.Datum.{null, int, float, text, blob}
 use Rattle.btree_page.specs.Kind.{family_of, kind_at, same_family}
 use Rattle.btree_page.specs.declared.kind.Family.TheVariants.{Index}
 use Rattle.btree_page.specs.declared.kind.Kind.{Kind}
-use Rattle.btree_model.specs.Finding.{entries, is_sound}
+use Rattle.btree_model.specs.Finding.{is_sound}
 use Rattle.btree_model.specs.Schema.{schema_part}
 use Rattle.btree_walk.specs.Causes.{IsAmong}
 use Rattle.btree_walk.specs.declared.error.WalkError.{WalkError}
 use Rattle.btree_walk.specs.declared.error.WalkError.TheVariants.{Defect, Source, OutOfMemory}
-use Rattle.schema_map.specs.Schema.{schema_row}
+pub use Rattle.schema_map.specs.Schema.{schema_rows}
 use Rattle.schema_map.specs.declared.schema.SchemaRow.{SchemaRow}
 
 -- what a schema says of a name
@@ -73,10 +73,6 @@ row_found pages (Some row) = root_found pages row.root
 -- the first row of this name whose tree is not passed over
 abbrev pub table_of : Pages → List ℕ → List SchemaRow → Table
 table_of pages name rows = row_found pages (find (is_tried pages name) rows)
-
--- the rows of the schema
-abbrev pub schema_rows : Pages → List SchemaRow
-schema_rows pages = map schema_row (entries (schema_part pages nothing))
 
 -- ---- what the code comes to
 

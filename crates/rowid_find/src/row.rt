@@ -14,7 +14,7 @@ use crate::error::FindError;
 use btree_walk::WalkError;
 use db_format::{Counted, Defect, PageSource, RecordView, Seen};
 use edge_model::Sink;
-use export_rows::{LineOut, put_entry};
+use row_text::{LineOut, put_entry};
 
 /// What was found so far: the lines that wait, how many rows there were, which pages were met, and room for a payload.
 #[derive(Drop)]

@@ -4,7 +4,7 @@ ghost use Rattle.edge_model.specs.Causes.{HasCause, Rose as RoseOut};
 ghost use Rattle.db_format.specs.Seen.{marked, open_count};
 ghost use Rattle.db_format.specs.Source.{Rose};
 ghost use Rattle.btree_walk.specs.Causes.{IsGivenBy, is_failure};
-ghost use Rattle.export_rows.specs.Out.{Moves, MovesPart};
+ghost use Rattle.row_text.specs.Out.{Moves, MovesPart};
 ghost use Rattle.rowid_find.specs.Causes.{IfWalk, after_flush};
 ghost use Rattle.rowid_find.specs.Lines.{count_line};
 ghost use Rattle.rowid_find.specs.Reach.{reach_all, reach_range};
@@ -22,8 +22,8 @@ use crate::visit::visit;
 use btree_walk::WalkError;
 use db_format::{Counted, PageSource, Seen};
 use edge_model::{Failed, Sink};
-use export_rows::LineOut;
 use itoa::Buffer;
+use row_text::LineOut;
 use std::alloc::Global;
 
 // A path has at most so many pages.

@@ -3,8 +3,8 @@ use Rattle.std.proofs.Common.{◌≡◌, ◌≤◌, ◌<◌, ℕ, Bool, List, []
 use Rattle.std.specs.Prelude.{IfErr, IfOk, OnErr, OnOk}
 use Rattle.std.proofs.lemmas.List.{append-nil}
 use Rattle.db_format.specs.Pages.{Pages}
-use Rattle.export_rows.specs.Out.{Moves, MovesPart}
-use Rattle.export_rows.proofs.Moving.{cut, restated, restated_part, then, then_part, waits}
+use Rattle.row_text.specs.Out.{Moves, MovesPart}
+use Rattle.row_text.proofs.Moving.{cut, restated, restated_part, then, then_part, waits}
 use Rattle.salvage_scan.specs.declared.error.SalvageError.{SalvageError}
 use Rattle.salvage_scan.specs.declared.error.SalvageError.TheVariants.{KeyRefused, DiskFault, OutputFault, OutOfMemory}
 use Rattle.salvage_scan.specs.declared.scan.Salvaged.{Salvaged}

@@ -1,4 +1,5 @@
 mod AnswerSteps
 mod ChainSteps
 mod PageSteps
+mod RoomSteps
 mod ScanSteps

@@ -5,7 +5,7 @@ use Rattle.std.proofs.lemmas.List.{append-nil}
 use Rattle.std.proofs.lemmas.List.Concat.{flat_map-append}
 use Rattle.std.proofs.lemmas.List.Sums.{sum_by-append}
 use Rattle.edge_model.specs.Causes.{Rose}
-use Rattle.export_rows.proofs.Moving.{cut, restated, restated_part, then, then_part, waits}
+use Rattle.row_text.proofs.Moving.{cut, restated, restated_part, then, then_part, waits}
 use Rattle.salvage_scan.specs.declared.error.SalvageError.{SalvageError}
 use Rattle.salvage_scan.specs.declared.error.SalvageError.TheVariants.{KeyRefused, DiskFault, OutputFault, OutOfMemory}
 use Rattle.salvage_scan.specs.Salvage.{Counts, Line, counts_of, is_lost, is_refused, is_row, no_counts}

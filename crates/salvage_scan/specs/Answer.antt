@@ -2,7 +2,7 @@
 use Rattle.std.specs.Prelude.{◌≡◌, ◌<◌, ℕ, Bool, List, [], ◌++◌, Result, Ok, Err, IsTrue, ⊤}
 use Rattle.edge_model.specs.Causes.{Rose}
 use Rattle.db_format.specs.Pages.{Pages}
-use Rattle.export_rows.specs.Out.{MovesPart}
+use Rattle.row_text.specs.Out.{MovesPart}
 use Rattle.salvage_scan.specs.declared.error.SalvageError.{SalvageError}
 use Rattle.salvage_scan.specs.declared.error.SalvageError.TheVariants.{KeyRefused, DiskFault, OutputFault, OutOfMemory}
 use Rattle.salvage_scan.specs.declared.scan.Salvaged.{Salvaged}

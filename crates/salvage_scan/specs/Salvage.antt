@@ -20,9 +20,13 @@ use Rattle.btree_model.specs.Walk.{links_needed, payload_of}
 use Rattle.pager.specs.File.{main_of, whole_pages}
 use Rattle.pager.specs.Pages.{opened_pages}
 
--- the whole pages of Main by its length, each opened with these keys
+-- the whole pages of a file by its length, each opened with these keys
+abbrev pub pages_of_file : FileKeys → List ℕ → Pages
+pages_of_file keys file = opened_pages keys file (whole_pages keys.profile file)
+
+-- those of Main
 abbrev pub file_pages : FileKeys → Files → Pages
-file_pages keys files = opened_pages keys (main_of files) (whole_pages keys.profile (main_of files))
+file_pages keys files = pages_of_file keys (main_of files)
 
 -- no page is accepted
 abbrev pub IsNoneAccepted : Pages → Type 0

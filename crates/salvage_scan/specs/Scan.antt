@@ -1,7 +1,7 @@
 -- How far a salvage is, and why it stops.
 use Rattle.std.specs.Prelude.{◌≡◌, ℕ, ◌+◌, Bool, List, ◌++◌, Result, Ok, Err, IsTrue, ⊤}
 use Rattle.edge_model.specs.Causes.{Rose}
-use Rattle.export_rows.specs.Out.{Moves, MovesPart}
+use Rattle.row_text.specs.Out.{Moves, MovesPart}
 use Rattle.salvage_scan.specs.declared.error.SalvageError.{SalvageError}
 use Rattle.salvage_scan.specs.declared.error.SalvageError.TheVariants.{KeyRefused, DiskFault, OutputFault, OutOfMemory}
 use Rattle.salvage_scan.specs.Salvage.{Counts, Line, counts_of}

@@ -2,8 +2,8 @@
 use Rattle.std.specs.Prelude.{ℕ, List, ◌++◌, codes, decimal}
 use Rattle.std.specs.Fmt.{signed_decimal}
 use Rattle.std.specs.List.{flat_map}
-use Rattle.export_rows.specs.Lines.{line}
-use Rattle.export_rows.specs.Text.{spaced}
+use Rattle.row_text.specs.Lines.{line}
+use Rattle.db_format.specs.Text.{spaced}
 use Rattle.salvage_scan.specs.declared.scan.Salvaged.{Salvaged}
 use Rattle.salvage_scan.specs.Salvage.{Counts, Line, counts_of}
 use Rattle.salvage_scan.specs.Salvage.Line.{tag_refused, row, lost, bad_cell}

@@ -5,6 +5,7 @@ ghost use Rattle.db_format.specs.Record.{columns, longest_payload};
 ghost use Rattle.btree_page.specs.Cell.{payload_len};
 ghost use Rattle.btree_page.specs.Payload.{max_payload};
 ghost use Rattle.btree_page.specs.Shown.{cell_shown};
+ghost use Rattle.salvage_scan.specs.Room.{AreRooms};
 ghost use Rattle.salvage_scan.specs.Salvage.{cell_lines, file_pages, payload_line, row_line};
 ghost use Rattle.salvage_scan.specs.Scan.{IsCause, IsOutCause, IsSalvaged};
 ghost use Rattle.salvage_scan.specs.Text.{counts_shown};
@@ -28,12 +29,12 @@ pub(crate) fn put_cell<D: Disk, K: Sink>(
     cell: &Cell<'_>,
 ) -> Result<(), SalvageError>
     requires limit { payload_len (cell_shown cell.now) ≤ max_payload }
-    requires size { list_length scan.old.room.bytes.items ≡ codec.now.profile.page_size }
+    requires rooms { AreRooms D.tells (file_pages codec.now (D.reads disk.old)) codec.now.profile.page_size scan.old.rooms }
     requires pages { IsTrue D.tells → scan.old.pages ≡ (file_pages codec.now (D.reads disk.old)).count }
     ensures on { IsTrue D.tells → IsSalvaged K.tells (cell_lines (file_pages codec.now (D.reads disk.old)) n (cell_shown cell.now))
         (record { taken = K.taken out.old; waits = scan.old.line; counts = counts_shown scan.old.counts })
         (record { taken = K.taken out.new; waits = scan.new.line; counts = counts_shown scan.new.counts }) result }
-    ensures size { list_length scan.new.room.bytes.items ≡ list_length scan.old.room.bytes.items }
+    ensures rooms { AreRooms D.tells (file_pages codec.now (D.reads disk.new)) codec.now.profile.page_size scan.new.rooms }
     ensures pages { scan.new.pages ≡ scan.old.pages }
     ensures cause { IfErr result (IsCause (D.faults disk.old) (D.faults disk.new) (K.faults out.old) (K.faults out.new)) }
     ensures later { D.faults disk.old ≤ D.faults disk.new }
@@ -64,13 +65,13 @@ fn put_row_cell<D: Disk, K: Sink>(
     first: u32,
 ) -> Result<(), SalvageError>
     requires limit { length ≤ max_payload }
-    requires size { list_length scan.old.room.bytes.items ≡ codec.now.profile.page_size }
+    requires rooms { AreRooms D.tells (file_pages codec.now (D.reads disk.old)) codec.now.profile.page_size scan.old.rooms }
     requires pages { IsTrue D.tells → scan.old.pages ≡ (file_pages codec.now (D.reads disk.old)).count }
     ensures on { IsTrue D.tells → IsSalvaged K.tells
         (payload_line (file_pages codec.now (D.reads disk.old)) n rowid (record { size = length; local = local.now; first = first }) ∷ [])
         (record { taken = K.taken out.old; waits = scan.old.line; counts = counts_shown scan.old.counts })
         (record { taken = K.taken out.new; waits = scan.new.line; counts = counts_shown scan.new.counts }) result }
-    ensures size { list_length scan.new.room.bytes.items ≡ list_length scan.old.room.bytes.items }
+    ensures rooms { AreRooms D.tells (file_pages codec.now (D.reads disk.new)) codec.now.profile.page_size scan.new.rooms }
     ensures pages { scan.new.pages ≡ scan.old.pages }
     ensures cause { IfErr result (IsCause (D.faults disk.old) (D.faults disk.new) (K.faults out.old) (K.faults out.new)) }
     ensures later { D.faults disk.old ≤ D.faults disk.new }
@@ -85,7 +86,7 @@ fn put_row_cell<D: Disk, K: Sink>(
     match read_payload(
         disk,
         codec,
-        &mut scan.room,
+        &mut scan.rooms,
         scan.pages,
         length,
         first,
@@ -108,7 +109,7 @@ fn put_payload<K: Sink>(
     ensures on { IsSalvaged K.tells (row_line n rowid (if whole then columns scan.old.payload.items else None) ∷ [])
         (record { taken = K.taken out.old; waits = scan.old.line; counts = counts_shown scan.old.counts })
         (record { taken = K.taken out.new; waits = scan.new.line; counts = counts_shown scan.new.counts }) result }
-    ensures room { scan.new.room ≡ scan.old.room }
+    ensures rooms { scan.new.rooms ≡ scan.old.rooms }
     ensures pages { scan.new.pages ≡ scan.old.pages }
     ensures cause { IfErr result (IsOutCause (K.faults out.old) (K.faults out.new)) }
     ensures later { K.faults out.old ≤ K.faults out.new }

@@ -2,12 +2,13 @@
 ghost use Rattle.std.specs.Prelude.{◌≡◌, ◌≤◌, length, vec_len, IfOk, IfErr, IsTrue};
 ghost use Rattle.edge_model.specs.OnlyRead.{OnlyRead};
 ghost use Rattle.btree_page.specs.Payload.{max_payload};
+ghost use Rattle.salvage_scan.specs.Room.{AreRooms};
 ghost use Rattle.salvage_scan.specs.Salvage.{file_pages};
 ghost use Rattle.salvage_scan.specs.Chain.{IsChainRead, IsPayloadRead};
 ghost use Rattle.salvage_scan.specs.Scan.{IsDiskCause};
 
 use crate::error::SalvageError;
-use crate::room::PageRoom;
+use crate::room::Rooms;
 use btree_walk::is_in_range;
 use db_format::u32_at;
 use edge_model::Disk;
@@ -17,17 +18,17 @@ use page_codec::Codec;
 fn read_links<D: Disk>(
     disk: &mut D,
     codec: &Codec,
-    room: &mut PageRoom,
+    rooms: &mut Rooms,
     pages: u32,
     needed: usize,
     first: u32,
     payload: &mut Vec<u8>,
 ) -> Result<bool, SalvageError>
-    requires size { length room.old.bytes.items ≡ codec.now.profile.page_size }
+    requires rooms { AreRooms D.tells (file_pages codec.now (D.reads disk.old)) codec.now.profile.page_size rooms.old }
     requires pages { IsTrue D.tells → pages ≡ (file_pages codec.now (D.reads disk.old)).count }
     ensures on { IfOk result (λ there. IsTrue D.tells
         → IsChainRead (file_pages codec.now (D.reads disk.old)) needed first payload.old.items there payload.new.items) }
-    ensures size { length room.new.bytes.items ≡ length room.old.bytes.items }
+    ensures rooms { AreRooms D.tells (file_pages codec.now (D.reads disk.new)) codec.now.profile.page_size rooms.new }
     ensures cause { IfErr result (IsDiskCause (D.faults disk.old) (D.faults disk.new)) }
     ensures later { D.faults disk.old ≤ D.faults disk.new }
     ensures only_read { IsTrue D.tells → OnlyRead D.reads D.images D.moment D.since disk.old disk.new }
@@ -38,12 +39,12 @@ fn read_links<D: Disk>(
         if !is_in_range(n, pages) {
             return Ok(false);
         }
-        match room.open(disk, codec, n) {
+        match rooms.open(disk, codec, n) {
             Err(_) => return Err(SalvageError::DiskFault),
             Ok(false) => return Ok(false),
             Ok(true) => {}
         }
-        let bytes = room.plain(usable);
+        let bytes = rooms.plain(n, usable);
         match payload.extend_from_slice(&bytes[4..]) {
             Err(_) => return Err(SalvageError::OutOfMemory),
             Ok(()) => {}
@@ -57,19 +58,19 @@ fn read_links<D: Disk>(
 pub(crate) fn read_payload<D: Disk>(
     disk: &mut D,
     codec: &Codec,
-    room: &mut PageRoom,
+    rooms: &mut Rooms,
     pages: u32,
     size: u64,
     first: u32,
     payload: &mut Vec<u8>,
 ) -> Result<bool, SalvageError>
     requires limit { size ≤ max_payload }
-    requires size { length room.old.bytes.items ≡ codec.now.profile.page_size }
+    requires rooms { AreRooms D.tells (file_pages codec.now (D.reads disk.old)) codec.now.profile.page_size rooms.old }
     requires pages { IsTrue D.tells → pages ≡ (file_pages codec.now (D.reads disk.old)).count }
     ensures on { IfOk result (λ whole. IsTrue D.tells → IsPayloadRead (file_pages codec.now (D.reads disk.old))
         (record { size = size; local = payload.old.items; first = first }) whole payload.new.items) }
     ensures limit { IfOk result (λ whole. IsTrue whole → vec_len payload.new ≤ size) }
-    ensures size { length room.new.bytes.items ≡ length room.old.bytes.items }
+    ensures rooms { AreRooms D.tells (file_pages codec.now (D.reads disk.new)) codec.now.profile.page_size rooms.new }
     ensures cause { IfErr result (IsDiskCause (D.faults disk.old) (D.faults disk.new)) }
     ensures later { D.faults disk.old ≤ D.faults disk.new }
     ensures only_read { IsTrue D.tells → OnlyRead D.reads D.images D.moment D.since disk.old disk.new }
@@ -80,7 +81,7 @@ pub(crate) fn read_payload<D: Disk>(
     if needed > pages as usize {
         return Ok(false);
     }
-    match read_links(disk, codec, room, pages, needed, first, payload) {
+    match read_links(disk, codec, rooms, pages, needed, first, payload) {
         Err(error) => Err(error),
         Ok(false) => Ok(false),
         Ok(true) => {

@@ -2,14 +2,14 @@
 ghost use Rattle.std.specs.Prelude.{◌≡◌, ◌≤◌, ◌+◌, ◌++◌, codes, decimal, length, OnOk, OnErr, IsTrue};
 ghost use Rattle.std.specs.Fmt.{signed_decimal};
 ghost use Rattle.edge_model.specs.Causes.{HasCause};
-ghost use Rattle.export_rows.specs.Out.{Moves, MovesPart};
+ghost use Rattle.row_text.specs.Out.{Moves, MovesPart};
 ghost use Rattle.salvage_scan.specs.Salvage.Line.{bad_cell, lost, row, tag_refused};
 ghost use Rattle.salvage_scan.specs.Text.{counts_line, line_text};
 
 use db_format::RecordView;
 use edge_model::{Failed, Sink};
-use export_rows::{LineOut, put_values};
 use itoa::Buffer;
+use row_text::{LineOut, put_values};
 
 /// Appends the line of a page that is not accepted.
 pub(crate) fn put_refused<K: Sink>(line: &mut LineOut, out: &mut K, n: u32) -> Result<(), Failed>

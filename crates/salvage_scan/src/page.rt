@@ -3,6 +3,7 @@ ghost use Rattle.std.specs.Prelude.{◌≡◌, ◌≤◌, ◌∷◌, [], length,
 ghost use Rattle.std.specs.List.{flat_map};
 ghost use Rattle.edge_model.specs.OnlyRead.{OnlyRead};
 ghost use Rattle.db_format.specs.Pages.{IsUsable};
+ghost use Rattle.salvage_scan.specs.Room.{AreRooms};
 ghost use Rattle.salvage_scan.specs.Salvage.{cell_lines, fault_lines, file_pages, is_table_leaf, leaf_lines, page_lines};
 ghost use Rattle.salvage_scan.specs.Salvage.Line.{tag_refused};
 ghost use Rattle.salvage_scan.specs.Scan.{IsCause, IsOutCause, IsSalvaged};
@@ -28,25 +29,25 @@ pub(crate) fn put_page<D: Disk, K: Sink>(
 ) -> Result<(), SalvageError>
     requires low { 1 ≤ n }
     requires high { n ≤ scan.old.pages }
-    requires size { length scan.old.room.bytes.items ≡ codec.now.profile.page_size }
+    requires rooms { AreRooms D.tells (file_pages codec.now (D.reads disk.old)) codec.now.profile.page_size scan.old.rooms }
     requires pages { IsTrue D.tells → scan.old.pages ≡ (file_pages codec.now (D.reads disk.old)).count }
     ensures on { IsTrue D.tells → IsSalvaged K.tells (page_lines (file_pages codec.now (D.reads disk.old)) n)
         (record { taken = K.taken out.old; waits = scan.old.line; counts = counts_shown scan.old.counts })
         (record { taken = K.taken out.new; waits = scan.new.line; counts = counts_shown scan.new.counts }) result }
-    ensures size { length scan.new.room.bytes.items ≡ length scan.old.room.bytes.items }
+    ensures rooms { AreRooms D.tells (file_pages codec.now (D.reads disk.new)) codec.now.profile.page_size scan.new.rooms }
     ensures pages { scan.new.pages ≡ scan.old.pages }
     ensures cause { IfErr result (IsCause (D.faults disk.old) (D.faults disk.new) (K.faults out.old) (K.faults out.new)) }
     ensures later { D.faults disk.old ≤ D.faults disk.new }
     ensures out_later { K.faults out.old ≤ K.faults out.new }
     ensures only_read { IsTrue D.tells → OnlyRead D.reads D.images D.moment D.since disk.old disk.new }
 {
-    match scan.room.open(disk, codec, n) {
+    match scan.rooms.open(disk, codec, n) {
         Err(_) => return Err(SalvageError::DiskFault),
         Ok(false) => return refuse_page(scan, out, n),
         Ok(true) => {}
     }
     // the page is kept, since others are brought in while its cells are gone through
-    match scan.room.plain(codec.profile().usable()).to_vec(alloc) {
+    match scan.rooms.plain(n, codec.profile().usable()).to_vec(alloc) {
         Err(_) => Err(SalvageError::OutOfMemory),
         Ok(bytes) => put_leaf(disk, codec, scan, out, n, bytes.as_slice()),
     }
@@ -57,7 +58,7 @@ fn refuse_page<K: Sink>(scan: &mut Scan, out: &mut K, n: u32) -> Result<(), Salv
     ensures on { IsSalvaged K.tells (tag_refused n ∷ [])
         (record { taken = K.taken out.old; waits = scan.old.line; counts = counts_shown scan.old.counts })
         (record { taken = K.taken out.new; waits = scan.new.line; counts = counts_shown scan.new.counts }) result }
-    ensures room { scan.new.room ≡ scan.old.room }
+    ensures rooms { scan.new.rooms ≡ scan.old.rooms }
     ensures pages { scan.new.pages ≡ scan.old.pages }
     ensures cause { IfErr result (IsOutCause (K.faults out.old) (K.faults out.new)) }
     ensures later { K.faults out.old ≤ K.faults out.new }
@@ -78,12 +79,12 @@ fn put_leaf<D: Disk, K: Sink>(
     bytes: &[u8],
 ) -> Result<(), SalvageError>
     requires usable { IsUsable (length bytes.now) }
-    requires size { length scan.old.room.bytes.items ≡ codec.now.profile.page_size }
+    requires rooms { AreRooms D.tells (file_pages codec.now (D.reads disk.old)) codec.now.profile.page_size scan.old.rooms }
     requires pages { IsTrue D.tells → scan.old.pages ≡ (file_pages codec.now (D.reads disk.old)).count }
     ensures on { IsTrue D.tells → IsSalvaged K.tells (leaf_lines (file_pages codec.now (D.reads disk.old)) n bytes.now)
         (record { taken = K.taken out.old; waits = scan.old.line; counts = counts_shown scan.old.counts })
         (record { taken = K.taken out.new; waits = scan.new.line; counts = counts_shown scan.new.counts }) result }
-    ensures size { length scan.new.room.bytes.items ≡ length scan.old.room.bytes.items }
+    ensures rooms { AreRooms D.tells (file_pages codec.now (D.reads disk.new)) codec.now.profile.page_size scan.new.rooms }
     ensures pages { scan.new.pages ≡ scan.old.pages }
     ensures cause { IfErr result (IsCause (D.faults disk.old) (D.faults disk.new) (K.faults out.old) (K.faults out.new)) }
     ensures later { D.faults disk.old ≤ D.faults disk.new }
@@ -118,7 +119,7 @@ fn put_fault<K: Sink>(
     ensures on { IsSalvaged K.tells (fault_lines n fault)
         (record { taken = K.taken out.old; waits = scan.old.line; counts = counts_shown scan.old.counts })
         (record { taken = K.taken out.new; waits = scan.new.line; counts = counts_shown scan.new.counts }) result }
-    ensures room { scan.new.room ≡ scan.old.room }
+    ensures rooms { scan.new.rooms ≡ scan.old.rooms }
     ensures pages { scan.new.pages ≡ scan.old.pages }
     ensures cause { IfErr result (IsOutCause (K.faults out.old) (K.faults out.new)) }
     ensures later { K.faults out.old ≤ K.faults out.new }
@@ -141,12 +142,12 @@ fn put_cells<D: Disk, K: Sink>(
     n: u32,
     page: &PageView<'_>,
 ) -> Result<(), SalvageError>
-    requires size { length scan.old.room.bytes.items ≡ codec.now.profile.page_size }
+    requires rooms { AreRooms D.tells (file_pages codec.now (D.reads disk.old)) codec.now.profile.page_size scan.old.rooms }
     requires pages { IsTrue D.tells → scan.old.pages ≡ (file_pages codec.now (D.reads disk.old)).count }
     ensures on { IsTrue D.tells → IsSalvaged K.tells (flat_map (cell_lines (file_pages codec.now (D.reads disk.old)) n) page.now.cells)
         (record { taken = K.taken out.old; waits = scan.old.line; counts = counts_shown scan.old.counts })
         (record { taken = K.taken out.new; waits = scan.new.line; counts = counts_shown scan.new.counts }) result }
-    ensures size { length scan.new.room.bytes.items ≡ length scan.old.room.bytes.items }
+    ensures rooms { AreRooms D.tells (file_pages codec.now (D.reads disk.new)) codec.now.profile.page_size scan.new.rooms }
     ensures pages { scan.new.pages ≡ scan.old.pages }
     ensures cause { IfErr result (IsCause (D.faults disk.old) (D.faults disk.new) (K.faults out.old) (K.faults out.new)) }
     ensures later { D.faults disk.old ≤ D.faults disk.new }

@@ -2,9 +2,10 @@
 ghost use Rattle.std.specs.Prelude.{◌≡◌, ◌≤◌, ◌<◌, [], false, length, OnOk, OnErr, IfOk, IfErr, IsTrue};
 ghost use Rattle.edge_model.specs.Causes.{HasCause};
 ghost use Rattle.edge_model.specs.OnlyRead.{OnlyRead};
-ghost use Rattle.export_rows.specs.Out.{Moves, MovesPart};
+ghost use Rattle.row_text.specs.Out.{Moves, MovesPart};
 ghost use Rattle.pager.specs.File.{main_of};
 ghost use Rattle.salvage_scan.specs.Answer.{IsKeyAnswered, IsReported, IsStop};
+ghost use Rattle.salvage_scan.specs.Room.{AreRooms};
 ghost use Rattle.salvage_scan.specs.Salvage.{IsNoneAccepted, file_pages, salvage_lines};
 ghost use Rattle.salvage_scan.specs.Scan.{IsCause, IsDiskCause, IsOutCause, IsSalvaged};
 ghost use Rattle.salvage_scan.specs.Text.{counts_line, counts_shown};
@@ -12,7 +13,7 @@ ghost use Rattle.salvage_scan.specs.Text.{counts_line, counts_shown};
 use crate::error::SalvageError;
 use crate::lines::put_counts;
 use crate::page::put_page;
-use crate::room::PageRoom;
+use crate::room::Rooms;
 use crate::scan::{Salvaged, Scan};
 use edge_model::{Disk, Failed, Role, Sink};
 use page_codec::Codec;
@@ -20,7 +21,7 @@ use pager::file_length;
 use std::alloc::Global;
 
 /// Puts a line for each row of Main that can be read, and for each page that is not accepted, and last their counts, which are
-/// answered. Memory is taken for two pages, one payload and 64 KiB of text.
+/// answered. Memory is taken for three pages, one payload and 64 KiB of text.
 pub fn salvage<D: Disk, K: Sink>(
     alloc: Global,
     disk: &mut D,
@@ -90,7 +91,7 @@ fn salvage_pages<D: Disk, K: Sink>(
         Err(_) => return Err(SalvageError::OutOfMemory),
         Ok(scan) => scan,
     };
-    match has_accepted(disk, codec, &mut scan.room, pages) {
+    match has_accepted(disk, codec, &mut scan.rooms, pages) {
         Err(error) => return Err(error),
         Ok(false) => return Err(SalvageError::KeyRefused),
         Ok(true) => {}
@@ -105,16 +106,16 @@ fn salvage_pages<D: Disk, K: Sink>(
 fn has_accepted<D: Disk>(
     disk: &mut D,
     codec: &Codec,
-    room: &mut PageRoom,
+    rooms: &mut Rooms,
     pages: u32,
 ) -> Result<bool, SalvageError>
-    requires size { length room.old.bytes.items ≡ codec.now.profile.page_size }
+    requires rooms { AreRooms D.tells (file_pages codec.now (D.reads disk.old)) codec.now.profile.page_size rooms.old }
     requires pages { IsTrue D.tells → pages ≡ (file_pages codec.now (D.reads disk.old)).count }
     ensures tagged { IfOk result (λ accepted. accepted ≡ false → 0 < codec.now.profile.tag_len) }
     ensures none { IfOk result (λ accepted. accepted ≡ false → IsTrue D.tells → IsNoneAccepted (file_pages codec.now (D.reads disk.old))) }
     ensures some { IfOk result (λ accepted. IsTrue accepted → IsTrue D.tells → 0 < codec.now.profile.tag_len
         → IsNoneAccepted (file_pages codec.now (D.reads disk.old)) → ⊥) }
-    ensures size { length room.new.bytes.items ≡ length room.old.bytes.items }
+    ensures rooms { AreRooms D.tells (file_pages codec.now (D.reads disk.new)) codec.now.profile.page_size rooms.new }
     ensures cause { IfErr result (IsDiskCause (D.faults disk.old) (D.faults disk.new)) }
     ensures later { D.faults disk.old ≤ D.faults disk.new }
     ensures only_read { IsTrue D.tells → OnlyRead D.reads D.images D.moment D.since disk.old disk.new }
@@ -123,7 +124,7 @@ fn has_accepted<D: Disk>(
         return Ok(true);
     }
     for done in 0..pages {
-        match room.open(disk, codec, done + 1) {
+        match rooms.open(disk, codec, done + 1) {
             Err(_) => return Err(SalvageError::DiskFault),
             Ok(true) => return Ok(true),
             Ok(false) => {}
@@ -140,7 +141,7 @@ fn put_pages<D: Disk, K: Sink>(
     scan: &mut Scan,
     out: &mut K,
 ) -> Result<(), SalvageError>
-    requires size { length scan.old.room.bytes.items ≡ codec.now.profile.page_size }
+    requires rooms { AreRooms D.tells (file_pages codec.now (D.reads disk.old)) codec.now.profile.page_size scan.old.rooms }
     requires pages { IsTrue D.tells → scan.old.pages ≡ (file_pages codec.now (D.reads disk.old)).count }
     ensures on { IsTrue D.tells → IsSalvaged K.tells (salvage_lines (file_pages codec.now (D.reads disk.old)))
         (record { taken = K.taken out.old; waits = scan.old.line; counts = counts_shown scan.old.counts })

@@ -4,9 +4,9 @@ ghost use Rattle.salvage_scan.specs.Salvage.{no_counts};
 ghost use Rattle.salvage_scan.specs.Text.{counts_shown};
 
 use crate::error::SalvageError;
-use crate::room::PageRoom;
+use crate::room::Rooms;
 use db_format::OutOfMemory;
-use export_rows::LineOut;
+use row_text::LineOut;
 use std::alloc::Global;
 
 /// How much was salvaged.
@@ -20,11 +20,11 @@ pub struct Salvaged {
     pub refused: u64,
 }
 
-/// Room for a page and a payload, the lines that wait, and the counts so far, of a file of so many whole pages.
+/// Room for two pages and a payload, the lines that wait, and the counts so far, of a file of so many whole pages.
 #[derive(Drop)]
 pub(crate) struct Scan {
     pub pages: u32,
-    pub room: PageRoom,
+    pub rooms: Rooms,
     pub payload: Vec<u8>,
     pub line: LineOut,
     pub counts: Salvaged,
@@ -33,16 +33,17 @@ pub(crate) struct Scan {
 impl Scan {
     /// Nothing is read and nothing put, of a file of so many whole pages of this size.
     pub(crate) fn new(alloc: Global, size: u32, pages: u32) -> Result<Scan, OutOfMemory>
-        ensures room { IfOk result (λ scan. length scan.room.bytes.items ≡ size) }
+        ensures even { IfOk result (λ scan. (length scan.rooms.even.bytes.items ≡ size) × (scan.rooms.even.number ≡ 0)) }
+        ensures odd { IfOk result (λ scan. (length scan.rooms.odd.bytes.items ≡ size) × (scan.rooms.odd.number ≡ 0)) }
         ensures pages { IfOk result (λ scan. scan.pages ≡ pages) }
         ensures nothing { IfOk result (λ scan. scan.line ≡ []) }
         ensures none { IfOk result (λ scan. counts_shown scan.counts ≡ no_counts) }
     {
-        let room = PageRoom::new(alloc, size as usize)?;
+        let rooms = Rooms::new(alloc, size as usize)?;
         let line = LineOut::new(alloc)?;
         Ok(Scan {
             pages,
-            room,
+            rooms,
             payload: Vec::new(alloc),
             line,
             counts: Salvaged {

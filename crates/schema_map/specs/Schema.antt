@@ -1,11 +1,11 @@
 -- The rows of the schema, as they are kept.
 use Rattle.std.specs.Prelude.{◌≡◌, ℕ, Bool, List, [], ◌∷◌, ◌++◌, ◌==◌, map, length, Result, Ok, Err, if◌then◌else◌, ⊤}
 use Rattle.std.specs.List.{Contains}
-use Rattle.db_format.specs.Pages.{Pages}
+use Rattle.db_format.specs.Pages.{Pages, nothing}
 use Rattle.db_format.specs.Record.{columns}
 use Rattle.btree_model.specs.Finding.{Row, Finding, entries, faults}
 use Rattle.btree_model.specs.Records.{record_fault}
-use Rattle.btree_model.specs.Schema.{roots, rowid_or_0, schema_fault}
+use Rattle.btree_model.specs.Schema.{roots, rowid_or_0, schema_fault, schema_part}
 use Rattle.btree_walk.specs.Causes.{IsAmong}
 use Rattle.btree_walk.specs.declared.error.WalkError.{WalkError}
 use Rattle.btree_walk.specs.declared.error.WalkError.TheVariants.{Defect, Source, OutOfMemory}
@@ -16,6 +16,10 @@ use Rattle.schema_map.specs.declared.schema.SchemaRow.{SchemaRow}
 -- an entry of the schema's tree as it is kept: the number of its root page, 0 where it has no tree, beside it
 abbrev pub schema_row : Row → SchemaRow
 schema_row row = record { rowid = rowid_or_0 row.rowid; root = number_of (columns row.payload); payload = row.payload }
+
+-- the rows of a schema as they are kept, where it is read before any tree
+abbrev pub schema_rows : Pages → List SchemaRow
+schema_rows pages = map schema_row (entries (schema_part pages nothing))
 
 -- the roots of the rows that have a tree, in order
 abbrev pub tree_roots : List SchemaRow → List ℕ

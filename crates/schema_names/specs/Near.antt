@@ -1,15 +1,12 @@
 -- The names of a schema that are near a name: they are this name but for the case of ASCII letters (Database File Format, section 2.6).
 -- SQLite takes such names for one; `find` compares them byte for byte.
-use Rattle.std.specs.Prelude.{ℕ, ◌==◌, not, List, [], ◌∷◌, take, map, filter_map, codes, Option, Some, None, if◌then◌else◌, Bool}
+use Rattle.std.specs.Prelude.{ℕ, ◌==◌, not, List, [], ◌∷◌, take, filter_map, codes, Option, Some, None, if◌then◌else◌, Bool}
 use Rattle.std.specs.Option.{option_map, option_and_then}
 use Rattle.std.specs.Str.{bytes_eq, str_eq_ignore_ascii_case}
-use Rattle.db_format.specs.Pages.{Pages, nothing}
 use Rattle.db_format.specs.Record.{columns}
 use Rattle.db_format.specs.Value.{Datum}
 use Rattle.db_format.specs.Value.Datum.{null, int, float, text, blob}
-use Rattle.btree_model.specs.Finding.{entries}
-use Rattle.btree_model.specs.Schema.{schema_part}
-use Rattle.schema_map.specs.Schema.{schema_row}
+pub use Rattle.schema_map.specs.Schema.{schema_rows}
 use Rattle.schema_map.specs.declared.schema.SchemaRow.{SchemaRow}
 use Rattle.schema_names.specs.declared.kind.SchemaKind.{SchemaKind}
 use Rattle.schema_names.specs.declared.kind.SchemaKind.TheVariants.{Table, Index, View, Trigger}
@@ -62,7 +59,3 @@ all_near name rows = filter_map (λ row. near_row name row.root (columns row.pay
 -- the first ten of them
 unfoldable pub near_names : List ℕ → List SchemaRow → List NearName
 near_names name rows = take 10 (all_near name rows)
-
--- the rows of the schema
-abbrev pub schema_rows : Pages → List SchemaRow
-schema_rows pages = map schema_row (entries (schema_part pages nothing))

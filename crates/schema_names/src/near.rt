@@ -6,7 +6,8 @@ ghost use Rattle.db_format.specs.Source.{Rose, no_pins};
 ghost use Rattle.db_format.specs.Value.{datum_of};
 ghost use Rattle.btree_model.specs.Schema.{schema_part};
 ghost use Rattle.btree_walk.specs.Causes.{IsAmong, IsGivenBy, is_failure};
-ghost use Rattle.schema_names.specs.Near.{is_near, near_columns, near_names, near_row, near_text, schema_rows};
+ghost use Rattle.schema_names.specs.Near.{is_near, near_columns, near_names, near_row, near_text};
+ghost use Rattle.schema_map.specs.Schema.{schema_rows};
 
 use crate::kind::{SchemaKind, kind_of};
 use btree_walk::WalkError;

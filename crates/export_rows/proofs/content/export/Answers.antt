@@ -21,7 +21,7 @@ use Rattle.schema_map.specs.Alone.{schema_rows}
 use Rattle.export_rows.specs.declared.error.ExportError.{ExportError}
 use Rattle.export_rows.specs.declared.error.ExportError.TheVariants.{Walk, OutputFault}
 use Rattle.export_rows.proofs.Handing.{if_given_later}
-use Rattle.export_rows.proofs.Moving.{restated_part}
+use Rattle.row_text.proofs.Moving.{restated_part}
 use Rattle.export_rows.proofs.SchemaText.{count_of_content, text_of_content}
 use Rattle.schema_map.proofs.SoundParts.{database_schema}
 use Rattle.export_rows.proofs.TreeText.{none_put}

@@ -1,9 +1,9 @@
 use Rattle.std.proofs.Common.{◌≡◌, ◌++◌, List, [], ℕ, sym, ap, subst, ◌∙◌}
 use Rattle.std.proofs.lemmas.List.{append-nil}
 use Rattle.export_rows.specs.Lines.{database_line, end_line, kept_of}
-use Rattle.export_rows.specs.Out.{Moves, MovesPart}
+use Rattle.row_text.specs.Out.{Moves, MovesPart}
 use Rattle.export_rows.specs.Schema.{rows_text}
-use Rattle.export_rows.proofs.Moving.{cut, restated_part, then, then_part}
+use Rattle.row_text.proofs.Moving.{cut, restated_part, then, then_part}
 use Rattle.export_rows.proofs.content.put_content.Goals as goal
 
 -- no byte waited at first

@@ -11,7 +11,7 @@ use Rattle.export_rows.specs.Schema.{row_count}
 use Rattle.btree_walk.proofs.CauseLemmas.{rose_later}
 use Rattle.export_rows.specs.Causes.{is_defect}
 use Rattle.export_rows.proofs.Handing.{fault_checked, given_checked, late_checked, none_checked, output_checked, walk_fault_later, walk_given_later}
-use Rattle.export_rows.proofs.Moving.{restated, restated_part}
+use Rattle.row_text.proofs.Moving.{restated, restated_part}
 use Rattle.export_rows.proofs.SchemaText.{IsKeptRow, count_fits, kept_at, walk_late, written_count, written_failed, written_on, written_stopped}
 use Rattle.export_rows.proofs.content.put_items.Goals as goal
 

@@ -12,11 +12,12 @@ use Rattle.btree_walk.specs.declared.error.WalkError.TheVariants.{Source}
 use Rattle.btree_walk.proofs.PathLemmas.{number_is_page}
 use Rattle.btree_walk.proofs.TurnLemmas.{start_shut}
 use Rattle.export_rows.specs.Lines.{schema_line}
-use Rattle.export_rows.specs.Report.{item_at, item_text, item_count, row_text}
+use Rattle.row_text.specs.Lines.{row_text}
+use Rattle.export_rows.specs.Report.{item_at, item_text, item_count}
 use Rattle.schema_map.specs.Alone.{tree_rows}
 use Rattle.export_rows.proofs.Handing.{if_among_later, if_given_later}
 use Rattle.export_rows.proofs.ItemText.{tree_count, tree_text}
-use Rattle.export_rows.proofs.Moving.{cut, restated, restated_part, then, then_part}
+use Rattle.row_text.proofs.Moving.{cut, restated, restated_part, then, then_part}
 use Rattle.export_rows.proofs.PartSteps.{among_joined}
 use Rattle.export_rows.proofs.TreeText.{none_put}
 use Rattle.export_rows.proofs.item.put_item.Goals as goal

@@ -1,7 +1,7 @@
 use Rattle.std.proofs.Common.{◌≡◌, ◌++◌, List, ℕ, ap, ◌∙◌, append_assoc}
 use Rattle.std.specs.Prelude.{codes, decimal}
 use Rattle.export_rows.specs.Lines.{database_line, kept_of}
-use Rattle.export_rows.proofs.Moving.{at_exit, cut, then, waits}
+use Rattle.row_text.proofs.Moving.{at_exit, cut, then, waits}
 use Rattle.export_rows.proofs.lines.put_database.Goals as goal
 
 pub returns-in_err-make_room-clause-part : goal.returns-in_err-make_room-clause-part

@@ -4,10 +4,11 @@ use Rattle.btree_model.specs.Content.{without_fourth}
 use Rattle.std.specs.Prelude.{codes}
 use Rattle.std.proofs.lemmas.Result.{on_ok_weaker, on_err_weaker}
 use Rattle.db_format.specs.Values.{values_left}
-use Rattle.export_rows.proofs.Moving.{at_exit, cut, restated, restated_part, then, then_part, waits}
+use Rattle.row_text.proofs.Moving.{at_exit, cut, restated, restated_part, then, then_part, waits}
 use Rattle.export_rows.specs.Lines.{schema_line, kind_text}
-use Rattle.export_rows.specs.Text.{spaced}
-use Rattle.export_rows.proofs.ValueSteps.{passed_one, spaced_before, spaced_behind}
+use Rattle.db_format.specs.Text.{spaced}
+use Rattle.row_text.proofs.ValueSteps.{passed_one}
+use Rattle.export_rows.proofs.ColumnSteps.{spaced_before, spaced_behind}
 use Rattle.export_rows.proofs.lines.put_schema_row.Goals as goal
 
 pub returns-in_err-make_room-clause-part : goal.returns-in_err-make_room-clause-part

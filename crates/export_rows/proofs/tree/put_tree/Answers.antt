@@ -12,11 +12,11 @@ use Rattle.btree_walk.specs.Cursor.{IsAt, IsAdvanced, IsNext, IsEnd, row_of, wal
 use Rattle.btree_walk.specs.Turn.{work}
 use Rattle.btree_walk.proofs.CauseLemmas.{given_later}
 use Rattle.btree_walk.proofs.CursorLemmas.{ready_made}
-use Rattle.export_rows.specs.Lines.{entry_line}
-use Rattle.export_rows.specs.Report.{row_text}
+use Rattle.row_text.specs.Lines.{entry_line}
+use Rattle.row_text.specs.Lines.{row_text}
 use Rattle.schema_map.specs.Alone.{tree_rows}
 use Rattle.export_rows.proofs.CursorSteps.{walked_is, work_first}
-use Rattle.export_rows.proofs.Moving.{restated, restated_part}
+use Rattle.row_text.proofs.Moving.{restated, restated_part}
 use Rattle.export_rows.proofs.PartSteps.{among_joined, no_record}
 use Rattle.export_rows.proofs.TreeText.{none_put, so_far_all, so_far_count, so_far_failed, so_far_made, so_far_on, so_far_stopped, row_order}
 use Rattle.export_rows.proofs.tree.put_tree.Goals as goal

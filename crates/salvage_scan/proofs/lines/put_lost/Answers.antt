@@ -1,7 +1,7 @@
 use Rattle.std.proofs.Common.{◌∙◌, ◌++◌, ℤ, ap}
 use Rattle.std.proofs.lemmas.Int.{to_z-of_z}
 use mir.Syntax.{w64}
-use Rattle.export_rows.proofs.Moving.{at_exit, cut, then, waits}
+use Rattle.row_text.proofs.Moving.{at_exit, cut, then, waits}
 use Rattle.salvage_scan.specs.Salvage.Line.{lost}
 use Rattle.salvage_scan.specs.Text.{line_text}
 use Rattle.salvage_scan.proofs.lines.put_lost.Goals as goal

@@ -1,4 +1,4 @@
-use Rattle.export_rows.proofs.Moving.{at_exit, cut, then, waits}
+use Rattle.row_text.proofs.Moving.{at_exit, cut, then, waits}
 use Rattle.salvage_scan.specs.Salvage.Line.{tag_refused}
 use Rattle.salvage_scan.specs.Text.{line_text}
 use Rattle.salvage_scan.proofs.lines.put_refused.Goals as goal

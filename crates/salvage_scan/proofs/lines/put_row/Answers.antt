@@ -5,9 +5,9 @@ use Rattle.std.proofs.lemmas.Result.{on_ok_weaker, on_err_weaker}
 use Rattle.std.proofs.lemmas.Int.{to_z-of_z}
 use mir.Syntax.{w64}
 use Rattle.db_format.specs.Values.{values_left}
-use Rattle.export_rows.specs.Text.{spaced}
-use Rattle.export_rows.proofs.Moving.{at_exit, cut, restated, restated_part, then, then_part, waits}
-use Rattle.export_rows.proofs.ValueSteps.{spaced_whole}
+use Rattle.db_format.specs.Text.{spaced}
+use Rattle.row_text.proofs.Moving.{at_exit, cut, restated, restated_part, then, then_part, waits}
+use Rattle.row_text.proofs.ValueSteps.{spaced_whole}
 use Rattle.salvage_scan.specs.Salvage.Line.{row}
 use Rattle.salvage_scan.specs.Text.{line_text}
 use Rattle.salvage_scan.proofs.lines.put_row.Goals as goal

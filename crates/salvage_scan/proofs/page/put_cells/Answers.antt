@@ -13,7 +13,7 @@ use Rattle.salvage_scan.proofs.page.put_cells.Goals as goal
 pub loop-index-init : goal.loop-index-init
 loop-index-init g c =
     record {
-      size = refl;
+      rooms = c.requires.rooms;
       pages = refl;
       later = omega arith;
       out_later = omega arith;
@@ -53,7 +53,7 @@ returns-in-Err-clause-only_read g c told = then_read (c.loop-index.invariant.onl
 pub loop-index-preserved : goal.loop-index-preserved
 loop-index-preserved g c =
     record {
-      size = c.in-Ok.ensures.size ∙ c.loop-index.invariant.size;
+      rooms = c.in-Ok.ensures.rooms;
       pages = c.in-Ok.ensures.pages ∙ c.loop-index.invariant.pages;
       later = let before = c.loop-index.invariant.later in let more = c.in-Ok.ensures.later in omega (arith, before, more);
       out_later = let before = c.loop-index.invariant.out_later in let more = c.in-Ok.ensures.out_later in omega (arith, before, more);

@@ -1,6 +1,7 @@
-use Rattle.std.proofs.Common.{◌≡◌, ◌≤◌, length, drop, IsTrue}
+use Rattle.std.proofs.Common.{◌≡◌, ◌≤◌, drop, IsTrue}
 use Rattle.std.specs.List.{flat_map}
 use Rattle.edge_model.specs.OnlyRead.{OnlyRead}
+use Rattle.salvage_scan.specs.Room.{AreRooms}
 use Rattle.salvage_scan.specs.Salvage.{cell_lines, file_pages}
 use Rattle.salvage_scan.specs.Scan.{IsSoFar}
 use Rattle.salvage_scan.specs.Text.{counts_shown}
@@ -10,7 +11,7 @@ use Rattle.salvage_scan.proofs.page.put_cells.Given as goal
 abbrev pub invariant-loop-index : goal.invariant-loop-index
 invariant-loop-index g l =
     record {
-      size : length l.scan.room.bytes.items ≡ length l.initial.scan.room.bytes.items;
+      rooms : AreRooms g.D.Disk.tells (file_pages l.codec (g.D.Disk.reads l.disk)) l.codec.profile.page_size l.scan.rooms;
       pages : l.scan.pages ≡ l.initial.scan.pages;
       later : g.D.Disk.faults l.initial.disk ≤ g.D.Disk.faults l.disk;
       out_later : g.K.Sink.faults l.initial.out ≤ g.K.Sink.faults l.out;

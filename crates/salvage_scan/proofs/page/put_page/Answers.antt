@@ -3,6 +3,8 @@ use Rattle.cipher_profile.specs.declared.profile.Profile.{Profile}
 use Rattle.cipher_profile.specs.Profile.{usable}
 use Rattle.db_format.specs.Pages.{Pages}
 use Rattle.edge_model.specs.Files.{Files}
+use Rattle.pager.specs.Reads.{then_read}
+use Rattle.salvage_scan.specs.Room.{bytes_at}
 use Rattle.salvage_scan.specs.Salvage.{Line, file_pages, leaf_lines, page_lines}
 use Rattle.salvage_scan.specs.Scan.{IsSalvaged}
 use Rattle.salvage_scan.specs.Text.{counts_shown}
@@ -45,7 +47,7 @@ returns-in-Ok-clause-on g c told =
     let pages : Pages = file_pages c.args.codec.now (g.D.Disk.reads c.args.disk.now) in
     let same : g.D.Disk.reads c.open.new.disk ≡ g.D.Disk.reads c.args.disk.now = (c.in-Ok-true.ensures.only_read told).stays in
     let body : c.as_slice.result.now ≡ pages.page c.args.n =
-    c.as_slice.ensures.value ∙ c.in-Ok.ensures.items_if_clones_equal (λ x y is. is) ∙ c.plain.ensures ∙ ap (λ k. take k c.open.new.self.bytes.items) (c.usable.ensures.value ∙ ap (λ (p : Profile). usable p) c.profile.ensures.value)
+    c.as_slice.ensures.value ∙ c.in-Ok.ensures.items_if_clones_equal (λ x y is. is) ∙ c.plain.ensures.bytes ∙ ap (λ k. take k (bytes_at c.open.new.self c.args.n)) (c.usable.ensures.value ∙ ap (λ (p : Profile). usable p) c.profile.ensures.value)
     ∙ c.in-Ok-true.ensures.opened told c.in-Ok-true.field-0-test in
     subst (λ (lines : List Line). IsSalvaged g.K.Sink.tells lines
     (record { taken = g.K.Sink.taken c.args.out.now; waits = c.args.scan.now.line; counts = counts_shown c.args.scan.now.counts })
@@ -58,3 +60,6 @@ pub returns-in-Ok-clause-cause : goal.returns-in-Ok-clause-cause
 returns-in-Ok-clause-cause g c =
     causes_later (g.D.Disk.faults c.args.disk.now) (g.D.Disk.faults c.open.new.disk) (g.D.Disk.faults c.put_leaf.new.disk) (g.K.Sink.faults c.args.out.now) (g.K.Sink.faults c.put_leaf.new.out)
     c.put_leaf.result c.in-Ok-true.ensures.cause.later c.put_leaf.ensures.cause
+
+pub returns-in-Ok-clause-only_read : goal.returns-in-Ok-clause-only_read
+returns-in-Ok-clause-only_read g c told = then_read (c.in-Ok-true.ensures.only_read told) (c.put_leaf.ensures.only_read told)

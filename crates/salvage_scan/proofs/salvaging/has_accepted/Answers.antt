@@ -1,4 +1,4 @@
-use Rattle.std.proofs.Common.{◌≡◌, ◌≤◌, ◌+◌, arith, refl, ap, sym, subst, ◌∙◌}
+use Rattle.std.proofs.Common.{◌≡◌, ◌≤◌, ◌+◌, arith, ap, sym, subst, ◌∙◌}
 use Rattle.db_format.specs.Pages.{Pages}
 use Rattle.edge_model.specs.Files.{Files}
 use Rattle.pager.specs.Reads.{not_read, then_read}
@@ -9,7 +9,7 @@ use Rattle.salvage_scan.proofs.salvaging.has_accepted.Goals as goal
 pub loop-done-init : goal.loop-done-init
 loop-done-init g c =
     record {
-      size = refl;
+      rooms = c.requires.rooms;
       later = omega arith;
       only_read = λ told. not_read c.args.disk.now;
       refused = λ told. none_refused (file_pages c.args.codec.now (g.D.Disk.reads c.args.disk.now));
@@ -34,7 +34,7 @@ returns-in-Ok-true-clause-some g c is told tagged =
 pub loop-done-preserved : goal.loop-done-preserved
 loop-done-preserved g c =
     record {
-      size = c.in-Ok-false.ensures.size ∙ c.loop-done.invariant.size;
+      rooms = c.in-Ok-false.ensures.rooms;
       later = let before = c.loop-done.invariant.later in let more = c.in-Ok-false.ensures.cause.later in omega (arith, before, more);
       only_read = λ told. then_read (c.loop-done.invariant.only_read told) (c.in-Ok-false.ensures.only_read told);
       refused = λ told.
@@ -48,3 +48,9 @@ returns-clause-none g c not told =
     let past = c.loop-done-test.false in
     let all = c.requires.pages told in
     all_refused (file_pages c.args.codec.now (g.D.Disk.reads c.args.disk.now)) c.loop-done.done (omega (arith, past, all)) (c.loop-done.invariant.refused told)
+
+pub returns-in-Err-clause-only_read : goal.returns-in-Err-clause-only_read
+returns-in-Err-clause-only_read g c told = then_read (c.loop-done.invariant.only_read told) (c.in-Err.ensures.only_read told)
+
+pub returns-in-Ok-true-clause-only_read : goal.returns-in-Ok-true-clause-only_read
+returns-in-Ok-true-clause-only_read g c told = then_read (c.loop-done.invariant.only_read told) (c.in-Ok-true.ensures.only_read told)

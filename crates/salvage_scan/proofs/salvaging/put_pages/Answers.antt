@@ -13,7 +13,7 @@ use Rattle.salvage_scan.proofs.salvaging.put_pages.Goals as goal
 pub loop-done-init : goal.loop-done-init
 loop-done-init g c =
     record {
-      size = refl;
+      rooms = c.requires.rooms;
       pages = refl;
       later = omega arith;
       out_later = omega arith;
@@ -58,7 +58,7 @@ returns-in-Err-clause-only_read g c told = then_read (c.loop-done.invariant.only
 pub loop-done-preserved : goal.loop-done-preserved
 loop-done-preserved g c =
     record {
-      size = c.in-Ok.ensures.size ∙ c.loop-done.invariant.size;
+      rooms = c.in-Ok.ensures.rooms;
       pages = c.in-Ok.ensures.pages ∙ c.loop-done.invariant.pages;
       later = let before = c.loop-done.invariant.later in let more = c.in-Ok.ensures.later in omega (arith, before, more);
       out_later = let before = c.loop-done.invariant.out_later in let more = c.in-Ok.ensures.out_later in omega (arith, before, more);

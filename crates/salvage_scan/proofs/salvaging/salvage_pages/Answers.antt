@@ -1,10 +1,11 @@
 use Rattle.std.proofs.Common.{◌≡◌, arith, refl, ap, sym, subst, ◌∙◌}
 use Rattle.db_format.specs.Pages.{Pages}
 use Rattle.edge_model.specs.Files.{Files}
+use Rattle.pager.specs.Reads.{then_read}
 use Rattle.salvage_scan.specs.Salvage.{file_pages, salvage_lines}
 use Rattle.salvage_scan.specs.Scan.{IsPut, IsPutPart, State}
 use Rattle.salvage_scan.specs.Text.{counts_shown}
-use Rattle.salvage_scan.proofs.AnswerSteps.{cause_key, cause_stop, disk_key, disk_stop, end_reported, lines_reported, none_reported}
+use Rattle.salvage_scan.proofs.AnswerSteps.{cause_key, cause_stop, disk_key, disk_stop, end_key, end_reported, lines_reported, none_reported}
 use Rattle.salvage_scan.proofs.salvaging.salvage_pages.Goals as goal
 
 pub returns-in-Err-clause-on : goal.returns-in-Err-clause-on
@@ -66,3 +67,11 @@ returns-clause-on g c told =
     end_reported g.K.Sink.tells pages s c.in-Ok.ensures.nothing c.in-Ok.ensures.none t
     (subst (λ (files : Files). IsPut g.K.Sink.tells (salvage_lines (file_pages c.args.codec.now files)) s t) same (c.in-Ok-put_pages.ensures.on told))
     (g.K.Sink.taken c.put_end.new.out) c.put_pages.new.scan.counts c.put_end.result refl c.put_end.ensures.text c.put_end.ensures.part c.put_end.ensures.counts
+
+pub returns-clause-only_read : goal.returns-clause-only_read
+returns-clause-only_read g c told = then_read (c.in-Ok-true.ensures.only_read told) (c.in-Ok-put_pages.ensures.only_read told)
+
+pub returns-clause-key : goal.returns-clause-key
+returns-clause-key g c told =
+    end_key c.args.codec.now.profile.tag_len (file_pages c.args.codec.now (g.D.Disk.reads c.args.disk.now)) (g.K.Sink.faults c.put_pages.new.out) (g.K.Sink.faults c.put_end.new.out)
+    c.put_end.result (c.in-Ok-true.ensures.some c.in-Ok-true.field-0-test told) c.put_end.ensures.cause

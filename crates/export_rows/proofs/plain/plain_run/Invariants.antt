@@ -1,8 +1,0 @@
-use Rattle.std.proofs.Common.{◌≡◌, true, take}
-use Rattle.std.specs.List.{list_all}
-use Rattle.export_rows.specs.Text.{is_plain}
-use Rattle.export_rows.proofs.plain.plain_run.Given as goal
-
--- the bytes so far stand as themselves
-abbrev pub invariant-loop-at : goal.invariant-loop-at
-invariant-loop-at l = list_all is_plain (take l.at l.text) ≡ true
