@@ -20,6 +20,7 @@ faults.sh
 stops.sh
 make.sh
 real_files.sh
+plain.sh
 stamp.sh
 hostile_files.sh
 find.sh

@@ -87,6 +87,7 @@ made() { "$program" "$scratch/$1" make "$2" "$3" < "$scratch/keys" > /dev/null 2
 made small 3 18
 made large 3 60
 made four 4 60
+made flat plain:1024 60
 cp "$scratch/large" "$scratch/hot"
 hot=$(stop_rekey "$scratch/hot" "$scratch/keys")
 [ "${hot:-0}" -gt 0 ] && [ -e "$scratch/hot-journal" ] || say "a rekey that is stopped leaves no journal"
@@ -106,10 +107,15 @@ run read four none 4 4 verify 4
 run read four none 4 4 find 4 items -5 60
 run read four none 4 4 salvage 4
 run probe large none 3 3 probe
+for words in "header plain:1024" "verify plain:1024" "export plain:1024" "find plain:1024 items 7 9" "salvage plain:1024"; do
+    # shellcheck disable=SC2086
+    run read flat none plain:1024 plain:1024 $words
+done
 
 # ---- recoveries
 run recover small none 3 3 recover 3
 run recover cold cold 3 3 recover 3
+run recover flat none plain:1024 plain:1024 recover plain:1024
 run recover hot "hot=$hot" 3 3 recover 3
 
 # ---- commands that change the file
@@ -128,12 +134,22 @@ run migrate hot "hot=$hot" 3 4 migrate 3 4
 run migrate left left 3 3 migrate 3 3
 run make nothing none 3 3 make 3 40
 run make nothing none 4 4 make 4 0
+# Of plain files the same, and nothing is drawn for one that is written.
+run stamp flat none plain:1024 plain:1024 stamp plain:1024 user-version 7
+run commit flat none plain:1024 plain:1024 stamp plain:1024 user-version 7
+run migrate flat none plain:1024 4 migrate plain:1024 4
+run migrate four none 4 plain:1024 migrate 4 plain:1024
+run migrate hot "hot=$hot" 3 plain:4096 migrate 3 plain:4096
+run migrate flat none plain:1024 plain:4096 migrate plain:1024 plain:4096
+run make nothing none plain:1024 plain:1024 make plain:1024 40
 
 # ---- the program itself, kept from a sync
 kept_from_syncs stamp small 3 3 stamp 3 user-version 7
 kept_from_syncs rekey small 3 3 rekey 3 3
 kept_from_syncs migrate small 3 4 migrate 3 4
 kept_from_syncs make nothing 3 3 make 3 5
+kept_from_syncs stamp flat plain:1024 plain:1024 stamp plain:1024 user-version 7
+kept_from_syncs migrate small 3 plain:1024 migrate 3 plain:1024
 
 echo "calls: $runs runs, $wrong wrong"
 finish "$wrong"

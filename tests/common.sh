@@ -45,7 +45,8 @@ sizes='4:1024 4:2048 4:8192 4:16384 4:32768 4:65536'
 
 quoted() { printf '%s' "$1" | sed "s/'/''/g"; }
 
-opening() { # opening PROFILE KEY: the statements with which the product opens a file
+opening() { # opening PROFILE KEY: the statements with which the product opens a file; a plain one it opens by itself
+    case $1 in plain:*) return ;; esac
     printf "PRAGMA key = '%s';\n" "$(quoted "$2")"
     case $1 in
         1) echo "PRAGMA cipher_use_hmac = OFF; PRAGMA kdf_iter = 4000;" ;;

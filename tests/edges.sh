@@ -110,6 +110,11 @@ row 1 usage '`verify` takes a version and nothing else' '"$tool" file.db verify 
 row 1 usage '`v4` is no version: there are 1, 2, 3, 4 and 4:SIZE, and `probe` finds that of a file' '"$tool" file.db verify v4 < key'
 row 1 usage '`4:512` is no version: the pages of version 4 have 1024, 2048, 4096,' '"$tool" file.db tags 4:512 < key'
 row 1 usage '`4:` is no version: the pages of version 4 have' '"$tool" file.db rekey 4 4: < key'
+for word in plain plain: plain:256 plain:131072 plain:04096 plain:4k 'plain 4096'; do
+    row 1 usage "\`$word\` is no version: the pages of plain files have 512, 1024, 2048," "\"\$tool\" file.db verify '$word' < key"
+done
+row 1 usage '`Plain:4096` is no version: there are' '"$tool" file.db migrate 4 Plain:4096 < key'
+row 1 usage '`verify` takes the version that wrote the file, 1, 2, 3 or 4, which `probe` finds, or of a plain file plain:SIZE' '"$tool" file.db verify < key'
 row 1 usage '`3:1024` is no version: there are' '"$tool" file.db migrate 4:8192 3:1024 < key'
 row 1 usage '`make` takes a version, and how many rows' '"$tool" new.db make 4:8192 many < key'
 row 1 usage '`5` is no version' '"$tool" file.db rekey 4 5 < key'
@@ -150,7 +155,7 @@ row 0 'found: 40 rows' '' '"$tool" file.db find 4 items -9223372036854775808 922
 row 0 '' '' '"$tool" file.db find 4 items -9223372036854775808 9223372036854775807 < key > found; "$tool" file.db export 4 < key > exported; grep "^row " exported | cmp - <(sed "\$d" found)'
 row 5 '' 'standard output: write: No space left on device' '"$tool" file.db find 4 items 1 9 < key > /dev/full'
 row 3 'key refused' 'does not fit under version 4' 'echo other | "$tool" file.db find 4 none 1 1'
-row 2 'key missing' 'take two, the old key and the new one' '"$tool" file.db find 4 none 1 1 < /dev/null'
+row 2 'key missing' 'before the key line: this command takes one' '"$tool" file.db find 4 none 1 1 < /dev/null'
 row 2 'file is empty' 'absent.db: there is no such file' '"$tool" absent.db find 4 items 1 1 < key'
 # A name that is an index, a table WITHOUT ROWID, a view, of another case, or nothing of the schema.
 no_table='the schema has no table of this name'
@@ -188,7 +193,7 @@ row 1 usage 'unknown command `Salvage`' '"$tool" file.db Salvage 4 < key'
 row 5 '' 'standard output: write: No space left on device' '"$tool" file.db salvage 4 < key > /dev/full'
 row 5 '' 'standard output: write: Bad file descriptor' '"$tool" file.db salvage 4 < key >&-'
 row 6 '' 'standard input: read: Bad file descriptor' '"$tool" file.db salvage 4 <&-'
-row 2 'key missing' 'take two, the old key and the new one' '"$tool" file.db salvage 4 < /dev/null'
+row 2 'key missing' 'before the key line: this command takes one' '"$tool" file.db salvage 4 < /dev/null'
 row 2 'key with salt' 'give the first 64 digits alone' 'sed "s/1f/&&&&&&&&&&&&&&&&&/" key | "$tool" file.db salvage 4'
 no_page='the key opens no page of the file under version'
 row 3 'key refused' "$no_page 4" 'echo other | "$tool" file.db salvage 4'
@@ -230,7 +235,7 @@ touch linked/app.db-journal
 row 0 "$hold" '' '"$tool" linked/app.db tags 4 < key'
 row 4 '' 'dangling.db: resolve: No such file' '"$tool" dangling.db tags 4 < key'
 row 4 '' 'loop.db: resolve: Too many levels of symbolic links' '"$tool" loop.db tags 4 < key'
-row 2 'key missing' 'take two, the old key and the new one' '"$tool" loop.db tags 4 < /dev/null'
+row 2 'key missing' 'before the key line: this command takes one' '"$tool" loop.db tags 4 < /dev/null'
 row 1 usage "$usage" '"$tool" loop.db'
 row 2 'file is empty' 'absent.db: there is no such file' '"$tool" absent.db tags 4 < key'
 row 0 'nothing' 'absent.db: there is no such file' '"$tool" absent.db recover 4'
@@ -307,15 +312,16 @@ row 2 '' '`verify` looks at those that are' "waiting 'rm changing.db'"
 row 2 '' $'another program wrote to the file meanwhile\n`verify` looks at those that are' "waiting 'touch changing.db'"
 row 0 'page 8001: tag refused' '' 'tail -n 1 rest'
 
-# Long work shows how far it is where standard error is a terminal, and only there. A file of 600 MiB takes more than a second.
+# Long work shows how far it is where standard error is a terminal, and only there. To decrypt 1,000 MiB takes more than a second.
 if has script; then
-    cp file.db long.db && truncate -s 629145600 long.db
+    "$tool" long.db make 1 0 < key > lines.txt 2> /dev/null && truncate -s 1048576000 long.db
     shown() { # shown WORDS: whether they stood on the terminal, and the line was taken away at the end
-        script -qec '"$tool" long.db tags 4 < key > lines.txt' terminal > /dev/null
+        script -qec '"$tool" long.db salvage 1 < key > lines.txt' terminal > /dev/null
         grep -qaF -- "$1" terminal && [ "$(tr -d '\r\n' < terminal | grep -aoF $'\e[K' | wc -l)" -ge 2 ]
     }
     export tool
-    row 0 '' '' "shown 'MiB read; the file has 600 MiB'"
+    row 0 '' '' "shown 'MiB read; the file has 1000 MiB'"
+    cp file.db long.db && truncate -s 629145600 long.db
     row 0 '' '`verify` looks at those that are' '"$tool" long.db tags 4 < key > lines.txt; [ $? -eq 2 ]'
     rm -f long.db lines.txt terminal
 else
@@ -336,9 +342,11 @@ row 3 "$refused" 'begins and ends with a quote' 'printf "\"%s\"\n" "$k0" | "$too
 row 3 "$refused" 'begins and ends with a quote' "echo \"'old'\" | \"\$tool\" file.db tags 4"
 row 3 "$refused" 'under version 3' '"$tool" file.db header 3 < key'
 row 3 "$refused" 'under version 4:1024' '"$tool" file.db header 4:1024 < key'
-{ printf 'SQLite format 3\0'; tail -c +17 file.db; } > plain.db
-row 3 "$refused" 'it is not encrypted' '"$tool" plain.db tags 4 < key'
-row 3 "$refused" 'it is not encrypted' "echo $digits | \"\$tool\" plain.db probe"
+{ printf 'SQLite format 3\0\0\0'; tail -c +19 file.db; } > plain.db
+printf '\0' | dd of=plain.db bs=1 seek=20 conv=notrunc status=none
+row 3 "$refused" 'it is not encrypted, but its header names no size of pages' '"$tool" plain.db tags 4 < key'
+row 3 "$refused" 'it is not encrypted, but its header names no size of pages' "echo $digits | \"\$tool\" plain.db probe"
+row 3 "$refused" 'does not fit under version 4' '{ printf "SQLite format 3\1"; tail -c +17 file.db; } > other.db; "$tool" other.db tags 4 < key'
 rows=$((rows + 1))
 for line in "$digits" "old carriage" 'quoted secret"'; do
     printf '%s\n' "$line" | "$tool" file.db tags 4 2>&1 > /dev/null | grep -qF -- "$line" && wrong=$((wrong + 1))
@@ -346,19 +354,93 @@ done
 
 row 2 'key with salt' 'give the first 64 digits alone' "echo \"x'$digits${digits:0:32}'\" | \"\$tool\" file.db tags 4"
 
+# Plain files: what an encrypted file, another size, a mode, reserved bytes and a missing key line are told by, and what the lines say.
+unencrypted='the file begins with `SQLite format 3`: it is not encrypted. Give plain:1024 in the place of the version, and no key; `migrate plain:1024 4` encrypts it'
+magic='the file does not begin with `SQLite format 3`, as every plain file does: it is encrypted, and `probe` finds the version by its key'
+clear='sqlite.db: the new file holds every row in the clear; the old encrypted pages will be gone from this name, but not from the device'
+raw='the new key was taken as a raw key'
+pass='the new key was taken as a passphrase'
+left_clear="the old file's rows in the clear are gone from this name, but not from the device"
+row 0 'made: 40 rows, 90000 data bytes' '' '"$tool" sqlite.db make plain:1024 40 <&-'
+cp sqlite.db kept.db
+plain_pages=$(($(stat -c %s sqlite.db) / 1024))
+for words in 'tags 4' 'header 3' 'verify 4:1024' 'export 2' 'salvage 4' 'find 4 items 1 1' probe 'stamp 4 user-version 7' 'rekey 4 4' 'migrate 4 3' 'migrate 4 plain:1024'; do
+    row 3 "$refused" "$unencrypted" "cat key key | \"\$tool\" sqlite.db $words"
+done
+row 3 "$refused" 'it is not encrypted' '"$tool" sqlite.db verify 1 < key'
+for words in 'header plain:1024' 'verify plain:4096' 'export plain:512' 'find plain:4096 items 1 1' 'stamp plain:4096 user-version 7' 'migrate plain:4096 plain:512'; do
+    row 3 "$refused" "$magic" "\"\$tool\" file.db $words <&-"
+done
+row 3 "$refused" "$magic" '"$tool" file.db migrate plain:4096 4 < key'
+row 2 'profile has no tags' 'a plain file has no tags: `verify` checks its structure' '"$tool" sqlite.db tags plain:1024 <&-'
+for words in 'plain:1024 4' '4 plain:1024' 'plain:1024 plain:1024' 'plain:1024 plain:512'; do
+    row 2 'layout differs' 'a plain file has no key to change: `migrate` with the same words' "\"\$tool\" sqlite.db rekey $words <&-"
+done
+row 2 'header fault at 16: 1024' 'the pages of this file have 1024 bytes: give plain:1024' '"$tool" sqlite.db header plain:4096 <&-'
+row 2 'header fault at 16: 1024' 'the pages of this file have 1024 bytes: give plain:1024' '"$tool" sqlite.db migrate plain:512 4 < key'
+row 2 'file is short: 1024 bytes' 'the pages of this file have 1024 bytes: give plain:1024' 'head -c 1024 sqlite.db > short.db; "$tool" short.db verify plain:65536 <&-'
+row 2 'file is short: 1024 bytes' 'it was cut' '"$tool" short.db verify plain:1024 <&-'
+row 2 'key missing' 'from a plain file one is taken, the new key' '"$tool" sqlite.db migrate plain:1024 4 < /dev/null'
+row 2 'key missing' 'to a plain file one is taken, the old key' '"$tool" file.db migrate 4 plain:1024 < /dev/null'
+row 2 'key missing' 'this command takes one' '"$tool" file.db probe < /dev/null'
+row 6 '' 'standard input: read: Bad file descriptor' '"$tool" sqlite.db migrate plain:1024 4 <&-'
+row 0 'stamped' '' '"$tool" sqlite.db stamp plain:1024 user-version 0 <&-'
+row 0 'found: 40 rows' '' '"$tool" sqlite.db find plain:1024 items 1 40 <&- | tail -n 1'
+row 2 'no such table' "\`items\` $other_case" '"$tool" sqlite.db find plain:1024 Items 1 1 <&-'
+row 2 'no such table' '`names` is a view' '"$tool" sqlite.db find plain:1024 names 1 1 <&-'
+row 0 "$counts" "$counts$told" '"$tool" sqlite.db salvage plain:1024 <&- | tail -n 1'
+row 0 'nothing' '' '"$tool" sqlite.db recover plain:1024 <&-'
+row 2 'file is there' '`make` takes a new name' '"$tool" sqlite.db make plain:1024 1 <&-'
+row 0 '' "$raw"$'\n'"$left_clear" '"$tool" sqlite.db migrate plain:1024 4 < key > lines.txt'
+row 0 "$hold" '' '"$tool" sqlite.db tags 4 < key'
+row 0 '' "$clear" '"$tool" sqlite.db migrate 4 plain:1024 < key > lines.txt'
+row 0 '' "$clear" '"$tool" sqlite.db migrate plain:1024 4 < key > lines.txt 2> lines.txt; "$tool" sqlite.db migrate 4 plain:1024 < key > lines.txt'
+row 0 "migrated: $plain_pages pages" '' '"$tool" sqlite.db migrate plain:1024 plain:1024 <&-'
+row 0 '' "$raw"$'\n'"$left_clear"$'\nversion 1 has no tags' '"$tool" sqlite.db migrate plain:1024 1 < key > lines.txt'
+row 0 '' "$clear" '"$tool" sqlite.db migrate 1 plain:1024 < key > lines.txt'
+row 0 '' "$pass"$'\nof the new key: the key line ends in a space\n'"$left_clear"$'\nthe input goes on after the last key line' \
+    'printf "old \n%s\n" "$k0" | "$tool" sqlite.db migrate plain:1024 3 > lines.txt'
+# What is refused before it is written is not said to be in the clear.
+cp file.db sqlite.db
+row 3 "$refused" 'does not fit under version 4' 'echo other | "$tool" sqlite.db migrate 4 plain:1024'
+row 4 '' $'sqlite.db: another run of sqlcipher-tool has the file\nsqlite.db: it was not touched' 'flock sqlite.db "$tool" sqlite.db migrate 4 plain:1024 < key'
+row 5 '' "$clear"$'\nstandard output: write: No space left on device\nthe old one or the new one: `recover 4`, then `verify 4` and `verify plain:1024`, each with its own key' \
+    '"$tool" sqlite.db migrate 4 plain:1024 < key > /dev/full'
+row 0 '' '' 'cmp <("$tool" kept.db export plain:1024) <("$tool" sqlite.db export plain:1024)'
+# A field of the header, put by hand.
+field() { # field OFFSET BYTES WORDS: the words on a copy with these bytes there
+    cp kept.db field.db
+    # shellcheck disable=SC2059
+    printf "$2" | dd of=field.db bs=1 seek="$1" conv=notrunc status=none
+    # shellcheck disable=SC2086
+    "$tool" field.db $3 <&-
+}
+row 2 'header fault at 20: 12' 'its pages have 12 reserved bytes: where SQLite wrote it, `sqlite3 FILE .dump | sqlite3 NEW`' 'field 20 "\\014" "verify plain:1024"'
+row 2 'header fault at 20: 80' '(`cipher_plaintext_header_size`), it is not served' 'field 20 "\\120" "header plain:1024"'
+row 3 "$refused" 'the file begins with `SQLite format 3`, and its pages have 80 reserved bytes: where SQLite wrote it' 'field 20 "\\120" "header plain:1024" > lines.txt 2>&1; "$tool" field.db verify 4 < key'
+row 2 'header fault at 16: 1' 'give plain:65536' 'field 16 "\\0\\1" "verify plain:1024"'
+row 2 'header fault at 16: 1000' 'its header names no size of pages that SQLite has: the file is damaged' 'field 16 "\\3\\350" "verify plain:1024"'
+row 2 'header fault at 21: 65' '' 'field 21 A "verify plain:1024"'
+row 2 'WAL mode' "\`sqlite3 FILE 'PRAGMA journal_mode = DELETE'\`; of a copy, FILE-wal has to lie beside it" 'field 18 "\\2\\2" "export plain:1024"'
+row 0 "$counts" "$counts$told" 'field 18 "\\2\\2" "salvage plain:1024" | tail -n 1'
+row 2 'auto-vacuum' "\`sqlite3 FILE 'PRAGMA auto_vacuum = 0; VACUUM'\`" 'field 52 "\\0\\0\\0\\3" "migrate plain:1024 plain:4096"'
+row 3 "$refused" "$magic" 'field 0 s "verify plain:1024"'
+row 4 '' $'this write-ahead log holds newer pages of the database\nPRAGMA journal_mode = DELETE\'` takes the log into the file; a log that is another\nit was not touched' \
+    'cp kept.db logged.db; echo > logged.db-wal; "$tool" logged.db verify plain:1024 <&-'
+rm -f sqlite.db kept.db field.db short.db logged.db logged.db-wal
+
 # A new key that may have been meant otherwise. The old key is not spoken of.
 other="x'ffffffffffffffffffffffffffffffffffffffffffffffffffffffffffffffff'"
 printf '%s\n' "$k0" "$other" > keys
 cp file.db rekeyed.db
-row 2 'key missing' 'take two, the old key and the new one' '"$tool" rekeyed.db rekey 4 4 < key'
+row 2 'key missing' 'this command takes two, the old key and the new one' '"$tool" rekeyed.db rekey 4 4 < key'
+row 2 'key missing' 'this command takes two, the old key and the new one' '"$tool" rekeyed.db migrate 4 3 < key'
 row 2 'key missing' 'the file of the first key has no line feed at its end' '(head -c 67 key; head -c 67 key) | "$tool" rekeyed.db rekey 4 4'
 row 2 'key empty' 'a key line is empty' 'echo | "$tool" rekeyed.db tags 4'
 row 2 'key too long' 'at most 1,024 bytes' 'head -c 1025 /dev/zero | "$tool" rekeyed.db tags 4'
 row 2 'layout differs' '`migrate` writes the database anew' '"$tool" rekeyed.db rekey 4 3 < keys'
 row 2 'layout differs' '`migrate` writes the database anew' '"$tool" rekeyed.db rekey 4 4:8192 < keys'
 row 2 'file is there' '`make` takes a new name' '"$tool" rekeyed.db make 4 1 < key'
-raw='the new key was taken as a raw key'
-pass='the new key was taken as a passphrase'
 row 0 "rekeyed: $pages pages" "$raw" '"$tool" rekeyed.db rekey 4 4 < keys'
 row 0 "rekeyed: $pages pages" "$pass"$'\nof the new key: the key line ends in a carriage return' \
     'printf "%s\n%s\r\n" "$other" "$k0" | "$tool" rekeyed.db rekey 4 4'
@@ -472,6 +554,10 @@ hot_journal 00010000
 row 2 'journal page size 65536' 'give 4:65536' '"$tool" hot.db recover 4'
 hot_journal 00000200
 row 2 'journal page size 512' 'no version has such pages' '"$tool" hot.db recover 4'
+row 2 'journal page size 512' 'another size: give plain:512; nothing was written' '"$tool" hot.db recover plain:4096'
+row 2 'journal page size 512' 'another size: give plain:512; nothing was written' 'printf "SQLite format 3\0" | dd of=hot.db conv=notrunc status=none; "$tool" hot.db recover 4'
+hot_journal 00000600
+row 2 'journal page size 1536' 'and no file has such pages' '"$tool" hot.db verify plain:1024'
 rm -f hot.db hot.db-journal
 
 # A file that was cut.

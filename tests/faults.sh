@@ -1,5 +1,5 @@
 #!/usr/bin/env bash
-# One call of the system failing, or one request of memory refused, each alone, under `rekey 3 3`, `migrate 3 4`, `stamp` and the recovery of
+# One call of the system failing, or one request of memory refused, each alone, under `rekey 3 3`, `migrate 3 4`, `migrate 3 plain:1024`, `stamp` and the recovery of
 # a hot journal, on a file of some 80 pages: a read, write, cut, sync, open, look-up, removal or rename of the three files and their folder, of
 # the random bytes, of standard input and output, with EIO and with ENOSPC. The status is that of what failed, standard error has the
 # system's words, and where the files may be others says what to run. What is left recovers to the old content under the old key or to the new
@@ -225,6 +225,7 @@ if can_trace; then
     [ -e "$scratch/hot-journal" ] && head -c 5000 /dev/zero >> "$scratch/hot" || say "a stopped rekey leaves no journal"
     failing rekey plain 3 rekey 3 3 &
     failing migrate plain "$later_version" migrate 3 "$later_version" &
+    failing decrypt plain plain:1024 migrate 3 plain:1024 &
     failing stamp plain stamped stamp 3 user-version 7 &
     failing recover hot recovered recover 3 &
     wait

@@ -34,7 +34,7 @@ RUNS = {
     "migrate": (MIGRATE, 0, ""),
     "make": (MIGRATE, 2, ""),
 }
-LAYOUTS = {"1": (1024, 16), "2": (1024, 48), "3": (1024, 48), "4": (4096, 80)}      # page size and reserve
+LAYOUTS = {"1": (1024, 16), "2": (1024, 48), "3": (1024, 48), "4": (4096, 80), "plain:1024": (1024, 0), "plain:4096": (4096, 0)}     # page size and reserve
 ACTS = ("create", "write", "cut", "sync", "remove", "rename")
 ORDERING = ("create", "cut", "sync", "remove", "rename")
 
@@ -80,6 +80,15 @@ def compare_tables():
             if of_model != of_ours:
                 raise Wrong(f"'{table}', row {number + 1}: docs/CRASH_MODEL.md has '{of_model}', tests/calls/rows.tsv '{of_ours}'")
     print(f"{sum(map(len, here.values()))} rows of {len(here)} tables are those of docs/CRASH_MODEL.md")
+
+
+def undrawn(calls):
+    """The calls of a row without its draws."""
+    for draws in ("(draw read:Main*)* ", "draw? ", "draw "):
+        calls = calls.replace(draws, "")
+    if "draw" in calls:
+        raise Wrong(f"a draw is left in '{calls}'")
+    return calls
 
 
 def expression(calls, tables, state):
@@ -229,6 +238,8 @@ class Run:
         self.new_page_size, self.reserve = LAYOUTS[written_version]
         table, without, more = RUNS[name]
         self.rows = (self.tables[table] if table else [])[without:] + ([("what the command does itself", more)] if more else [])
+        if not self.reserve:        # of a plain file nothing is drawn
+            self.rows = [(row, undrawn(calls)) for row, calls in self.rows if calls != "draw"]
         pieces = [expression(calls, self.tables, self.state) for _, calls in self.rows]
         pieces[-1] += r"(?:read:\w+ )*"
         self.prefixes = [re.compile("".join(pieces[:count])) for count in range(len(pieces) + 1)]
@@ -291,11 +302,13 @@ class Run:
             raise Wrong(f"the recovery lays {laid} pages, and the journal has {self.played}")
         if sorted(fresh) != list(range(1, len(fresh) + 1)):
             raise Wrong("a page of the new file is written twice, or not at all")
+        if self.name in ("migrate", "make") and len(fresh) != self.pages:
+            raise Wrong(f"{len(fresh)} pages of the new file are written, and it has {self.pages}")
         self.sealed = len(written) + len(fresh)
 
     def check_draws(self, calls):
         drawn = sum(call.size for call in calls if call.act == "draw")
-        wanted = self.sealed * self.reserve + 16 * (self.name in ("migrate", "make"))
+        wanted = self.sealed * self.reserve + 16 * (self.name in ("migrate", "make") and self.reserve > 0)
         if self.name != "commit" and drawn != wanted:
             raise Wrong(f"{drawn} bytes are drawn for {self.sealed} pages, and not {wanted}")
 
@@ -319,6 +332,7 @@ def calls_of(run, folder, lines):
 
 def compare(name, folder, read_version, written_version, state):
     run = Run(name, read_version, written_version, state)
+    run.pages = os.path.getsize(os.path.join(folder, "file")) // run.new_page_size
     calls = calls_of(run, folder, sys.stdin)
     run.check(calls)
     refused = 0

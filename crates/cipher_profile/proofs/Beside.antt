@@ -1,10 +1,10 @@
 -- The keys of a file under two profiles.
-use Rattle.std.proofs.Common.{◌≡◌, ◌∙◌, ℕ, List, ap}
+use Rattle.std.proofs.Common.{◌≡◌, ◌∙◌, ℕ, List, ap, refl}
 use Rattle.hmac_core.specs.Hmac.{xor_each}
 use Rattle.hmac_core.specs.Pbkdf2.{derived_key}
 use Rattle.cipher_profile.specs.declared.keys.PageKeys.{PageKeys}
 use Rattle.cipher_profile.specs.declared.keys.Secret.{Secret}
-use Rattle.cipher_profile.specs.declared.keys.Secret.TheVariants.{Raw, Pass}
+use Rattle.cipher_profile.specs.declared.keys.Secret.TheVariants.{Raw, Pass, NoKey}
 use Rattle.cipher_profile.specs.declared.profile.HashKind.{HashKind}
 use Rattle.cipher_profile.specs.declared.profile.Profile.{Profile}
 use Rattle.cipher_profile.specs.Hashes.{block_len, digest, digest_len}
@@ -26,3 +26,4 @@ keys_alike one other (Raw key) salt hash rounds = ap (λ (h : HashKind). keys_by
 keys_alike one other (Pass passphrase) salt hash rounds =
     ap (λ (h : HashKind). keys_by h (stretched_by h passphrase salt one.rounds) salt) hash
     ∙ ap (λ (n : ℕ). keys_by other.hash (stretched_by other.hash passphrase salt n) salt) rounds
+keys_alike one other NoKey salt hash rounds = refl

@@ -1,5 +1,6 @@
--- Profiles: the page layouts and key derivations of SQLCipher's versions (SQLCipher API, "cipher_compatibility").
-use Rattle.std.specs.Prelude.{◌≡◌, ◌⊎◌, ◌≤◌, ℕ, ◌+◌, ◌-◌, ◌%◌, ◌||◌, List, [], ◌∷◌, Option, Some, None, codes, if◌then◌else◌}
+-- Profiles: the page layouts and key derivations of SQLCipher's versions (SQLCipher API, "cipher_compatibility"), and plain files
+-- of SQLite.
+use Rattle.std.specs.Prelude.{◌≡◌, ◌⊎◌, ◌≤◌, ℕ, ◌+◌, ◌-◌, ◌%◌, ◌<◌, ◌==◌, ◌||◌, Bool, true, false, List, [], ◌∷◌, Option, Some, None, codes, if◌then◌else◌}
 use Rattle.std.specs.Str.{bytes_eq}
 use Rattle.cipher_profile.specs.declared.profile.Profile.{Profile}
 use Rattle.cipher_profile.specs.declared.profile.HashKind.TheVariants.{Sha1, Sha512}
@@ -30,6 +31,18 @@ abbrev pub IsSize4 : ℕ → Type 0
 IsSize4 size =
     (size ≡ 1024) ⊎ (size ≡ 2048) ⊎ (size ≡ 4096) ⊎ (size ≡ 8192) ⊎ (size ≡ 16384) ⊎ (size ≡ 32768) ⊎ (size ≡ 65536)
 
+-- a plain file with pages of this size: nothing of a page is reserved, and the hash and its rounds serve nothing
+abbrev pub plain_of : ℕ → Profile
+plain_of size = record { version = 0; page_size = size; reserve = 0; hash = Sha1; rounds = 1; tag_len = 0 }
+
+-- the sizes of pages that SQLite knows, in bytes (SQLite file format, 1.3.2)
+abbrev pub IsPlainSize : ℕ → Type 0
+IsPlainSize size = (size ≡ 512) ⊎ IsSize4 size
+
+-- whether files of this profile are plain: nothing in them is encrypted
+abbrev pub is_plain : Profile → Bool
+is_plain profile = profile.version == 0
+
 -- the profile that a word of the command line names. Every one is listed (`named_listed`)
 unfoldable pub profile_named : List ℕ → Option Profile
 profile_named word =
@@ -42,13 +55,22 @@ profile_named word =
     else (if bytes_eq word (codes "4:8192") then Some (sqlcipher_4_of 8192)
     else (if bytes_eq word (codes "4:16384") then Some (sqlcipher_4_of 16384)
     else (if bytes_eq word (codes "4:32768") then Some (sqlcipher_4_of 32768)
-    else (if bytes_eq word (codes "4:65536") then Some (sqlcipher_4_of 65536) else None)))))))))
+    else (if bytes_eq word (codes "4:65536") then Some (sqlcipher_4_of 65536)
+    else (if bytes_eq word (codes "plain:512") then Some (plain_of 512)
+    else (if bytes_eq word (codes "plain:1024") then Some (plain_of 1024)
+    else (if bytes_eq word (codes "plain:2048") then Some (plain_of 2048)
+    else (if bytes_eq word (codes "plain:4096") then Some (plain_of 4096)
+    else (if bytes_eq word (codes "plain:8192") then Some (plain_of 8192)
+    else (if bytes_eq word (codes "plain:16384") then Some (plain_of 16384)
+    else (if bytes_eq word (codes "plain:32768") then Some (plain_of 32768)
+    else (if bytes_eq word (codes "plain:65536") then Some (plain_of 65536) else None)))))))))))))))))
 
 -- one of the profiles. What holds of each of them is in `IsLaidOut`
 unfoldable pub IsListed : Profile → Type 0
 IsListed profile =
     (profile ≡ sqlcipher_1) ⊎ (profile ≡ sqlcipher_2) ⊎ (profile ≡ sqlcipher_3)
     ⊎ (IsSize4 profile.page_size × (profile ≡ sqlcipher_4_of profile.page_size))
+    ⊎ (IsPlainSize profile.page_size × (profile ≡ plain_of profile.page_size))
 
 -- the profiles in the order in which a file is tried with them
 abbrev pub probed_profiles : List Profile
@@ -60,16 +82,19 @@ probed_profiles =
 abbrev pub usable : Profile → ℕ
 usable profile = profile.page_size - profile.reserve
 
--- how the lengths of a profile go together: a page has room for its content, an IV and a tag, and both are whole blocks of the
--- cipher, of which page 1 gives the first to the salt
+-- how the lengths of a profile go together: an encrypted page has room for its content, an IV and a tag, and both are whole blocks of
+-- the cipher, of which page 1 gives the first to the salt; a plain page is all content
 pub record IsLaidOut (profile : Profile) : Type 0 where
-  pub least : 1024 ≤ profile.page_size
+  pub least : 512 ≤ profile.page_size
   pub most : profile.page_size ≤ 65536
   pub content : 480 ≤ usable profile
   pub reserve : profile.reserve ≤ 255
-  pub room : usable profile + 16 + profile.tag_len ≤ profile.page_size
+  pub whole : usable profile + profile.reserve ≡ profile.page_size
+  pub room : is_plain profile ≡ false → usable profile + 16 + profile.tag_len ≤ profile.page_size
+  pub unreserved : is_plain profile ≡ true → profile.reserve ≡ 0
   pub blocks : usable profile % 16 ≡ 0
   pub stride : profile.page_size % 16 ≡ 0
   pub salt : 16 ≤ usable profile
   pub tag : profile.tag_len ≤ digest_len profile.hash
-  pub untagged : profile.tag_len ≡ 0 → profile.page_size ≡ 1024
+  pub tagged : 0 < profile.tag_len → is_plain profile ≡ false
+  pub untagged : is_plain profile ≡ false → profile.tag_len ≡ 0 → profile.page_size ≡ 1024

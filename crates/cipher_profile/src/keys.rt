@@ -1,20 +1,22 @@
 // The keys of a file, from a secret and the file's salt.
 ghost use Rattle.std.specs.Prelude.{◌≡◌, ◌≤◌, ◌↔◌, IsTrue};
 ghost use Rattle.hmac_core.specs.Hmac.{xor_each};
-ghost use Rattle.cipher_profile.specs.Keys.{cipher_key, page_keys, stretched, tag_key};
+ghost use Rattle.cipher_profile.specs.Keys.{page_keys, stretched, tag_key};
 ghost use Rattle.cipher_profile.specs.Profile.{IsListed};
 
 use crate::passphrase::PassBytes;
 use crate::profile::{HashKind, Profile};
 use hmac_core::{Sha1Hash, Sha512Hash, pbkdf2};
 
-/// What a key line holds.
+/// What opens a file: what a key line holds, or nothing.
 #[derive(Drop)]
 pub enum Secret {
     /// The cipher's key itself.
     Raw([u8; 32]),
     /// A passphrase.
     Pass(PassBytes),
+    /// None: a plain file has no key.
+    NoKey,
 }
 
 /// The keys of a file's pages.
@@ -32,12 +34,23 @@ const TAG_KEY_ROUNDS: u32 = 2;
 /// What each byte of the salt is xored with for the key of the tags.
 const SALT_MASK: u8 = 0x3a;
 
+/// What stands for the keys of a plain file, which serve nothing.
+const NO_KEYS: PageKeys = PageKeys {
+    enc: [0; 32],
+    mac: [0; 32],
+};
+
 /// The keys that a secret gives for a file with this salt.
+#[tactic(auto, unfolding(crate::specs::Profile::IsListed))]
 pub fn derive(secret: &Secret, profile: &Profile, salt: &[u8; 16]) -> PageKeys
     requires { IsListed profile.now }
     ensures { result ≡ page_keys profile.now secret.now salt.now }
 {
-    let enc = cipher_key(profile, secret, salt);
+    let enc = match secret {
+        Secret::Raw(key) => *key,
+        Secret::Pass(passphrase) => stretch(profile, passphrase.as_slice(), salt, profile.rounds),
+        Secret::NoKey => return NO_KEYS,
+    };
     let mac = tag_key(profile, &enc, salt);
     PageKeys { enc, mac }
 }
@@ -67,17 +80,6 @@ fn stretch_alike(one: &Profile, other: &Profile) -> bool
     ensures { IsTrue result ↔ ((one.now.hash ≡ other.now.hash) × (one.now.rounds ≡ other.now.rounds)) }
 {
     one.hash == other.hash && one.rounds == other.rounds
-}
-
-#[tactic(auto, unfolding(crate::specs::Profile::IsListed))]
-fn cipher_key(profile: &Profile, secret: &Secret, salt: &[u8; 16]) -> [u8; 32]
-    requires { IsListed profile.now }
-    ensures { result ≡ cipher_key profile.now secret.now salt.now }
-{
-    match secret {
-        Secret::Raw(key) => *key,
-        Secret::Pass(passphrase) => stretch(profile, passphrase.as_slice(), salt, profile.rounds),
-    }
 }
 
 fn tag_key(profile: &Profile, key: &[u8; 32], salt: &[u8; 16]) -> [u8; 32]

@@ -1,6 +1,6 @@
-// The profiles of SQLCipher's versions, as one table.
+// The profiles of SQLCipher's versions and of plain files, as one table.
 ghost use Rattle.std.specs.Prelude.{◌≡◌, IfSome, All};
-ghost use Rattle.cipher_profile.specs.Profile.{IsLaidOut, IsListed, IsSize4, profile_named, probed_profiles, sqlcipher_4_of, usable};
+ghost use Rattle.cipher_profile.specs.Profile.{IsLaidOut, IsListed, IsPlainSize, IsSize4, is_plain, plain_of, profile_named, probed_profiles, sqlcipher_4_of, usable};
 
 /// The hash of a profile.
 #[derive(Clone, Copy, Debug, PartialEq, Eq)]
@@ -11,10 +11,10 @@ pub enum HashKind {
     Sha512,
 }
 
-/// A version of SQLCipher: how its pages are laid out and how its keys are made. Lengths are in bytes.
+/// A version of SQLCipher, or plain SQLite: how its pages are laid out and how its keys are made. Lengths are in bytes.
 #[derive(Clone, Copy, Debug, PartialEq, Eq)]
 pub struct Profile {
-    /// The version.
+    /// The version; 0 for plain files.
     pub version: u8,
     /// The length of a stored page.
     pub page_size: u32,
@@ -72,6 +72,23 @@ fn sqlcipher_4_of(page_size: u32) -> Profile
     }
 }
 
+// A plain file with pages of this size.
+#[tactic(auto, unfolding(crate::specs::Profile::IsListed))]
+fn plain_of(page_size: u32) -> Profile
+    requires { IsPlainSize page_size }
+    ensures value { result ≡ plain_of page_size }
+    ensures listed { IsListed result }
+{
+    Profile {
+        version: 0,
+        page_size,
+        reserve: 0,
+        hash: HashKind::Sha1,
+        rounds: 1,
+        tag_len: 0,
+    }
+}
+
 /// The profile that a word of the command line names.
 #[tactic(auto, unfolding(crate::specs::Profile::IsListed, crate::specs::Profile::profile_named))]
 pub fn profile_of(word: &str) -> Option<Profile>
@@ -89,12 +106,20 @@ pub fn profile_of(word: &str) -> Option<Profile>
         "4:16384" => Some(sqlcipher_4_of(16384)),
         "4:32768" => Some(sqlcipher_4_of(32768)),
         "4:65536" => Some(sqlcipher_4_of(65536)),
+        "plain:512" => Some(plain_of(512)),
+        "plain:1024" => Some(plain_of(1024)),
+        "plain:2048" => Some(plain_of(2048)),
+        "plain:4096" => Some(plain_of(4096)),
+        "plain:8192" => Some(plain_of(8192)),
+        "plain:16384" => Some(plain_of(16384)),
+        "plain:32768" => Some(plain_of(32768)),
+        "plain:65536" => Some(plain_of(65536)),
         _ => None,
     }
 }
 
 /// The profiles that a file is tried with where none is named, in this order: of version 4 the size that is the default
-/// first, then the others from the least on, and then the older versions.
+/// first, then the others from the least on, and then the older versions. A plain file needs no trial.
 pub fn probed_profiles() -> [Profile; 10]
     ensures value { result ≡ probed_profiles }
     ensures listed { All IsListed result }
@@ -121,5 +146,12 @@ impl Profile {
         ensures laid_out { IsLaidOut self.now }
     {
         (self.page_size - self.reserve) as usize
+    }
+
+    /// Whether files of this profile are plain: nothing in them is encrypted.
+    pub fn is_plain(&self) -> bool
+        ensures { result ≡ is_plain self.now }
+    {
+        self.version == 0
     }
 }

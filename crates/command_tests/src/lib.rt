@@ -13,6 +13,8 @@ mod near_names;
 #[cfg(test)]
 mod pages;
 #[cfg(test)]
+mod plain_files;
+#[cfg(test)]
 mod renewal;
 #[cfg(test)]
 mod rows;

@@ -69,6 +69,7 @@ fn codec_of(rt: &impl Abort, alloc: Global, word: &str, key: &[u8]) -> Result<Co
     let Some(profile) = profile_of(word) else {
         panic!(rt; "no profile {word}");
     };
+    assert!(rt; !profile.is_plain(), "a plain file has no key");
     let Ok(secret) = read_key(&mut MemSource::new(alloc, key, &[])?) else {
         panic!(rt; "no key");
     };

@@ -33,7 +33,8 @@ pub fn serve(alloc: Global, given: &Given<'_>, disk: &mut MemDisk) -> Result<Ser
     serve_failing(alloc, given, 0, 0, disk)
 }
 
-/// Runs a command where this call of the input fails, and this one of the output, counted from 1.
+/// Runs a command where this call of the input fails, and this one of the output, counted from 1. Where no byte is there to be drawn, the
+/// first call of the entropy fails, so that a call for no bytes is seen too.
 pub fn serve_failing(
     alloc: Global,
     given: &Given<'_>,
@@ -48,7 +49,8 @@ pub fn serve_failing(
     let zeros = vec![in alloc; 0u8; given.drawn]?;
     let mut input = MemSource::new(alloc, keys.as_slice(), &[take]).map_err(|_| AllocError)?;
     let mut out = MemSink::new(alloc, &[put]).map_err(|_| AllocError)?;
-    let mut entropy = MemEntropy::new(alloc, zeros.as_slice(), &[]).map_err(|_| AllocError)?;
+    let draw = if given.drawn == 0 { 1 } else { 0 };
+    let mut entropy = MemEntropy::new(alloc, zeros.as_slice(), &[draw]).map_err(|_| AllocError)?;
     let status = run(alloc, given.words, &mut input, &mut out, &mut entropy, disk);
     Ok(Served {
         text: out.bytes().to_vec(alloc)?,

@@ -26,6 +26,18 @@ const MIGRATE: Given<'static> = Given {
     drawn: 4_000,
 };
 
+const ENCRYPT: Given<'static> = Given {
+    words: &["migrate", "plain:1024", "4"],
+    lines: &[KEY],
+    drawn: 4_000,
+};
+
+const DECRYPT: Given<'static> = Given {
+    words: &["migrate", "4", "plain:1024"],
+    lines: &[KEY],
+    drawn: 0,
+};
+
 // More calls of the disk than a run here makes.
 const MOST_CALLS: u64 = 4_400;
 
@@ -189,6 +201,33 @@ fn a_stop_of_a_migration_leaves_the_old_file_or_the_new_one(rt: HostRuntime) -> 
         assert!(rt; end > 40 && renewed > 0, "{end}");
     }
     Ok(())
+}
+
+// A file of this profile is migrated from or to a plain one.
+fn a_plain_migration_leaves_one(
+    rt: &impl Abort,
+    alloc: Global,
+    given: Given<'static>,
+    profile: &'static str,
+) -> Result<(), Fail> {
+    let migrate = trial_on(alloc, given, profile, made(alloc, profile, "7")?)?;
+    let (end, renewed) = each_leaves_one(rt, alloc, &migrate, 0, 1, false)?;
+    assert!(rt; end > 40 && renewed > 0, "{end}");
+    Ok(())
+}
+
+#[test]
+fn a_stop_of_an_encryption_leaves_the_plain_file_or_the_new_one(
+    rt: HostRuntime,
+) -> Result<(), Fail> {
+    a_plain_migration_leaves_one(&rt, rt.alloc(), ENCRYPT, "plain:1024")
+}
+
+#[test]
+fn a_stop_of_a_decryption_leaves_the_old_file_or_the_plain_one(
+    rt: HostRuntime,
+) -> Result<(), Fail> {
+    a_plain_migration_leaves_one(&rt, rt.alloc(), DECRYPT, "4")
 }
 
 // Such a migration recovers the file first. Without its journal it has none of the rows.

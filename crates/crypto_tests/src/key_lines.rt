@@ -8,7 +8,7 @@ use std::alloc::Global;
 use std::test::Fail;
 
 // SQLCipher API, "cipher_compatibility", and the sizes that follow from its settings: the length of a page, its usable
-// bytes, the rounds and the length of a tag.
+// bytes, the rounds and the length of a tag. A plain page is usable whole.
 #[test]
 fn words_name_profiles(rt: HostRuntime) {
     let table = [
@@ -23,6 +23,10 @@ fn words_name_profiles(rt: HostRuntime) {
         ("4:16384", 4, 16384, 16304, HashKind::Sha512, 256_000, 64),
         ("4:32768", 4, 32768, 32688, HashKind::Sha512, 256_000, 64),
         ("4:65536", 4, 65536, 65456, HashKind::Sha512, 256_000, 64),
+        ("plain:512", 0, 512, 512, HashKind::Sha1, 1, 0),
+        ("plain:1024", 0, 1024, 1024, HashKind::Sha1, 1, 0),
+        ("plain:4096", 0, 4096, 4096, HashKind::Sha1, 1, 0),
+        ("plain:65536", 0, 65536, 65536, HashKind::Sha1, 1, 0),
     ];
     for (word, version, page_size, usable, hash, rounds, tag_len) in table {
         let Some(profile) = profile_of(word) else {
@@ -33,10 +37,30 @@ fn words_name_profiles(rt: HostRuntime) {
             && profile.rounds == rounds
             && profile.tag_len == tag_len;
         assert!(rt; profile.version == version && sizes && settings, "{word}");
+        assert!(rt; profile.is_plain() == (version == 0), "{word}");
     }
     for word in [
-        "", "0", "5", "10", "04", " 4", "four", "4:", "4:512", "4:04096", "4:3000", "4:131072",
-        "3:1024", "4:4096 ",
+        "",
+        "0",
+        "5",
+        "10",
+        "04",
+        " 4",
+        "four",
+        "4:",
+        "4:512",
+        "4:04096",
+        "4:3000",
+        "4:131072",
+        "3:1024",
+        "4:4096 ",
+        "plain",
+        "plain:",
+        "plain:256",
+        "plain:0512",
+        "plain:513",
+        "plain:131072",
+        "Plain:512",
     ] {
         assert!(rt; profile_of(word).is_none(), "{word}");
     }

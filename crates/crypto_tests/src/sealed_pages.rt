@@ -16,6 +16,9 @@ const MAX_PAGE: usize = 65_536;
 
 const MAGIC: &[u8; 16] = b"SQLite format 3\0";
 
+// The words of plain files, by the least, the common and the largest pages.
+const PLAIN: [&str; 3] = ["plain:512", "plain:4096", "plain:65536"];
+
 const DIGITS: &[u8; 16] = b"0123456789abcdef";
 
 // Whether a text has these bytes in hex.
@@ -48,6 +51,9 @@ fn codec_of(rt: &impl Abort, word: &str, first: u8) -> Codec {
     let Some(profile) = profile_of(word) else {
         panic!(rt; "no profile {word}");
     };
+    if profile.is_plain() {
+        return Codec::new(profile, derive(&Secret::NoKey, &profile, MAGIC), *MAGIC);
+    }
     let mut key = [0u8; 32];
     ascending(first, &mut key);
     let keys = derive(&Secret::Raw(key), &profile, SALT);
@@ -290,5 +296,31 @@ fn a_key_fits_its_own_file(rt: HostRuntime) {
         let other = codec_of(&rt, word, 1);
         assert!(rt; stored.len() == other.profile().page_size as usize);
         assert!(rt; !other.key_fits(stored), "profile {word}");
+    }
+}
+
+// A plain file: the stored page is the plain page, nothing is drawn, and its sign is the magic. It takes any bytes as a page.
+#[test]
+fn a_plain_page_is_stored_as_it_is(rt: HostRuntime) {
+    for word in PLAIN {
+        let codec = codec_of(&rt, word, 0);
+        let profile = codec.profile();
+        assert!(rt; codec.salt() == *MAGIC, "{word}");
+        let mut plain = [7u8; MAX_PAGE];
+        plain[..16].copy_from_slice(MAGIC);
+        let plain = &plain[..profile.usable()];
+        let mut stored = [0u8; MAX_PAGE];
+        let stored = &mut stored[..profile.page_size as usize];
+        seal(&rt, &codec, 1, plain, stored);
+        assert!(rt; stored[..] == plain[..], "{word}");
+        assert!(rt; codec.key_fits(stored), "{word}");
+        let mut opened = [0u8; MAX_PAGE];
+        let opened = &mut opened[..plain.len()];
+        assert!(rt; codec.open_page(1, stored, opened) == Ok(()), "{word}");
+        assert!(rt; opened[..] == plain[..], "{word}");
+        stored[15] = 1;
+        assert!(rt; codec.open_in_place(1, stored) == Ok(()), "{word}");
+        assert!(rt; stored[16..] == plain[16..], "{word}");
+        assert!(rt; !codec.key_fits(stored), "{word}");
     }
 }

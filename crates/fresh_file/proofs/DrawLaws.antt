@@ -1,32 +1,35 @@
 -- The keys of a file with a drawn salt, and what its pages were sealed with after it.
-use Rattle.std.proofs.Common.{◌≡◌, inl, inr, ⊎_elim, ◌≤◌, ◌+◌, ◌-◌, ℕ, Bool, List, ◌++◌, length, take, drop, arith, ap, sym, subst, ◌∙◌, length-append}
+use Rattle.std.proofs.Common.{◌≡◌, inl, inr, ⊎_elim, ◌≤◌, ◌+◌, ◌-◌, ℕ, Bool, List, ◌++◌, length, take, drop, arith, ap, sym, subst, refl, ◌∙◌, length-append}
 use Rattle.std.specs.Io.{StartsWith}
 use Rattle.std.proofs.Math.Seq.{drop-append-add, drop-append_seam}
 use Rattle.std.proofs.lemmas.List.{append_assoc, take-append-drop, take_at}
-use Rattle.cipher_profile.specs.Keys.{page_keys}
+use Rattle.std.specs.Prelude.{true, false, if◌then◌else◌}
+use Rattle.cipher_profile.specs.Profile.{is_plain}
 use Rattle.cipher_profile.specs.declared.keys.Secret.{Secret}
 use Rattle.cipher_profile.specs.declared.profile.Profile.{Profile}
-use Rattle.page_codec.specs.Page.{FileKeys, keys_of, salt_of}
+use Rattle.page_codec.specs.Page.{FileKeys, keys_of, keys_with_salt, magic, salt_of}
 use Rattle.fresh_file.specs.Sealed.{IsSealedWith}
 use Rattle.pager.specs.File.{whole_pages}
 use Rattle.pager.specs.Pages.{is_number}
 use Rattle.transaction.specs.Draws.{OwnDraws}
-use Rattle.fresh_file.specs.Draws.{AreOwnDraws, HasOwnDraws}
+use Rattle.fresh_file.specs.Draws.{AreOwnDraws, HasOwnDraws, HasSaltAndDraws}
 use Rattle.fresh_file.specs.Beside.{IsSalted}
 
--- the keys that the secret gives with this salt
-abbrev pub keys_with : Profile → Secret → List ℕ → FileKeys
-keys_with profile secret salt = record { profile = profile; keys = page_keys profile secret salt; salt = salt }
-
-pub keys_are : (profile : Profile) (secret : Secret) (salt file : List ℕ) (keys : FileKeys) → keys ≡ keys_with profile secret salt → salt_of file ≡ keys.salt
-    → keys ≡ keys_of profile secret file
-keys_are profile secret salt file keys is begins =
-    is ∙ ap (λ (l : List ℕ). keys_with profile secret l) (sym (begins ∙ ap (λ (k : FileKeys). k.salt) is))
+-- the keys with the salt of a file are that file's
+pub keys_are : (profile : Profile) (secret : Secret) (salt file : List ℕ) (keys : FileKeys) → keys ≡ keys_with_salt profile secret salt
+    → (is_plain profile ≡ true → salt ≡ magic) → salt_of file ≡ keys.salt → keys ≡ keys_of profile secret file
+keys_are profile secret salt file keys is plainly begins =
+    is ∙ ap (λ (l : List ℕ). keys_with_salt profile secret l) (by_kind (is_plain profile) refl)
+  where
+    by_kind : (plain : Bool) → is_plain profile ≡ plain → salt ≡ (if plain then magic else salt_of file)
+    by_kind true plain = plainly plain
+    by_kind false ciphered = sym (begins ∙ ap (λ (k : FileKeys). k.salt) is)
 
 -- what is said under the keys of a file's salt is said under those that the secret gives for it
-pub told_as : (profile : Profile) (secret : Secret) (salt : List ℕ) (is_under : FileKeys → List ℕ → Type 0) (keys : FileKeys) → keys ≡ keys_with profile secret salt
-    → (file : List ℕ) → IsSalted keys (is_under keys) file → is_under (keys_of profile secret file) file
-told_as profile secret salt is_under keys is file salted = subst (λ (k : FileKeys). is_under k file) (keys_are profile secret salt file keys is salted.salt) salted.is_new
+pub told_as : (profile : Profile) (secret : Secret) (salt : List ℕ) (is_under : FileKeys → List ℕ → Type 0) (keys : FileKeys) → keys ≡ keys_with_salt profile secret salt
+    → (is_plain profile ≡ true → salt ≡ magic) → (file : List ℕ) → IsSalted keys (is_under keys) file → is_under (keys_of profile secret file) file
+told_as profile secret salt is_under keys is plainly file salted =
+    subst (λ (k : FileKeys). is_under k file) (keys_are profile secret salt file keys is plainly salted.salt) salted.is_new
 
 -- ---- draws, without those from before
 
@@ -48,36 +51,31 @@ own_after reserve from before more sealed seals own = record {
       (λ (le : own.place n + reserve ≤ own.place m). inr (omega (arith, le, own.later m has_m, own.later n has_n))) (own.apart m n other has_m has_n);
 }
 
--- the salt was drawn first
-pub drawn_with : (keys : FileKeys) (file salt before mid after : List ℕ) → length salt ≡ 16 → keys.salt ≡ salt → salt_of file ≡ keys.salt → mid ≡ before ++ salt
-    → StartsWith after mid
+-- the salt of an encrypted file was drawn first
+pub drawn_with : (keys : FileKeys) (file salt before mid after : List ℕ) → length salt ≡ 16 → keys.salt ≡ salt → salt_of file ≡ keys.salt
+    → (is_plain keys.profile ≡ false → mid ≡ before ++ salt) → StartsWith after mid
     → AreOwnDraws keys file (length mid) after → HasOwnDraws keys file (drop (length before) after)
-drawn_with keys file salt before mid after long is begins drew grown own = record {
-  enough = omega (arith, long, ap (λ (l : List ℕ). length l) drawn_is, length-append salt rest);
-  salt = begins ∙ is ∙ sym (ap (λ (l : List ℕ). take 16 l) drawn_is ∙ take_at salt rest 16 long);
-  pages = own_after keys.profile.reserve 16 before drawn (is_number (whole_pages keys.profile file)) (IsSealedWith keys file)
-      (subst (λ (l : List ℕ). AreOwnDraws keys file (length before + 16) l) all_is (subst (λ (k : ℕ). AreOwnDraws keys file k after) mid_long own));
-}
+drawn_with keys file salt before mid after long is begins drew grown own ciphered = salted (drew ciphered)
   where
     rest : List ℕ
     rest = drop (length mid) after
 
-    mid_long : length mid ≡ length before + 16
-    mid_long = omega (arith, long, ap (λ (l : List ℕ). length l) drew, length-append before salt)
-
     drawn : List ℕ
     drawn = drop (length before) after
 
-    after_is : after ≡ before ++ (salt ++ rest)
-    after_is =
-        sym (take-append-drop (length mid) after) ∙ ap (λ (l : List ℕ). l ++ rest) (grown ∙ drew)
-        ∙ append_assoc before salt rest
-
-    drawn_is : drawn ≡ salt ++ rest
-    drawn_is = ap (λ (l : List ℕ). drop (length before) l) after_is ∙ drop-append_seam before (salt ++ rest)
-
-    all_is : after ≡ before ++ drawn
-    all_is = after_is ∙ ap (λ (l : List ℕ). before ++ l) (sym drawn_is)
+    salted : mid ≡ before ++ salt → HasSaltAndDraws keys file drawn
+    salted first =
+        let mid_long : length mid ≡ length before + 16 = omega (arith, long, ap (λ (l : List ℕ). length l) first, length-append before salt) in
+        let after_is : after ≡ before ++ (salt ++ rest) =
+        sym (take-append-drop (length mid) after) ∙ ap (λ (l : List ℕ). l ++ rest) (grown ∙ first) ∙ append_assoc before salt rest in
+        let drawn_is : drawn ≡ salt ++ rest = ap (λ (l : List ℕ). drop (length before) l) after_is ∙ drop-append_seam before (salt ++ rest) in
+        let all_is : after ≡ before ++ drawn = after_is ∙ ap (λ (l : List ℕ). before ++ l) (sym drawn_is) in
+        record {
+          enough = omega (arith, long, ap (λ (l : List ℕ). length l) drawn_is, length-append salt rest);
+          salt = begins ∙ is ∙ sym (ap (λ (l : List ℕ). take 16 l) drawn_is ∙ take_at salt rest 16 long);
+          pages = own_after keys.profile.reserve 16 before drawn (is_number (whole_pages keys.profile file)) (IsSealedWith keys file)
+              (subst (λ (l : List ℕ). AreOwnDraws keys file (length before + 16) l) all_is (subst (λ (k : ℕ). AreOwnDraws keys file k after) mid_long own));
+        }
 
 -- a file that is that one begins with its salt
 pub salt_is : (keys : FileKeys) (is_new : List ℕ → Type 0) (main file : List ℕ) → main ≡ file → IsSalted keys is_new file → salt_of main ≡ keys.salt

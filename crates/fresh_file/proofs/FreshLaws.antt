@@ -8,7 +8,8 @@ use Rattle.std.proofs.lemmas.List.{length-take, take-append-le, take_at}
 use Rattle.std.proofs.Math.Nat.{mul-le-mul_right}
 use Rattle.edge_model.specs.Files.{written, Torn}
 use Rattle.disk_side.specs.Torn.{MayTear}
-use Rattle.page_codec.specs.Page.{FileKeys, opened, sealed}
+use Rattle.cipher_profile.specs.Profile.{is_plain}
+use Rattle.page_codec.specs.Page.{FileKeys, magic, opened, sealed}
 use Rattle.db_format.specs.declared.header.Header.{Header}
 use Rattle.db_format.specs.Header.{header_bytes}
 use Rattle.db_format.specs.Pages.{Pages, Test, also, is_page, nothing}
@@ -207,6 +208,10 @@ two_put state fresh taken first second n is = by_first (n == 1) refl
 pub head_first : (head rest bytes magic : List ℕ) → length head ≡ 100 → bytes ≡ head ++ rest → take 16 head ≡ magic → take 16 bytes ≡ magic
 head_first head rest bytes magic sized is begins = ap (λ (l : List ℕ). take 16 l) is ∙ take-append-le 16 head rest (omega (arith, sized)) ∙ begins
 
+-- a page with a header in front begins with the magic
+header_first : (h : Header) (page : List ℕ) → take 16 (with_head (header_bytes h) page) ≡ magic
+header_first h page = refl
+
 -- own draws of fewer pages
 own_fewer : (reserve start : ℕ) (drawn : List ℕ) (put other : Test) (seals : ℕ → List ℕ → Type 0) → ((n : ℕ) → other n ≡ true → put n ≡ true)
     → OwnDraws reserve start drawn put seals → OwnDraws reserve start drawn other seals
@@ -224,7 +229,7 @@ module _ (keys : FileKeys) (header : Header) (page : ℕ → List ℕ) (head : L
     (stays : (m : ℕ) → put m ≡ true → (m ≡ 1 → ⊥) → plain_page keys m (contents mid) ≡ page m)
     (is_head : head ≡ header_bytes (sized header count))
     (all : (n : ℕ) → 2 ≤ n → n ≤ count → put n ≡ true)
-    (salt : length keys.salt ≡ 16) (room : 16 ≤ keys.profile.page_size)
+    (salt : length keys.salt ≡ 16) (room : 16 ≤ keys.profile.page_size) (plainly : is_plain keys.profile ≡ true → keys.salt ≡ magic)
     (same : after ≡ mid) (no_draw : now ≡ drawn) where
   abbrev pages : Pages
   pages = record { count = count; usable = usable; page = page; accepts = accepts }
@@ -252,7 +257,9 @@ module _ (keys : FileKeys) (header : Header) (page : ℕ → List ℕ) (head : L
   finished = record {
     file = well.paged.file;
     is = same ∙ well.paged.is;
-    salt = salt_first keys well.paged.file (well.paged.sealed 1 (also_here 1 put)) salt room;
+    salt = salt_first keys well.paged.file (well.paged.sealed 1 (also_here 1 put)) salt room
+        (λ plain. ap (λ (l : List ℕ). take 16 (plain_page keys 1 l)) (sym file_is) ∙ ap (λ (l : List ℕ). take 16 l) here
+        ∙ ap (λ (l : List ℕ). take 16 (with_head l (page 1))) is_head ∙ header_first (sized header count) (page 1) ∙ sym (plainly plain));
     size = omega (arith, (well.paged.sealed count last_put).1.whole, well.paged.short);
     sealed = λ n is. well.paged.sealed n (put_of n is);
     first = ap (λ (l : List ℕ). plain_page keys 1 l) (sym file_is) ∙ here ∙ ap (λ (l : List ℕ). with_head l (page 1)) is_head;

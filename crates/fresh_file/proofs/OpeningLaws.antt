@@ -1,19 +1,20 @@
 -- A finished file opens, with the header that was written, and has the pages that were put.
-use Rattle.std.proofs.Common.{◌≡◌, ◌≤◌, ◌*◌, ◌^◌, ◌==◌, ℕ, Bool, true, false, List, [], ◌∷◌, ◌++◌, length, drop, Option, Some, Ok, arith, rules, ap, refl, sym, subst, ◌∙◌}
+use Rattle.std.proofs.Common.{◌≡◌, ◌≤◌, ◌*◌, ◌^◌, ◌==◌, ℕ, Bool, true, false, List, [], ◌∷◌, ◌++◌, length, take, drop, Option, Some, Ok, arith, rules, ap, refl, sym, subst, ◌∙◌}
 use Rattle.std.specs.Prelude.{◌&&◌, IsTrue, nat_lt, if◌then◌else◌}
 use Rattle.std.specs.Int.{w16, to_be_bytes}
 use Rattle.std.specs.Str.{bytes_eq}
 use Rattle.std.proofs.Math.Nat.{div-eq_of_eq-mul_left, div-mul-le_self, mul-le-mul_right}
 use Rattle.std.proofs.lemmas.Bool.Decides.{nat_tests}
 use Rattle.bulk_load.specs.Headed.{IsHeaded}
-use Rattle.cipher_profile.specs.Profile.{IsListed, usable}
+use Rattle.cipher_profile.specs.Profile.{IsListed, is_plain, usable}
 use Rattle.cipher_profile.specs.declared.profile.Profile.{Profile}
 use Rattle.cipher_profile.proofs.Layouts.{IsListed-each}
 use Rattle.db_format.specs.Count.{count_of_pages, largest_database, size_counts}
 use Rattle.db_format.specs.Header.{header_bytes, header_read, stored_page_size}
 use Rattle.db_format.specs.Pages.{Pages}
 use Rattle.db_format.specs.declared.header.Header.{Header}
-use Rattle.page_codec.specs.Page.{FileKeys, accepts, bears_sign, fits, opened}
+use Rattle.page_codec.specs.Page.{FileKeys, accepts, bears_sign, fits, magic, opened}
+use Rattle.page_codec.proofs.Parts.{opened_plain_file}
 use Rattle.pager.specs.File.{first_page, page_stored, whole_pages}
 use Rattle.pager.specs.Opening.{file_header, file_opened}
 use Rattle.pager.specs.Pages.{is_number, opened_pages}
@@ -73,10 +74,10 @@ pub record IsHeaderFor (profile : Profile) (header : Header) : Type 0 where
   pub reserve : header.reserve ≡ profile.reserve
   pub counts : header.change ≡ header.valid_for
 
--- the key fits by the tag, or by the sign of a profile without tags
+-- the key fits an encrypted file by the tag, or by the sign of a profile without tags
 abbrev Fits : Header → List ℕ → Bool → Profile → Type 0
 Fits header rest accepted profile =
-    IsHeaderFor profile header → (if profile.tag_len == 0 then bears_sign (header_bytes header ++ rest) else accepted) ≡ true
+    is_plain profile ≡ false → IsHeaderFor profile header → (if profile.tag_len == 0 then bears_sign (header_bytes header ++ rest) else accepted) ≡ true
 
 signed : (header : Header) (rest : List ℕ) → header.page_size ≡ 1024 → header.reserve ≡ 16 → bears_sign (header_bytes header ++ rest) ≡ true
 unfolding sign_of
@@ -84,9 +85,15 @@ signed header rest size reserve = sign_in_front header rest ∙ ap (λ (n : ℕ)
 
 key_fits : (header : Header) (rest : List ℕ) (accepted : Bool) (profile : Profile) → IsListed profile → accepted ≡ true → Fits header rest accepted profile
 key_fits header rest accepted profile listed yes =
-    IsListed-each (Fits header rest accepted) (λ for. signed header rest for.page_size for.reserve)
-    (λ for. yes) (λ for. yes) (λ for. yes) (λ for. yes) (λ for. yes) (λ for. yes) (λ for. yes) (λ for. yes) (λ for. yes)
+    IsListed-each (Fits header rest accepted) (λ ciphered for. signed header rest for.page_size for.reserve)
+    (λ ciphered for. yes) (λ ciphered for. yes) (λ ciphered for. yes) (λ ciphered for. yes) (λ ciphered for. yes)
+    (λ ciphered for. yes) (λ ciphered for. yes) (λ ciphered for. yes) (λ ciphered for. yes)
+    (λ ciphered. cc) (λ ciphered. cc) (λ ciphered. cc) (λ ciphered. cc) (λ ciphered. cc) (λ ciphered. cc) (λ ciphered. cc) (λ ciphered. cc)
     profile listed
+
+-- a plain file by the magic, with which each header begins
+magic_in_front : (h : Header) (rest : List ℕ) → bytes_eq (take 16 (header_bytes h ++ rest)) magic ≡ true
+magic_in_front h rest = refl
 
 -- ---- the pages of a finished file
 
@@ -125,10 +132,19 @@ module _ (keys : FileKeys) (header : Header) (start : ℕ) (pages : Pages) (draw
   module _ (for : IsHeaderFor keys.profile header) (read : header_read (header_bytes (sized header pages.count)) header.page_size header.reserve ≡ Ok (sized header pages.count))
       (most : pages.count ≤ most_pages keys.profile) where
     fit : fits keys (page_stored keys file 1) ≡ true
-    fit =
-        ap (λ (l : List ℕ). if keys.profile.tag_len == 0 then bears_sign l else accepts keys 1 (page_stored keys file 1)) first
-        ∙ key_fits new_header rest (accepts keys 1 (page_stored keys file 1)) keys.profile listed (accepted 1 one_is)
-        (record { page_size = for.page_size; reserve = for.reserve; counts = for.counts })
+    fit = by_kind (is_plain keys.profile) refl
+      where
+        stored : List ℕ
+        stored = page_stored keys file 1
+
+        by_kind : (plain : Bool) → is_plain keys.profile ≡ plain
+            → (if plain then bytes_eq (take 16 stored) magic else (if keys.profile.tag_len == 0 then bears_sign (opened keys 1 stored) else accepts keys 1 stored)) ≡ true
+        by_kind true plain =
+            ap (λ (l : List ℕ). bytes_eq (take 16 l) magic) (sym (opened_plain_file keys 1 stored plain) ∙ first) ∙ magic_in_front new_header rest
+        by_kind false ciphered =
+            ap (λ (l : List ℕ). if keys.profile.tag_len == 0 then bears_sign l else accepts keys 1 stored) first
+            ∙ key_fits new_header rest (accepts keys 1 stored) keys.profile listed (accepted 1 one_is) ciphered
+            (record { page_size = for.page_size; reserve = for.reserve; counts = for.counts })
 
     is_read : file_header keys file ≡ Ok new_header
     is_read =

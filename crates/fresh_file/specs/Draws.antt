@@ -1,5 +1,6 @@
 -- The bytes that the pages of a whole new file were sealed with.
-use Rattle.std.specs.Prelude.{◌≡◌, ◌≤◌, ◌/◌, ◌&&◌, ℕ, nat_le, List, length, take}
+use Rattle.std.specs.Prelude.{◌≡◌, false, ◌≤◌, ◌/◌, ◌&&◌, ℕ, nat_le, List, length, take}
+use Rattle.cipher_profile.specs.Profile.{is_plain}
 use Rattle.db_format.specs.Pages.{Test}
 use Rattle.page_codec.specs.Page.{FileKeys, salt_of}
 use Rattle.transaction.specs.Draws.{OwnDraws}
@@ -14,7 +15,11 @@ abbrev pub AreOwnDraws : FileKeys → List ℕ → ℕ → List ℕ → Type 0
 AreOwnDraws keys file from drawn = OwnDraws keys.profile.reserve from drawn (is_page_of keys file) (IsSealedWith keys file)
 
 -- The salt is the first 16 bytes that were drawn, and each page was sealed with bytes of its own of those after them.
-pub record HasOwnDraws (keys : FileKeys) (file drawn : List ℕ) : Type 0 where
+pub record HasSaltAndDraws (keys : FileKeys) (file drawn : List ℕ) : Type 0 where
   pub enough : 16 ≤ length drawn
   pub salt : salt_of file ≡ take 16 drawn
   pub pages : AreOwnDraws keys file 16 drawn
+
+-- so it is of an encrypted file; a plain one takes no drawn bytes
+abbrev pub HasOwnDraws : FileKeys → List ℕ → List ℕ → Type 0
+HasOwnDraws keys file drawn = is_plain keys.profile ≡ false → HasSaltAndDraws keys file drawn

@@ -52,7 +52,7 @@ pub(crate) fn seal_page_to<T: Side>(
     write_to(side, (n as u64 - 1) * size, stored)
 }
 
-/// Draws the bytes of one page.
+/// Draws the bytes of one page. Where a page takes none, nothing is asked.
 pub(crate) fn draw_for<T: Side>(side: &mut T, draw: &mut [u8]) -> Result<(), CommitFault>
     ensures own { OnOk result (IsTrue T.draws_tell → T.drawn side.new ≡ T.drawn side.old ++ draw.new) }
     ensures same { IsTrue T.tells → T.fresh side.new ≡ T.fresh side.old }
@@ -62,6 +62,9 @@ pub(crate) fn draw_for<T: Side>(side: &mut T, draw: &mut [u8]) -> Result<(), Com
     ensures fault { OnErr result (Rose (T.draw_faults side.old) (T.draw_faults side.new)) }
     ensures error { OnErr result (result ≡ Err CommitFault.EntropyFault) }
 {
+    if draw.is_empty() {
+        return Ok(());
+    }
     match side.draw(draw) {
         Ok(()) => Ok(()),
         Err(_) => Err(CommitFault::EntropyFault),

@@ -56,7 +56,7 @@ pub struct FreshState {
     ghost counted: { 1 ≤ taken + 1 },
     ghost within: { taken + 1 ≤ limit },
     ghost put_taken: { (n : ℕ) → marked put n ≡ true → n ≤ taken + 1 },
-    ghost limit_small: { limit ≤ 2 ^ 20 },
+    ghost limit_small: { limit ≤ 2 ^ 21 },
 }
 
 impl FreshState {
@@ -288,7 +288,7 @@ fn most_pages(profile: &Profile) -> u32
     requires { IsListed profile.now }
     ensures value { result ≡ 2 ^ 30 / profile.now.page_size }
     ensures some { 1 ≤ result }
-    ensures small { result ≤ 2 ^ 20 }
+    ensures small { result ≤ 2 ^ 21 }
 {
     let _usable = profile.usable();
     LARGEST_FILE / profile.page_size

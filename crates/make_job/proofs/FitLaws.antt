@@ -11,11 +11,19 @@ use Rattle.fresh_file.specs.State.{most_pages}
 record IsRoomy (profile : Profile) : Type 0 where
   pub page : 512 ≤ usable profile
   pub pages : 2 ^ 14 ≤ most_pages profile
-  pub limit : most_pages profile ≤ 2 ^ 20
+  pub limit : most_pages profile ≤ 2 ^ 21
 
 roomy : (profile : Profile) → IsListed profile → IsRoomy profile
 roomy =
     IsListed-each IsRoomy
+    (record { page = omega arith; pages = omega arith; limit = omega arith })
+    (record { page = omega arith; pages = omega arith; limit = omega arith })
+    (record { page = omega arith; pages = omega arith; limit = omega arith })
+    (record { page = omega arith; pages = omega arith; limit = omega arith })
+    (record { page = omega arith; pages = omega arith; limit = omega arith })
+    (record { page = omega arith; pages = omega arith; limit = omega arith })
+    (record { page = omega arith; pages = omega arith; limit = omega arith })
+    (record { page = omega arith; pages = omega arith; limit = omega arith })
     (record { page = omega arith; pages = omega arith; limit = omega arith })
     (record { page = omega arith; pages = omega arith; limit = omega arith })
     (record { page = omega arith; pages = omega arith; limit = omega arith })

@@ -1,12 +1,12 @@
 // A database is made where no file is.
-ghost use Rattle.std.specs.Prelude.{◌≡◌, ◌⊎◌, ◌≤◌, ◌<◌, ◌++◌, ℕ, true, is_some, None, Some, Err, IfOk, IfErr, OnOk, OnErr, IsTrue, drop, length};
-ghost use Rattle.cipher_profile.specs.Profile.{IsListed, usable};
+ghost use Rattle.std.specs.Prelude.{◌≡◌, ◌⊎◌, ◌≤◌, ◌<◌, ◌++◌, ℕ, true, false, is_some, None, Some, Err, IfOk, IfErr, OnOk, OnErr, IsTrue, drop, length};
+ghost use Rattle.cipher_profile.specs.Profile.{IsListed, is_plain, usable};
 ghost use Rattle.edge_model.specs.Causes.{Rose};
 ghost use Rattle.edge_model.specs.Files.{file_at};
 ghost use Rattle.edge_model.specs.OnlyRead.{OnlyRead};
 ghost use Rattle.db_maker.specs.Pages.{made_pages};
 ghost use Rattle.db_maker.specs.Rows.{total_len};
-ghost use Rattle.page_codec.specs.Page.{keys_of};
+ghost use Rattle.page_codec.specs.Page.{keys_of, magic};
 ghost use Rattle.pager.specs.File.{main_of};
 ghost use Rattle.fresh_file.specs.Draws.{HasOwnDraws};
 ghost use Rattle.make_job.specs.Made.{IsMade};
@@ -19,11 +19,11 @@ use crate::publishing::publish_rows;
 use cipher_profile::{Profile, Secret, derive};
 use db_maker::Made;
 use edge_model::{Disk, Entropy, Role};
-use page_codec::Codec;
+use page_codec::{Codec, MAGIC};
 use std::alloc::Global;
 
 /// Makes a database of `rows` rows, where there is neither a Main nor a Journal. It is written beside, whole and synced, before it takes
-/// Main's place. The salt is drawn first, then the bytes of each page.
+/// Main's place. The salt is drawn first, then the bytes of each page; a plain file takes none.
 pub fn make<D: Disk, E: Entropy>(
     alloc: Global,
     profile: Profile,
@@ -58,7 +58,7 @@ pub fn make<D: Disk, E: Entropy>(
     ensures entropy_later { E.faults entropy.old ≤ E.faults entropy.new }
 {
     look_for_files(disk)?;
-    let salt = draw_salt(entropy)?;
+    let salt = new_salt(&profile, entropy)?;
     let codec = Codec::new(profile, derive(secret, &profile, &salt), salt);
     let made = publish_rows(alloc, codec, rows, disk, entropy)?;
     Ok(made)
@@ -95,13 +95,17 @@ fn has_file<D: Disk>(disk: &mut D, role: Role) -> Result<bool, MakeError>
     }
 }
 
-// The 16 bytes of a new salt.
-fn draw_salt<E: Entropy>(entropy: &mut E) -> Result<[u8; 16], MakeError>
-    ensures drawn { IfOk result (λ salt. IsTrue E.tells → E.drawn entropy.new ≡ E.drawn entropy.old ++ salt) }
+// The 16 bytes of a new salt, which are drawn; those of a plain file are the magic.
+fn new_salt<E: Entropy>(profile: &Profile, entropy: &mut E) -> Result<[u8; 16], MakeError>
+    ensures drawn { IfOk result (λ salt. is_plain profile.now ≡ false → IsTrue E.tells → E.drawn entropy.new ≡ E.drawn entropy.old ++ salt) }
+    ensures plain { IfOk result (λ salt. is_plain profile.now ≡ true → salt ≡ magic) }
     ensures error { IfErr result (λ e. e ≡ MakeError.EntropyFault) }
     ensures fault { OnErr result (Rose (E.faults entropy.old) (E.faults entropy.new)) }
     ensures later { E.faults entropy.old ≤ E.faults entropy.new }
 {
+    if profile.is_plain() {
+        return Ok(MAGIC);
+    }
     let mut salt = [0u8; 16];
     match entropy.fill(&mut salt) {
         Ok(()) => Ok(salt),

@@ -3,7 +3,7 @@ ghost use Rattle.std.specs.Prelude.{◌≡◌, ◌≤◌, ◌++◌, ◌*◌, ℕ
 ghost use Rattle.std.specs.List.{All};
 ghost use Rattle.btree_model.specs.Finding.{entries};
 ghost use Rattle.btree_model.specs.Parts.{is_database};
-ghost use Rattle.cipher_profile.specs.Profile.{IsListed};
+ghost use Rattle.cipher_profile.specs.Profile.{IsListed, is_plain};
 ghost use Rattle.db_format.specs.Header.{IsPageSize, header_fields};
 ghost use Rattle.db_format.specs.Source.{no_pins};
 ghost use Rattle.disk_side.specs.OnlyFresh.{IsFreshSynced};
@@ -14,7 +14,7 @@ ghost use Rattle.fresh_file.specs.Draws.{AreOwnDraws, HasOwnDraws};
 ghost use Rattle.fresh_file.specs.State.{most_pages};
 ghost use Rattle.migrate_job.specs.Migrated.{IsMigrated, IsMigratedUnder, migrated_header};
 ghost use Rattle.migrate_job.specs.Stops.{IsShown, is_early};
-ghost use Rattle.page_codec.specs.Page.{keys_of};
+ghost use Rattle.page_codec.specs.Page.{keys_of, magic};
 ghost use Rattle.pager.specs.Beside.{Beside};
 ghost use Rattle.pager.specs.File.{main_of};
 ghost use Rattle.pager.specs.Held.{pins_of};
@@ -29,7 +29,7 @@ use db_format::Header;
 use disk_side::Side;
 use edge_model::{Disk, Entropy};
 use fresh_file::{CommitFault, FreshState, StartError};
-use page_codec::Codec;
+use page_codec::{Codec, MAGIC};
 use pager::Pager;
 use schema_map::Schema;
 use std::alloc::Global;
@@ -67,7 +67,7 @@ pub(crate) fn write_beside<'d, D: Disk, E: Entropy>(
     ensures disk_later { D.faults pager.old.disk.now ≤ D.faults pager.new.disk.now }
     ensures entropy_later { E.faults pager.old.entropy.now ≤ E.faults pager.new.entropy.now }
 {
-    let salt = match draw_salt(pager) {
+    let salt = match new_salt(&profile, pager) {
         Ok(salt) => salt,
         Err(error) => return Err(error),
     };
@@ -124,9 +124,13 @@ fn write_database<'d, D: Disk, E: Entropy>(
     }
 }
 
-// The 16 bytes of a new salt.
-fn draw_salt<'d, D: Disk, E: Entropy>(pager: &mut Pager<'d, D, E>) -> Result<[u8; 16], MigrateError>
-    ensures drawn { IfOk result (λ salt. IsTrue E.tells → E.drawn pager.new.entropy.now ≡ E.drawn pager.old.entropy.now ++ salt) }
+// The 16 bytes of a new salt, which are drawn; those of a plain file are the magic.
+fn new_salt<'d, D: Disk, E: Entropy>(
+    profile: &Profile,
+    pager: &mut Pager<'d, D, E>,
+) -> Result<[u8; 16], MigrateError>
+    ensures drawn { IfOk result (λ salt. is_plain profile.now ≡ false → IsTrue E.tells → E.drawn pager.new.entropy.now ≡ E.drawn pager.old.entropy.now ++ salt) }
+    ensures plain { IfOk result (λ salt. is_plain profile.now ≡ true → salt ≡ magic) }
     ensures error { IfErr result (λ e. e ≡ MigrateError.EntropyFault) }
     ensures fault { OnErr result (Rose (E.faults pager.old.entropy.now) (E.faults pager.new.entropy.now)) }
     ensures beside { Beside D.tells E.tells D.reads D.images D.moment D.since E.drawn pager.old.disk pager.new.disk pager.old.entropy pager.new.entropy }
@@ -134,6 +138,9 @@ fn draw_salt<'d, D: Disk, E: Entropy>(pager: &mut Pager<'d, D, E>) -> Result<[u8
     ensures disk_faults { D.faults pager.new.disk.now ≡ D.faults pager.old.disk.now }
     ensures entropy_later { E.faults pager.old.entropy.now ≤ E.faults pager.new.entropy.now }
 {
+    if profile.is_plain() {
+        return Ok(MAGIC);
+    }
     let mut salt = [0u8; 16];
     match pager.draw(&mut salt) {
         Ok(()) => Ok(salt),

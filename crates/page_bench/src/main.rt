@@ -10,7 +10,7 @@ ghost use Rattle.cipher_profile.specs.Profile.{IsListed, usable};
 
 use cipher_profile::{Profile, Secret, derive, profile_of, read_key};
 use edge_model::MemSource;
-use page_codec::Codec;
+use page_codec::{Codec, MAGIC};
 use sha2::{Digest, Sha512};
 use std::{env, io};
 
@@ -102,7 +102,7 @@ fn of_profile(profile: Profile, secret: &Secret, word: &str, times: u64) -> u8
     if word == "derive" {
         return derive_often(&profile, secret, times);
     }
-    let salt = [0u8; 16];
+    let salt = if profile.is_plain() { MAGIC } else { [0u8; 16] };
     let codec = Codec::new(
         profile,
         derive(&Secret::Raw([1; 32]), &profile, &salt),

@@ -10,7 +10,7 @@ use Rattle.cbc_mode.specs.Cbc.{IsRoundTrip, cbc_decrypted, cbc_encrypted}
 use Rattle.cbc_mode.specs.Records.{encrypted_record, record_at}
 use Rattle.cipher_profile.specs.declared.profile.Profile.{Profile}
 use Rattle.cipher_profile.specs.Profile.{IsLaidOut, usable}
-use Rattle.page_codec.specs.Page.{FileKeys, cipher_start, magic, opened, stored_iv, untagged}
+use Rattle.page_codec.specs.Page.{FileKeys, cipher_start, deciphered, magic, stored_iv, untagged}
 use Rattle.page_codec.specs.Pages.{AreTagged, IsTagged, page_at}
 use Rattle.page_codec.proofs.Parts.{part_after, part_before, part_between}
 use borrow.Rule.Slice.PartMut.{put_mid}
@@ -165,10 +165,10 @@ encrypted_page file text n page e le =
     ap (λ (m : ℕ). cbc_encrypted key (take 16 (drop m page)) (take m page) ++ drop m page) e
     ∙ ap (λ (s : ℕ). take s file.salt ++ cbc_encrypted key (take 16 (drop u page)) (drop s (take u page)) ++ drop u page) (sym (start_later n le))
 
--- a page without its tag opens to its content
+-- a page without its tag is decrypted to its content
 pub opened_untagged : (file : FileKeys) (n : ℕ) (plain draw : List ℕ) → 2 ≤ n → length plain ≡ usable file.profile
-    → IsRoundTrip file.keys.enc (take 16 draw) plain → opened file n (untagged file n plain draw) ≡ plain
-unfolding opened untagged
+    → IsRoundTrip file.keys.enc (take 16 draw) plain → deciphered file n (untagged file n plain draw) ≡ plain
+unfolding deciphered untagged
 opened_untagged file n plain draw le size back =
     let key : List ℕ = file.keys.enc in
     let u : ℕ = usable file.profile in
@@ -178,7 +178,7 @@ opened_untagged file n plain draw le size back =
     let long : length text ≡ u = back.encrypted_length ∙ size in
     let iv : stored_iv file.profile page ≡ take 16 draw = part_after text draw u (u + 16) 16 long refl in
     let body : slice_range page 0 u ≡ text = part_between [] text draw 0 u refl (omega (arith, long)) in
-    ap (opened file n) (ap (λ (s : ℕ). take s file.salt ++ cbc_encrypted key (take 16 draw) (drop s plain) ++ draw) none)
+    ap (deciphered file n) (ap (λ (s : ℕ). take s file.salt ++ cbc_encrypted key (take 16 draw) (drop s plain) ++ draw) none)
     ∙ ap (λ (s : ℕ). take s magic ++ cbc_decrypted key (stored_iv file.profile page) (slice_range page s u)) none
     ∙ (λ k. cbc_decrypted key (iv k) (body k))
     ∙ back.decrypts_back

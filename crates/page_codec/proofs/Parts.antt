@@ -1,12 +1,12 @@
 -- Parts of a list that is joined of others, or that has others written into it.
 use Rattle.std.proofs.Common.{◌≡◌, ◌≤◌, ◌+◌, ◌-◌, ℕ, List, ◌++◌, length, take, drop, ap, sym, ◌∙◌, arith}
-use Rattle.std.specs.Prelude.{slice_range}
-use Rattle.std.proofs.lemmas.List.{drop_at, length-append, take-append-drop, take_at}
+use Rattle.std.specs.Prelude.{Bool, true, false, slice_range, if◌then◌else◌}
+use Rattle.std.proofs.lemmas.List.{drop_at, length-append, take-append-drop, take_all, take_at}
 use Rattle.std.proofs.lemmas.Grind.{common_steps}
 use Rattle.std.proofs.lemmas.Slice.{between_is, take-put_mid_below}
 use Rattle.cbc_mode.specs.Cbc.{cbc_decrypted}
-use Rattle.cipher_profile.specs.Profile.{usable}
-use Rattle.page_codec.specs.Page.{FileKeys, cipher_start, magic, opened, stored_iv}
+use Rattle.cipher_profile.specs.Profile.{is_plain, usable}
+use Rattle.page_codec.specs.Page.{FileKeys, cipher_start, deciphered, magic, opened, stored_iv}
 use borrow.Rule.Slice.PartMut.{put_mid}
 
 -- what lies between a head and a rest
@@ -38,12 +38,26 @@ pub magic_first : (n : ℕ) (plain : List ℕ) → (n ≡ 1 → take 16 plain �
     → take (cipher_start n) magic ++ drop (cipher_start n) plain ≡ plain
 magic_first n plain begins = grind (arith, common_steps, take-append-drop)
 
--- what a page opens to, by its IV and its content
+-- what a page is decrypted to, by its IV and its content
 pub opened_of : (file : FileKeys) (n : ℕ) (stored iv content : List ℕ) → iv ≡ stored_iv file.profile stored → content ≡ take (usable file.profile) stored
-    → take (cipher_start n) magic ++ cbc_decrypted file.keys.enc iv (drop (cipher_start n) content) ≡ opened file n stored
-unfolding opened
+    → take (cipher_start n) magic ++ cbc_decrypted file.keys.enc iv (drop (cipher_start n) content) ≡ deciphered file n stored
+unfolding deciphered
 opened_of file n stored iv content first body =
     let start = cipher_start n in
     ap (λ (block : List ℕ). take start magic ++ cbc_decrypted file.keys.enc block (drop start content)) first
     ∙ ap (λ (text : List ℕ). take start magic ++ cbc_decrypted file.keys.enc (stored_iv file.profile stored) text)
     (ap (drop start) body ∙ sym (between_is stored start (usable file.profile)))
+
+-- a page of an encrypted file opens to what it is decrypted to
+pub opened_ciphered : (file : FileKeys) (n : ℕ) (page : List ℕ) → is_plain file.profile ≡ false → opened file n page ≡ deciphered file n page
+unfolding opened
+opened_ciphered file n page ciphered = ap (λ (b : Bool). if b then page else deciphered file n page) ciphered
+
+-- a stored page of a plain file opens to itself, and all of it is content
+pub opened_plain_file : (file : FileKeys) (n : ℕ) (stored : List ℕ) → is_plain file.profile ≡ true → opened file n stored ≡ stored
+unfolding opened
+opened_plain_file file n stored plain = ap (λ (b : Bool). if b then stored else deciphered file n stored) plain
+
+pub opened_whole : (file : FileKeys) (n : ℕ) (stored : List ℕ) → is_plain file.profile ≡ true → length stored ≡ usable file.profile
+    → take (usable file.profile) stored ≡ opened file n stored
+opened_whole file n stored plain long = take_all (usable file.profile) stored (omega arith) ∙ sym (opened_plain_file file n stored plain)

@@ -1,12 +1,12 @@
 -- Every page that opens is a plain page.
-use Rattle.std.proofs.Common.{◌≡◌, ◌≤◌, ◌⊎◌, inl, inr, ◌+◌, ◌-◌, ◌%◌, ℕ, List, ◌++◌, [], ◌∷◌, zero, suc, length, take, drop, arith, ap, sym, ◌∙◌}
-use Rattle.std.specs.Prelude.{slice_range}
+use Rattle.std.proofs.Common.{◌≡◌, ◌≤◌, ◌⊎◌, inl, inr, ◌+◌, ◌-◌, ◌%◌, ℕ, List, ◌++◌, [], ◌∷◌, zero, suc, length, take, drop, refl, arith, ap, sym, ◌∙◌}
+use Rattle.std.specs.Prelude.{Bool, true, false, slice_range, if◌then◌else◌}
 use Rattle.std.proofs.lemmas.List.{length-append, length-drop, length-take-le, take_at}
 use Rattle.std.proofs.lemmas.Grind.{common_steps}
 use Rattle.aes_block.specs.Aes.{AreBytes, IsBlock, IsKey}
 use Rattle.cbc_mode.specs.Cbc.{IsRoundTrip, IsText, cbc_decrypted}
-use Rattle.cipher_profile.specs.Profile.{IsLaidOut, usable}
-use Rattle.page_codec.specs.Page.{FileKeys, IsPlainPage, ciphertext, cipher_start, magic, opened, stored_iv}
+use Rattle.cipher_profile.specs.Profile.{IsLaidOut, is_plain, usable}
+use Rattle.page_codec.specs.Page.{FileKeys, IsPlainPage, ciphertext, cipher_start, deciphered, magic, opened, stored_iv}
 
 -- ---- bytes
 
@@ -42,20 +42,21 @@ length-range a i j within =
 start_of : (n : ℕ) → (cipher_start n ≡ 0) ⊎ (cipher_start n ≡ 16)
 start_of n = grind (arith, common_steps)
 
--- every page that opens, where decryption takes text to text
-pub opened_plain : (file : FileKeys) (n : ℕ) (stored : List ℕ) → IsLaidOut file.profile → IsKey file.keys.enc
+-- every page of an encrypted file, where decryption takes text to text
+deciphered_plain : (file : FileKeys) (n : ℕ) (stored : List ℕ) → IsLaidOut file.profile → is_plain file.profile ≡ false → IsKey file.keys.enc
     → length stored ≡ file.profile.page_size → AreBytes stored
     → ((key iv text : List ℕ) → IsKey key → IsBlock iv → IsText text → IsRoundTrip key iv text)
-    → IsPlainPage file.profile n (opened file n stored)
-unfolding opened
-opened_plain file n stored laid_out key size bytes law =
+    → IsPlainPage file.profile n (deciphered file n stored)
+unfolding deciphered
+deciphered_plain file n stored laid_out ciphered key size bytes law =
     let u : ℕ = usable file.profile in
     let start : ℕ = cipher_start n in
     let iv : List ℕ = stored_iv file.profile stored in
     let text : List ℕ = ciphertext file.profile n stored in
+    let room : u + 16 ≤ length stored = omega (arith, laid_out.room ciphered, size) in
     let iv_block : IsBlock iv =
-    (omega (arith, length-range stored u (u + 16) (omega (arith, laid_out, size))), AreBytes-range stored u (u + 16) bytes) in
-    let text_long : length text ≡ u - start = length-range stored start u (omega (arith, laid_out, size)) in
+    (omega (arith, length-range stored u (u + 16) room), AreBytes-range stored u (u + 16) bytes) in
+    let text_long : length text ≡ u - start = length-range stored start u (omega (arith, room)) in
     let whole : length text % 16 ≡ 0 =
     elim (start_of n) [ inl e ↦ omega (arith, text_long, laid_out, e) | inr e ↦ omega (arith, text_long, laid_out, e) ] in
     let trip = law file.keys.enc iv text key iv_block (record { whole = whole; bytes = AreBytes-range stored start u bytes }) in
@@ -65,9 +66,25 @@ opened_plain file n stored laid_out key size bytes law =
     record {
       size = omega (arith, length-append head (cbc_decrypted file.keys.enc iv text), head_long, text_long, trip.decrypted_length, laid_out, within);
       bytes = AreBytes-append head (cbc_decrypted file.keys.enc iv text) (AreBytes-take start magic AreBytes-magic) trip.decrypted_bytes;
-      begins = λ first.
+      begins = λ first encrypted.
           let from : start ≡ 16 = ap cipher_start first in
           ap (λ (k : ℕ). take k (head ++ cbc_decrypted file.keys.enc iv text)) (sym from)
           ∙ take_at head (cbc_decrypted file.keys.enc iv text) start head_long
           ∙ ap (λ (k : ℕ). take k magic) from;
     }
+
+-- every page that opens: a page of a plain file is all content
+pub opened_plain : (file : FileKeys) (n : ℕ) (stored : List ℕ) → IsLaidOut file.profile → IsKey file.keys.enc
+    → length stored ≡ file.profile.page_size → AreBytes stored
+    → ((key iv text : List ℕ) → IsKey key → IsBlock iv → IsText text → IsRoundTrip key iv text)
+    → IsPlainPage file.profile n (opened file n stored)
+unfolding opened
+opened_plain file n stored laid_out key size bytes law = either (is_plain file.profile) refl
+  where
+    either : (plain : Bool) → is_plain file.profile ≡ plain → IsPlainPage file.profile n (if plain then stored else deciphered file n stored)
+    either true is = record {
+      size = omega (arith, size, laid_out.unreserved is);
+      bytes = bytes;
+      begins = λ first encrypted. let both : true ≡ false = sym is ∙ encrypted in cc;
+    }
+    either false is = deciphered_plain file n stored laid_out is key size bytes law

@@ -1,19 +1,17 @@
--- The tags of pages that stand one after another, and pages that are cut out of others.
-use Rattle.std.proofs.Common.{◌≡◌, ◌≤◌, ◌<◌, ◌+◌, ◌-◌, ◌*◌, ℕ, zero, suc, List, ◌++◌, length, take, drop, ap, sym, ◌∙◌, arith, mul_comm, inl, inr, length-set}
+-- The tags of pages that stand one after another, pages that are cut out of others, and answers for them.
+use Rattle.std.proofs.Common.{◌≡◌, ◌≤◌, ◌<◌, ◌+◌, ◌-◌, ◌*◌, ℕ, zero, suc, List, ◌++◌, length, take, drop, ap, sym, ◌∙◌, arith, refl, mul_comm, inl, inr, length-set}
 use Rattle.std.proofs.Math.Nat.{mul-le-mul_left, mul-suc}
-use Rattle.std.proofs.lemmas.List.{drop-drop, drop-take, get_or-set_other, get_or-set_same, take-take}
+use Rattle.std.proofs.lemmas.List.{drop-drop, get_or-set_other, get_or-set_same, take-take}
 use Rattle.std.proofs.lemmas.Bool.{cases_lt}
 use Rattle.std.specs.Prelude.{Bool, false, slice_index_or, slice_set}
 use Rattle.std.specs.Int.{w32, to_le_bytes}
-use Rattle.sha2.specs.Sha512.{sha512}
-use Rattle.hmac_core.specs.Hmac.{hmac, hmac_of_block, key_block}
+use Rattle.hmac_core.specs.Hmac.{hmac_of_block, key_block}
 use Rattle.hash_lanes.specs.Messages.{message, piece}
-use Rattle.cipher_profile.specs.Hashes.{block_len, digest}
-use Rattle.cipher_profile.specs.declared.profile.HashKind.TheVariants.{Sha512}
+use Rattle.cipher_profile.specs.Hashes.{block_len, digest, digest_len}
 use Rattle.cipher_profile.specs.Profile.{usable}
 use Rattle.page_codec.specs.Page.{FileKeys, accepts, cipher_start, covered, tag}
-use Rattle.page_codec.specs.Pages.{page_at}
-use Rattle.page_codec.proofs.PageFacts.{ends_by, start_later}
+use Rattle.page_codec.specs.Pages.{AreAnswered, page_at}
+use Rattle.page_codec.proofs.PageFacts.{start_later}
 
 -- pages that begin after i and then j others
 pub pages_sum : (size i j : ℕ) → size * (i + j) ≡ size * i + size * j
@@ -29,27 +27,18 @@ pub page_behind : (size i j : ℕ) (pages : List ℕ) → page_at size (drop (si
 page_behind size i j pages =
     ap (take size) (drop-drop (size * j) (size * i) pages ∙ ap (λ (k : ℕ). drop k pages) (sym (pages_sum size i j)))
 
--- page j of pages that are cut out of others from page i on
-pub page_of_part : (size i j m : ℕ) (pages part : List ℕ) → part ≡ take m (drop (size * i) pages) → size * j + size ≤ m
-    → page_at size part j ≡ page_at size pages (i + j)
-page_of_part size i j m pages part is within =
-    let rest : ℕ = m - size * j in
-    let split : size * j + rest ≡ m = omega arith in
-    let from : List ℕ = drop (size * i) pages in
-    ap (λ (l : List ℕ). take size (drop (size * j) l)) (is ∙ ap (λ (k : ℕ). take k from) (sym split))
-    ∙ ap (take size) (drop-take (size * j) rest from)
-    ∙ take-take size rest (drop (size * j) from) (omega arith)
-    ∙ page_behind size i j pages
-
 -- the HMAC of a piece of pages, and of a number, is a page's tag
-pub side_tag : (file : FileKeys) (pages ends mac : List ℕ) (n i : ℕ) → file.profile.hash ≡ Sha512 → 2 ≤ n
-    → usable file.profile + 16 ≤ file.profile.page_size → piece ends 4 4 i ≡ to_le_bytes w32 n
-    → mac ≡ hmac_of_block sha512 (key_block sha512 128 file.keys.mac)
+pub side_tag : (file : FileKeys) (pages ends mac : List ℕ) (n i : ℕ) → 2 ≤ n → usable file.profile + 16 ≤ file.profile.page_size
+    → file.profile.tag_len ≤ digest_len file.profile.hash → piece ends 4 4 i ≡ to_le_bytes w32 n
+    → take (digest_len file.profile.hash) mac
+    ≡ hmac_of_block (digest file.profile.hash) (key_block (digest file.profile.hash) (block_len file.profile.hash) file.keys.mac)
     (message pages file.profile.page_size (usable file.profile + 16) ends 4 i)
     → take file.profile.tag_len mac ≡ tag file n (page_at file.profile.page_size pages i)
-side_tag file pages ends mac n i hash later within number is =
+side_tag file pages ends mac n i later within short number is =
     let size : ℕ = file.profile.page_size in
     let at : ℕ = usable file.profile + 16 in
+    let len : ℕ = file.profile.tag_len in
+    let hash : List ℕ → List ℕ = digest file.profile.hash in
     let page : List ℕ = page_at size pages i in
     let start : cipher_start n ≡ 0 = start_later n later in
     let whole : at ≡ at - 0 = omega arith in
@@ -58,83 +47,61 @@ side_tag file pages ends mac n i hash later within number is =
     ∙ sym (take-take at size (drop (size * i) pages) within)
     ∙ ap (λ (k : ℕ). take k page) whole
     ∙ ap (λ (s : ℕ). take (at - s) (drop s page)) (sym start) in
-    ap (take file.profile.tag_len) (is ∙ (λ t. hmac_of_block sha512 (key_block sha512 128 file.keys.mac) (body t ++ number t)))
-    ∙ (λ t. take file.profile.tag_len (hmac (digest (sym hash t)) (block_len (sym hash t)) file.keys.mac
-    (covered file.profile n page ++ to_le_bytes w32 n)))
+    sym (take-take len (digest_len file.profile.hash) mac short)
+    ∙ ap (take len) is
+    ∙ (λ t. take len (hmac_of_block hash (key_block hash (block_len file.profile.hash) file.keys.mac) (body t ++ number t)))
 
 -- a page that is cut out
 pub cut_page : (pages : List ℕ) (size i from long : ℕ) → from ≡ size * i → long ≡ size → take long (drop from pages) ≡ page_at size pages i
 cut_page pages size i from long place whole = λ t. take (whole t) (drop (place t) pages)
 
--- one of four HMACs, that is cut out
+-- one of several HMACs, that is cut out
 pub cut_mac : (tags : List ℕ) (j : ℕ) → take (64 * j + 64 - 64 * j) (drop (64 * j) tags) ≡ piece tags 64 64 j
 cut_mac tags j =
     let long : 64 * j + 64 - 64 * j ≡ 64 = omega arith in
     let place : 64 * j ≡ j * 64 = omega arith in
     λ t. take (long t) (drop (place t) tags)
 
--- four numbers, one after another
-pub number_at : (value : ℕ → ℕ) (numbers : List ℕ)
-    → numbers ≡ to_le_bytes w32 (value 0) ++ (to_le_bytes w32 (value 1) ++ (to_le_bytes w32 (value 2) ++ to_le_bytes w32 (value 3)))
-    → (i : ℕ) → i < 4 → piece numbers 4 4 i ≡ to_le_bytes w32 (value i)
-number_at value numbers is zero lt = ap (λ (l : List ℕ). take 4 l) is
-number_at value numbers is (suc zero) lt = ap (λ (l : List ℕ). take 4 (drop 4 l)) is
-number_at value numbers is (suc (suc zero)) lt = ap (λ (l : List ℕ). take 4 (drop 8 l)) is
-number_at value numbers is (suc (suc (suc zero))) lt = ap (λ (l : List ℕ). take 4 (drop 12 l)) is
-number_at value numbers is (suc (suc (suc (suc i)))) lt = absurd (omega arith)
-
--- what holds of each of four
-pub four_cases : (P : ℕ → Type 0) → P 0 → P 1 → P 2 → P 3 → (i : ℕ) → i < 4 → P i
-four_cases P p0 p1 p2 p3 zero lt = p0
-four_cases P p0 p1 p2 p3 (suc zero) lt = p1
-four_cases P p0 p1 p2 p3 (suc (suc zero)) lt = p2
-four_cases P p0 p1 p2 p3 (suc (suc (suc zero))) lt = p3
-four_cases P p0 p1 p2 p3 (suc (suc (suc (suc i)))) lt = absurd (omega arith)
+-- so many pages from page `at` on end within all of them
+pub batch_within : (size at k count : ℕ) → at + k ≤ count → size * at + size * k ≤ size * count
+batch_within size at k count fits = omega (arith, pages_sum size at k, mul-le-mul_left size fits)
 
 -- ---- answers, one for each page
 
-pub one_more : (held : List Bool) (value : ℕ → Bool) (n : ℕ) (x : Bool) → n < length held
-    → ((i : ℕ) → i < n → slice_index_or held i false ≡ value i) → x ≡ value n
-    → (i : ℕ) → i < n + 1 → slice_index_or (slice_set held n x) i false ≡ value i
-one_more held value n x within done is i lt = elim (cases_lt i n) as (λ _. slice_index_or (slice_set held n x) i false ≡ value i) [
-  | inl less ↦ get_or-set_other held n i x false (omega arith) ∙ done i less
-  | inr last ↦
-      let e : n ≡ i = omega arith in
-      rw (← e) (get_or-set_same held n x false within ∙ is)
-]
+pub answered_none : (file : FileKeys) (first : ℕ) (pages : List ℕ) (at : ℕ) (held : List Bool) → AreAnswered file first pages at at held held
+answered_none file first pages at held = record {
+  length_kept = refl;
+  done = λ k from to. absurd (omega arith);
+  before = λ k lt. refl;
+}
 
-pub four_more : (held : List Bool) (value : ℕ → Bool) (n : ℕ) (a b d e : Bool) → n + 4 ≤ length held
-    → ((i : ℕ) → i < n → slice_index_or held i false ≡ value i)
-    → a ≡ value n → b ≡ value (n + 1) → d ≡ value (n + 2) → e ≡ value (n + 3)
-    → (i : ℕ) → i < n + 4
-    → slice_index_or (slice_set (slice_set (slice_set (slice_set held n a) (n + 1) b) (n + 2) d) (n + 3) e) i false ≡ value i
-four_more held value n a b d e within done ea eb ed ee i lt =
-    let one = slice_set held n a in
-    let two = slice_set one (n + 1) b in
-    let three = slice_set two (n + 2) d in
-    let long1 : length one ≡ length held = length-set held n a in
-    let long2 : length two ≡ length held = length-set one (n + 1) b ∙ long1 in
-    let long3 : length three ≡ length held = length-set two (n + 2) d ∙ long2 in
-    let done1 = one_more held value n a (omega arith) done ea in
-    let done2 = one_more one value (n + 1) b (omega (arith, long1)) done1 eb in
-    let done3 = one_more two value (n + 2) d (omega (arith, long2)) (λ k less. done2 k (omega arith)) ed in
-    one_more three value (n + 3) e (omega (arith, long3)) (λ k less. done3 k (omega arith)) ee i (omega arith)
+-- one answer more
+pub answered_more : (file : FileKeys) (first : ℕ) (pages : List ℕ) (from i : ℕ) (old held : List Bool) (x : Bool) → from ≤ i → i < length old
+    → AreAnswered file first pages from i old held → x ≡ accepts file (first + i) (page_at file.profile.page_size pages i)
+    → AreAnswered file first pages from (i + 1) old (slice_set held i x)
+answered_more file first pages from i old held x after less h is =
+    let value : ℕ → Bool = λ k. accepts file (first + k) (page_at file.profile.page_size pages k) in
+    record {
+      length_kept = length-set held i x ∙ h.length_kept;
+      done = λ k begins ends. elim (cases_lt k i) as (λ _. slice_index_or (slice_set held i x) k false ≡ value k) [
+        | inl lt ↦ get_or-set_other held i k x false (omega arith) ∙ h.done k begins lt
+        | inr le ↦
+            let e : i ≡ k = omega arith in
+            rw (← e) (get_or-set_same held i x false (omega (arith, h.length_kept)) ∙ is)
+      ];
+      before = λ k lt. get_or-set_other held i k x false (omega arith) ∙ h.before k lt;
+    }
 
--- four pages from page `at` on end within all of them
-pub fours_within : (size at count : ℕ) → at + 4 ≤ count → size * at + size * 4 ≤ size * count
-fours_within size at count fits = omega (arith, pages_sum size at 4, mul-le-mul_left size fits)
-
--- four pages that are cut out from page `at` on
-pub part_is : (pages : List ℕ) (size at from long : ℕ) → from ≡ size * at → long ≡ size * 4
-    → take long (drop from pages) ≡ take (size * 4) (drop (size * at) pages)
-part_is pages size at from long place whole = λ t. take (whole t) (drop (place t) pages)
-
--- the answer for one of them
-pub answer_of_part : (file : FileKeys) (first at j : ℕ) (pages part : List ℕ) (r : Bool) → j < 4
-    → part ≡ take (file.profile.page_size * 4) (drop (file.profile.page_size * at) pages)
-    → r ≡ accepts file (first + at + j) (page_at file.profile.page_size part j)
-    → r ≡ accepts file (first + (at + j)) (page_at file.profile.page_size pages (at + j))
-answer_of_part file first at j pages part r lt is answer =
-    let size : ℕ = file.profile.page_size in
-    let sum : first + at + j ≡ first + (at + j) = omega arith in
-    answer ∙ (λ t. accepts file (sum t) (page_of_part size at j (size * 4) pages part is (ends_by size j 4 lt) t))
+pub answered_then : (file : FileKeys) (first : ℕ) (pages : List ℕ) (from mid to : ℕ) (old between new : List Bool) → from ≤ mid → mid ≤ to
+    → AreAnswered file first pages from mid old between → AreAnswered file first pages mid to between new
+    → AreAnswered file first pages from to old new
+answered_then file first pages from mid to old between new one two f s =
+    let value : ℕ → Bool = λ k. accepts file (first + k) (page_at file.profile.page_size pages k) in
+    record {
+      length_kept = s.length_kept ∙ f.length_kept;
+      done = λ k begins ends. elim (cases_lt k mid) as (λ _. slice_index_or new k false ≡ value k) [
+        | inl lt ↦ s.before k lt ∙ f.done k begins lt
+        | inr le ↦ s.done k le ends
+      ];
+      before = λ k lt. s.before k (omega arith) ∙ f.before k lt;
+    }

@@ -1,5 +1,5 @@
 -- What writing the tag into its place leaves as it was.
-use Rattle.std.proofs.Common.{◌≡◌, ◌≤◌, ◌+◌, ◌-◌, ℕ, List, ◌++◌, [], length, take, drop, ap, sym, ◌∙◌, arith, IsTrue, lit≤}
+use Rattle.std.proofs.Common.{◌≡◌, ◌≤◌, ◌+◌, ◌-◌, ℕ, List, ◌++◌, [], length, take, drop, ap, sym, ◌∙◌, ◌<◌, zero, suc, true, false, refl, arith, IsTrue, lit≤}
 use Rattle.std.proofs.lemmas.List.{append_assoc, append-nil, drop-drop, take-append-drop}
 use Rattle.std.proofs.lemmas.Slice.{between-put_mid}
 use Rattle.std.proofs.lemmas.Slice.Eq.{bytes_eq-Decides}
@@ -10,8 +10,8 @@ use Rattle.cipher_profile.specs.declared.profile.HashKind.{HashKind}
 use Rattle.cipher_profile.specs.declared.profile.HashKind.TheVariants.{Sha1, Sha512}
 use Rattle.cipher_profile.specs.declared.profile.Profile.{Profile}
 use Rattle.cipher_profile.specs.Hashes.{digest, digest_len, block_len}
-use Rattle.cipher_profile.specs.Profile.{usable}
-use Rattle.page_codec.specs.Page.{FileKeys, accepts, ciphertext, covered, cipher_start, magic, opened, stored_iv, stored_tag, tag, with_tag}
+use Rattle.cipher_profile.specs.Profile.{IsLaidOut, is_plain, usable}
+use Rattle.page_codec.specs.Page.{FileKeys, accepts, ciphertext, covered, cipher_start, deciphered, magic, stored_iv, stored_tag, tag, with_tag}
 use Rattle.page_codec.proofs.Parts.{part_before}
 use borrow.Rule.Slice.PartMut.{put_mid}
 
@@ -70,10 +70,10 @@ accepts-no_tag file n stored none =
     let own : tag file n stored ≡ [] = ap (λ (k : ℕ). take k whole) none in
     (bytes_eq-Decides (stored_tag profile stored) (tag file n stored)).1 (placed ∙ sym own)
 
-pub opened-with_tag : (file : FileKeys) (n : ℕ) (bytes stored : List ℕ) → usable file.profile + 16 ≤ length stored
-    → opened file n (with_tag file.profile bytes stored) ≡ opened file n stored
-unfolding opened
-opened-with_tag file n bytes stored within =
+pub deciphered-with_tag : (file : FileKeys) (n : ℕ) (bytes stored : List ℕ) → usable file.profile + 16 ≤ length stored
+    → deciphered file n (with_tag file.profile bytes stored) ≡ deciphered file n stored
+unfolding deciphered
+deciphered-with_tag file n bytes stored within =
     let profile : Profile = file.profile in
     let at : ℕ = usable profile + 16 in
     let is = with_tag-is profile bytes stored in
@@ -86,3 +86,11 @@ opened-with_tag file n bytes stored within =
     ap (λ (first : List ℕ). take (cipher_start n) magic
     ++ cbc_decrypted file.keys.enc first (ciphertext profile n (with_tag profile bytes stored))) iv
     ∙ ap (λ (body : List ℕ). take (cipher_start n) magic ++ cbc_decrypted file.keys.enc (stored_iv profile stored) body) text
+
+-- a plain file has no tags
+pub plain_untagged : (profile : Profile) → IsLaidOut profile → is_plain profile ≡ true → profile.tag_len ≡ 0
+plain_untagged profile laid_out plain = none profile.tag_len laid_out.tagged
+  where
+    none : (n : ℕ) → (0 < n → is_plain profile ≡ false) → n ≡ 0
+    none zero tagged = refl
+    none (suc n) tagged = absurd (let both : true ≡ false = sym plain ∙ tagged (omega arith) in cc)

@@ -1,8 +1,9 @@
 // What opens and seals the pages of one file.
-ghost use Rattle.std.specs.Prelude.{◌≡◌, ◌<◌, ◌≤◌, length, take};
-ghost use Rattle.cipher_profile.specs.Profile.{IsListed};
+ghost use Rattle.std.specs.Prelude.{◌≡◌, ◌<◌, ◌≤◌, length, take, true, false};
+ghost use Rattle.std.specs.Str.{bytes_eq};
+ghost use Rattle.cipher_profile.specs.Profile.{IsListed, is_plain};
 ghost use Rattle.page_codec.specs.MacKey.{mac_key};
-ghost use Rattle.page_codec.specs.Page.{FileKeys, accepts, bears_sign, cipher_start, fits, keys_of, opened, tag};
+ghost use Rattle.page_codec.specs.Page.{FileKeys, accepts, bears_sign, cipher_start, deciphered, fits, keys_of, magic, tag};
 
 use crate::tag::{MAX_TAG, TagKey};
 use aes_block::Aes256;
@@ -14,6 +15,9 @@ pub const IV_LEN: usize = 16;
 
 /// The length of a salt, in bytes.
 pub const SALT_LEN: usize = 16;
+
+/// What a plain page 1 begins with (SQLite file format, section 1.3.1). It stands for the salt of a plain file, which has none.
+pub const MAGIC: [u8; 16] = *b"SQLite format 3\0";
 
 /// What opens and seals the pages of one file. It is prepared once, so that a page costs its own bytes only.
 #[derive(Drop)]
@@ -34,13 +38,15 @@ impl Model for Codec {
       listed : IsListed c.profile;
       ciphers : c.cipher ≡ c.keys.enc;
       tags : c.tags ≡ mac_key c.profile.hash c.keys.mac;
+      plain : is_plain c.profile ≡ true → c.salt ≡ magic;
     } };
 }
 
 impl Codec {
-    /// The codec of a file with these keys and this salt.
+    /// The codec of a file with these keys and this salt; of a plain file the salt is the magic.
     pub fn new(profile: Profile, keys: PageKeys, salt: [u8; 16]) -> Codec
-        requires { IsListed profile }
+        requires listed { IsListed profile }
+        requires plain { is_plain profile ≡ true → salt ≡ magic }
         ensures { result ≡ record { profile = profile; keys = keys; salt = salt } }
     {
         let cipher = Aes256::new(&keys.enc);
@@ -54,15 +60,17 @@ impl Codec {
         }
     }
 
-    /// The codec that the secret gives for a file with this stored page 1, which begins with the salt.
+    /// The codec that the secret gives for a file with this stored page 1, which begins with the salt where the file is encrypted.
     pub fn of_file(profile: Profile, secret: &Secret, page_1: &[u8]) -> Codec
         requires listed { IsListed profile }
         requires size { length page_1.now ≡ profile.page_size }
         ensures { result ≡ keys_of profile secret.now page_1.now }
     {
         let _usable = profile.usable();
-        let mut salt = [0u8; SALT_LEN];
-        salt.copy_from_slice(&page_1[..SALT_LEN]);
+        let mut salt = MAGIC;
+        if !profile.is_plain() {
+            salt.copy_from_slice(&page_1[..SALT_LEN]);
+        }
         Codec::new(profile, derive(secret, &profile, &salt), salt)
     }
 
@@ -74,9 +82,10 @@ impl Codec {
         &self.profile
     }
 
-    /// The file's salt, its first 16 bytes.
+    /// The file's salt, its first 16 bytes; of a plain file the magic.
     pub fn salt(&self) -> [u8; 16]
-        ensures { result ≡ self.now.salt }
+        ensures value { result ≡ self.now.salt }
+        ensures plain { is_plain self.now.profile ≡ true → result ≡ magic }
     {
         self.salt
     }
@@ -97,7 +106,8 @@ impl Codec {
 
     /// The tag of page n, in as many bytes as the profile's tags have.
     pub(crate) fn tag(&self, n: u32, stored: &[u8]) -> [u8; MAX_TAG]
-        requires { length stored.now ≡ self.now.profile.page_size }
+        requires size { length stored.now ≡ self.now.profile.page_size }
+        requires ciphered { is_plain self.now.profile ≡ false }
         ensures { take self.now.profile.tag_len result ≡ tag self.now n stored.now }
     {
         let tag_at = self.profile.usable() + IV_LEN;
@@ -105,10 +115,14 @@ impl Codec {
     }
 
     /// Whether the key fits a file whose page 1 is this stored page.
+    #[tactic(auto, unfolding(crate::specs::Page::opened))]
     pub fn key_fits(&self, stored: &[u8]) -> bool
         requires { length stored.now ≡ self.now.profile.page_size }
         ensures { result ≡ fits self.now stored.now }
     {
+        if self.profile.is_plain() {
+            return self.begins_with_magic(stored);
+        }
         if self.profile.tag_len == 0 {
             self.opens_with_sign(stored)
         } else {
@@ -116,11 +130,21 @@ impl Codec {
         }
     }
 
+    // Whether page 1 of a plain file begins with the magic.
+    fn begins_with_magic(&self, stored: &[u8]) -> bool
+        requires { length stored.now ≡ self.now.profile.page_size }
+        ensures { result ≡ bytes_eq (take 16 stored.now) magic }
+    {
+        let _usable = self.profile.usable();
+        stored[..SALT_LEN] == MAGIC[..]
+    }
+
     // Whether page 1 of profile 1 opens to what a header says of its pages.
     fn opens_with_sign(&self, stored: &[u8]) -> bool
         requires size { length stored.now ≡ self.now.profile.page_size }
         requires untagged { self.now.profile.tag_len ≡ 0 }
-        ensures { result ≡ bears_sign (opened self.now 1 stored.now) }
+        requires ciphered { is_plain self.now.profile ≡ false }
+        ensures { result ≡ bears_sign (deciphered self.now 1 stored.now) }
     {
         let mut buffer = [0u8; 1024];
         let plain = &mut buffer[..self.profile.usable()];

@@ -1,4 +1,4 @@
-//! The stored pages of a SQLCipher file: which pages a key accepts, and how they are opened and sealed.
+//! The stored pages of a SQLCipher file or a plain one: which pages a key accepts, and how they are opened and sealed.
 #![tactic(auto)]
 
 mod codec;
@@ -8,6 +8,6 @@ mod sealing;
 mod side_by_side;
 mod tag;
 
-pub use codec::Codec;
+pub use codec::{Codec, MAGIC};
 pub use laws::{no_tag_law, opened_law};
 pub use opening::TagRefused;

@@ -1,14 +1,11 @@
 // Opening a stored page.
-ghost use Rattle.std.specs.Prelude.{◌≡◌, ◌≤◌, ◌↔◌, ◌++◌, length, take, drop, IfErr, IfOk, IsOk, IsTrue};
+ghost use Rattle.std.specs.Prelude.{◌≡◌, ◌≤◌, ◌↔◌, ◌++◌, false, length, take, drop, IfErr, IfOk, IsOk, IsTrue};
 ghost use Rattle.cbc_mode.specs.Cbc.{cbc_decrypted};
-ghost use Rattle.cipher_profile.specs.Profile.{usable};
-ghost use Rattle.page_codec.specs.Page.{accepts, cipher_start, magic, opened};
+ghost use Rattle.cipher_profile.specs.Profile.{is_plain, usable};
+ghost use Rattle.page_codec.specs.Page.{accepts, cipher_start, deciphered, magic, opened};
 
-use crate::codec::{Codec, IV_LEN, cipher_start};
+use crate::codec::{Codec, IV_LEN, MAGIC, cipher_start};
 use cbc_mode::cbc_decrypt;
-
-/// What a plain page 1 begins with (SQLite file format, section 1.3.1).
-const MAGIC: [u8; 16] = *b"SQLite format 3\0";
 
 /// The tag of a page was not right.
 #[derive(Clone, Copy, Debug, PartialEq, Eq)]
@@ -18,7 +15,9 @@ pub struct TagRefused {
 }
 
 impl Codec {
-    /// Opens stored page n, numbered from 1, where its tag is right. A profile without tags takes every page.
+    /// Opens stored page n, numbered from 1, where its tag is right. A profile without tags takes every page; a page of a plain file is
+    /// copied.
+    #[tactic(auto, unfolding(crate::specs::Page::opened))]
     pub fn open_page(&self, n: u32, stored: &[u8], plain: &mut [u8]) -> Result<(), TagRefused>
         requires number { 1 ≤ n }
         requires stored_size { length stored.now ≡ self.now.profile.page_size }
@@ -30,12 +29,18 @@ impl Codec {
         ensures without_tags { self.now.profile.tag_len ≡ 0 → IsOk result }
     {
         self.check_tag(n, stored)?;
-        self.decipher(n, stored, plain);
+        if self.profile.is_plain() {
+            let _usable = self.profile.usable();
+            plain.copy_from_slice(stored);
+        } else {
+            self.decipher(n, stored, plain);
+        }
         Ok(())
     }
 
     /// Opens stored page n, numbered from 1, where it stands: the plain page takes the place of the ciphertext, before the reserve.
-    /// A profile without tags takes every page.
+    /// A profile without tags takes every page; a page of a plain file stays as it is.
+    #[tactic(auto, unfolding(crate::specs::Page::opened))]
     pub fn open_in_place(&self, n: u32, page: &mut [u8]) -> Result<(), TagRefused>
         requires number { 1 ≤ n }
         requires size { length page.old ≡ self.now.profile.page_size }
@@ -47,7 +52,9 @@ impl Codec {
         ensures without_tags { self.now.profile.tag_len ≡ 0 → IsOk result }
     {
         self.check_tag(n, page)?;
-        self.decipher_in_place(n, page);
+        if !self.profile.is_plain() {
+            self.decipher_in_place(n, page);
+        }
         Ok(())
     }
 
@@ -65,11 +72,12 @@ impl Codec {
         Ok(())
     }
 
-    /// Opens stored page n, whatever its tag is.
+    /// Decrypts stored page n of an encrypted file, whatever its tag is.
     pub(crate) fn decipher(&self, n: u32, stored: &[u8], plain: &mut [u8])
         requires stored_size { length stored.now ≡ self.now.profile.page_size }
         requires plain_size { length plain.old ≡ usable self.now.profile }
-        ensures { plain.new ≡ opened self.now n stored.now }
+        requires ciphered { is_plain self.now.profile ≡ false }
+        ensures { plain.new ≡ deciphered self.now n stored.now }
     {
         let usable = self.profile.usable();
         let mut iv = [0u8; IV_LEN];
@@ -80,8 +88,9 @@ impl Codec {
 
     // The same where the page stands.
     fn decipher_in_place(&self, n: u32, page: &mut [u8])
-        requires { length page.old ≡ self.now.profile.page_size }
-        ensures opened { take (usable self.now.profile) page.new ≡ opened self.now n page.old }
+        requires size { length page.old ≡ self.now.profile.page_size }
+        requires ciphered { is_plain self.now.profile ≡ false }
+        ensures opened { take (usable self.now.profile) page.new ≡ deciphered self.now n page.old }
         ensures reserve { drop (usable self.now.profile) page.new ≡ drop (usable self.now.profile) page.old }
     {
         let (content, reserve) = page.split_at_mut(self.profile.usable());

@@ -1,31 +1,128 @@
 // The tags of several pages at once.
-ghost use Rattle.std.specs.Prelude.{◌≡◌, ℕ, ◌+◌, ◌*◌, ◌^◌, ◌<◌, ◌≤◌, ◌++◌, length, slice_index_or, take, false, IsTrue};
+ghost use Rattle.std.specs.Prelude.{◌≡◌, ℕ, ◌+◌, ◌*◌, ◌^◌, ◌<◌, ◌≤◌, length, slice_index, slice_index_or, take, false};
 ghost use Rattle.std.specs.Int.{w32, to_le_bytes};
 ghost use Rattle.std.specs.Str.{bytes_eq};
-ghost use Rattle.sha2.specs.Sha512.{sha512};
-ghost use Rattle.hmac_core.specs.Hmac.{key_block};
-ghost use Rattle.cipher_profile.specs.declared.profile.HashKind.TheVariants.{Sha512};
+ghost use Rattle.hmac_core.specs.Hmac.{hmac_of_block};
+ghost use Rattle.hash_lanes.specs.Messages.{message, piece};
+ghost use Rattle.cipher_profile.specs.Hashes.{digest, digest_len};
+ghost use Rattle.page_codec.specs.MacKey.{at_once, mac_key};
 ghost use Rattle.page_codec.specs.Page.{accepts, stored_tag};
-ghost use Rattle.page_codec.specs.Pages.{page_at};
+ghost use Rattle.page_codec.specs.Pages.{AreAnswered, page_at};
 
 use crate::codec::{Codec, IV_LEN};
 use cipher_profile::HashKind;
-use hash_lanes::FourMacs;
+use hash_lanes::{EightMacs, FourMacs};
+use std::marker::Model;
 
-/// Four numbers, each as four bytes, the lowest first.
-pub(crate) fn four_numbers(n: u32, second: u32, third: u32, fourth: u32) -> [u8; 16]
-    ensures { result ≡ to_le_bytes w32 n ++ (to_le_bytes w32 second ++ (to_le_bytes w32 third ++ to_le_bytes w32 fourth)) }
+/// How many tags of this hash are computed at once: as many as a vector has words of it.
+pub(crate) fn at_once(hash: HashKind) -> usize
+    ensures value { result ≡ at_once hash }
+    ensures some { 0 < result }
+    ensures most { result ≤ 8 }
 {
-    let [a, b, c, d] = n.to_le_bytes();
-    let [e, f, g, h] = second.to_le_bytes();
-    let [i, j, k, l] = third.to_le_bytes();
-    let [m, o, p, q] = fourth.to_le_bytes();
-    [a, b, c, d, e, f, g, h, i, j, k, l, m, o, p, q]
+    match hash {
+        HashKind::Sha1 => 8,
+        HashKind::Sha512 => 4,
+    }
+}
+
+/// A key that is prepared for several messages, with the hash that it is for.
+#[derive(Drop)]
+pub(crate) enum Lanes {
+    Eight(EightMacs),
+    Four(FourMacs),
+}
+
+/// The key of a file's tags, prepared once for several pages at a time.
+#[derive(Drop)]
+pub(crate) struct SideKey {
+    lanes: Lanes,
+}
+
+impl Model for SideKey {
+    ghost use Rattle.page_codec.specs.MacKey.{MacKey, side_key};
+
+    ghost Value = { MacKey };
+
+    ghost view = { λ k. side_key k.lanes };
+}
+
+impl SideKey {
+    /// Prepares a key.
+    pub(crate) fn new(hash: HashKind, key: &[u8; 32]) -> SideKey
+        ensures { result ≡ mac_key hash key.now }
+    {
+        let lanes = match hash {
+            HashKind::Sha1 => Lanes::Eight(EightMacs::new(key)),
+            HashKind::Sha512 => Lanes::Four(FourMacs::new(key)),
+        };
+        SideKey { lanes }
+    }
+
+    /// The HMACs of the first `len` bytes of several pages and of their numbers, which are four bytes each. An HMAC is at the front of 64
+    /// bytes.
+    pub(crate) fn tags(
+        &self,
+        pages: &[u8],
+        size: usize,
+        len: usize,
+        numbers: &[u8; 32],
+    ) -> [u8; 512]
+        requires within { len ≤ size }
+        requires pages { size * at_once self.now.hash ≤ length pages.now }
+        ensures { (i : ℕ) → i < at_once self.now.hash → take (digest_len self.now.hash) (piece result 64 64 i)
+            ≡ hmac_of_block (digest self.now.hash) self.now.block (message pages.now size len numbers.now 4 i) }
+    {
+        match &self.lanes {
+            Lanes::Eight(macs) => apart(&macs.tags(pages, size, len, numbers, 4), 20, 8),
+            Lanes::Four(macs) => apart(&macs.tags(pages, size, len, numbers, 4), 64, 4),
+        }
+    }
+}
+
+// So many tags of `len` bytes, each at the front of 64 bytes.
+fn apart(tags: &[u8], len: usize, count: usize) -> [u8; 512]
+    requires short { len ≤ 64 }
+    requires most { count ≤ 8 }
+    requires size { len * count ≤ length tags.now }
+    ensures { (i : ℕ) → i < count → take len (piece result 64 64 i) ≡ piece tags.now len len i }
+{
+    let mut out = [0u8; 512];
+    'tags: for i in 0..count {
+        out[64 * i..64 * i + len].copy_from_slice(&tags[len * i..len * i + len]);
+    }
+    out
+}
+
+// The numbers of so many pages from page n on, each as four bytes, the lowest first.
+fn numbers_from(n: u32, count: usize) -> [u8; 32]
+    requires most { count ≤ 8 }
+    requires numbers { n + count ≤ 2 ^ 32 }
+    ensures { (i : ℕ) → i < count → piece result 4 4 i ≡ to_le_bytes w32 (n + i) }
+{
+    let mut out = [0u8; 32];
+    'numbers: for i in 0..count {
+        out[4 * i..4 * i + 4].copy_from_slice(&(n + i as u32).to_le_bytes());
+    }
+    out
+}
+
+/// So many of these numbers, from this one on, as four bytes each, the lowest first.
+pub(crate) fn numbers_at(numbers: &[u32], at: usize, count: usize) -> [u8; 32]
+    requires most { count ≤ 8 }
+    requires within { at + count ≤ length numbers.now }
+    ensures { (i : ℕ) → i < count → piece result 4 4 i ≡ to_le_bytes w32 (slice_index numbers.now (at + i)) }
+{
+    let mut out = [0u8; 32];
+    'numbers: for i in 0..count {
+        out[4 * i..4 * i + 4].copy_from_slice(&numbers[at + i].to_le_bytes());
+    }
+    out
 }
 
 impl Codec {
     /// Whether the tags of these stored pages, which stand one after another, are those of pages `first`, `first + 1` and so on,
-    /// numbered from 1: for a reader that goes over a file's pages in order, since tags of SHA-512 are computed four at a time.
+    /// numbered from 1: for a reader that goes over a file's pages in order, since tags are computed several at a time.
     /// `held` has one place for each page (SQLCipher design, "Page Authentication").
     pub fn tags_hold(&self, first: u32, pages: &[u8], held: &mut [bool])
         requires number { 1 ≤ first }
@@ -36,129 +133,100 @@ impl Codec {
         ensures value { (i : ℕ) → i < length held.old → slice_index_or held.new i false
             ≡ accepts self.now (first + i) (page_at self.now.profile.page_size pages.now i) }
     {
-        let done = self.fours_hold(first, pages, held);
-        let _usable = self.profile.usable();
-        let size = self.profile.page_size as usize;
-        'rest: for i in done..held.len() {
-            held[i] = self.tag_holds(first + i as u32, &pages[size * i..size * i + size]);
-        }
+        let done = self.many_hold(first, pages, held);
+        self.each_holds(first, done, held.len(), pages, held);
     }
 
-    // The same for as many of the first pages as are taken by fours, which the answer counts.
-    fn fours_hold(&self, first: u32, pages: &[u8], held: &mut [bool]) -> usize
+    // The same of as many of the first pages as are taken several at a time, which the answer counts.
+    fn many_hold(&self, first: u32, pages: &[u8], held: &mut [bool]) -> usize
         requires number { 1 ≤ first }
         requires numbers { first + length held.old ≤ 2 ^ 32 }
         requires size { length pages.now ≡ self.now.profile.page_size * length held.old }
         requires tagged { 0 < self.now.profile.tag_len }
-        ensures count { length held.new ≡ length held.old }
         ensures within { result ≤ length held.old }
-        ensures value { (i : ℕ) → i < result → slice_index_or held.new i false
-            ≡ accepts self.now (first + i) (page_at self.now.profile.page_size pages.now i) }
+        ensures answered { AreAnswered self.now first pages.now 0 result held.old held.new }
     {
-        if held.len() < 4 || !self.hashes_fours() {
+        let count = at_once(self.profile.hash);
+        if held.len() < count {
             return 0;
         }
-        let macs = FourMacs::new(&self.keys.mac);
-        let _usable = self.profile.usable();
-        let size = self.profile.page_size as usize;
-        let fours = held.len() / 4;
-        'fours: for k in 0..fours {
-            let at = 4 * k;
-            let [a, b, c, d] = self.four_hold(
-                &macs,
-                first + at as u32,
-                &pages[size * at..size * at + size * 4],
-            );
-            held[at] = a;
-            held[at + 1] = b;
-            held[at + 2] = c;
-            held[at + 3] = d;
+        let key = SideKey::new(self.profile.hash, &self.keys.mac);
+        let mut done = 0;
+        'batches: while held.len() - done >= count {
+            self.batch_holds(&key, first, done, pages, held);
+            done += count;
         }
-        4 * fours
+        done
     }
 
-    /// Whether the file's tags are hashed by fours: where the hash is SHA-512.
-    pub(crate) fn hashes_fours(&self) -> bool
-        ensures { IsTrue result → self.now.profile.hash ≡ Sha512 }
-    {
-        match self.profile.hash {
-            HashKind::Sha512 => true,
-            HashKind::Sha1 => false,
-        }
-    }
-
-    // Whether the tags of these four pages are those of pages n to n + 3. The message of page 1 is shorter than the others.
-    fn four_hold(&self, macs: &FourMacs, n: u32, pages: &[u8]) -> [bool; 4]
-        requires number { 1 ≤ n }
-        requires numbers { n + 3 < 2 ^ 32 }
-        requires size { length pages.now ≡ self.now.profile.page_size * 4 }
+    // The same of as many pages as are taken at once, from this one on, counted from 0. The message of page 1 is shorter than the others.
+    fn batch_holds(&self, key: &SideKey, first: u32, at: usize, pages: &[u8], held: &mut [bool])
+        requires number { 1 ≤ first }
+        requires numbers { first + length held.old ≤ 2 ^ 32 }
+        requires size { length pages.now ≡ self.now.profile.page_size * length held.old }
         requires tagged { 0 < self.now.profile.tag_len }
-        requires hash { self.now.profile.hash ≡ Sha512 }
-        requires key { macs.now ≡ key_block sha512 128 self.now.keys.mac }
-        ensures { (i : ℕ) → i < 4 → slice_index_or result i false
-            ≡ accepts self.now (n + i) (page_at self.now.profile.page_size pages.now i) }
+        requires within { at + at_once self.now.profile.hash ≤ length held.old }
+        requires key { key.now ≡ mac_key self.now.profile.hash self.now.keys.mac }
+        ensures { AreAnswered self.now first pages.now at (at + at_once self.now.profile.hash) held.old held.new }
     {
-        if n > 1 {
-            self.four_at_once(macs, n, pages)
+        let count = at_once(self.profile.hash);
+        if first as usize + at > 1 {
+            self.later_hold(key, first, at, pages, held);
         } else {
-            self.four_in_turn(n, pages)
+            self.each_holds(first, at, at + count, pages, held);
         }
     }
 
-    // The same of four pages of which none is page 1.
-    fn four_at_once(&self, macs: &FourMacs, n: u32, pages: &[u8]) -> [bool; 4]
-        requires number { 2 ≤ n }
-        requires numbers { n + 3 < 2 ^ 32 }
-        requires size { length pages.now ≡ self.now.profile.page_size * 4 }
-        requires hash { self.now.profile.hash ≡ Sha512 }
-        requires key { macs.now ≡ key_block sha512 128 self.now.keys.mac }
-        ensures { (i : ℕ) → i < 4 → slice_index_or result i false
-            ≡ accepts self.now (n + i) (page_at self.now.profile.page_size pages.now i) }
+    // The same where none of them is page 1.
+    fn later_hold(&self, key: &SideKey, first: u32, at: usize, pages: &[u8], held: &mut [bool])
+        requires later { 2 ≤ first + at }
+        requires numbers { first + length held.old ≤ 2 ^ 32 }
+        requires size { length pages.now ≡ self.now.profile.page_size * length held.old }
+        requires tagged { 0 < self.now.profile.tag_len }
+        requires within { at + at_once self.now.profile.hash ≤ length held.old }
+        requires key { key.now ≡ mac_key self.now.profile.hash self.now.keys.mac }
+        ensures { AreAnswered self.now first pages.now at (at + at_once self.now.profile.hash) held.old held.new }
     {
+        let count = at_once(self.profile.hash);
         let size = self.profile.page_size as usize;
         let tag_at = self.profile.usable() + IV_LEN;
-        let tags = macs.tags(
-            pages,
-            size,
-            tag_at,
-            &four_numbers(n, n + 1, n + 2, n + 3),
-            4,
-        );
-        [
-            self.bears(&pages[..size], &tags[..64]),
-            self.bears(&pages[size..2 * size], &tags[64..128]),
-            self.bears(&pages[2 * size..3 * size], &tags[128..192]),
-            self.bears(&pages[3 * size..4 * size], &tags[192..256]),
-        ]
+        let numbers = numbers_from(first + at as u32, count);
+        let tags = key.tags(&pages[size * at..], size, tag_at, &numbers);
+        'pages: for j in 0..count {
+            let i = at + j;
+            held[i] = self.bears(
+                &pages[size * i..size * i + size],
+                &tags[64 * j..64 * j + 64],
+            );
+        }
+    }
+
+    // The same of pages `from` to `to - 1`, counted from 0, one after another.
+    fn each_holds(&self, first: u32, from: usize, to: usize, pages: &[u8], held: &mut [bool])
+        requires number { 1 ≤ first }
+        requires numbers { first + length held.old ≤ 2 ^ 32 }
+        requires size { length pages.now ≡ self.now.profile.page_size * length held.old }
+        requires tagged { 0 < self.now.profile.tag_len }
+        requires order { from ≤ to }
+        requires within { to ≤ length held.old }
+        ensures { AreAnswered self.now first pages.now from to held.old held.new }
+    {
+        let _usable = self.profile.usable();
+        let size = self.profile.page_size as usize;
+        'pages: for i in from..to {
+            held[i] = self.tag_holds(first + i as u32, &pages[size * i..size * i + size]);
+        }
     }
 
     // Whether the first of these bytes, as many as a tag has, stand in the tag's place of this stored page.
     fn bears(&self, stored: &[u8], tag: &[u8]) -> bool
         requires size { length stored.now ≡ self.now.profile.page_size }
         requires tag { length tag.now ≡ 64 }
+        requires tagged { 0 < self.now.profile.tag_len }
         ensures { result ≡ bytes_eq (stored_tag self.now.profile stored.now) (take self.now.profile.tag_len tag.now) }
     {
         let tag_at = self.profile.usable() + IV_LEN;
         let tag_len = self.profile.tag_len as usize;
         stored[tag_at..tag_at + tag_len] == tag[..tag_len]
-    }
-
-    // The same of any four pages, one after another.
-    fn four_in_turn(&self, n: u32, pages: &[u8]) -> [bool; 4]
-        requires number { 1 ≤ n }
-        requires numbers { n + 3 < 2 ^ 32 }
-        requires size { length pages.now ≡ self.now.profile.page_size * 4 }
-        requires tagged { 0 < self.now.profile.tag_len }
-        ensures { (i : ℕ) → i < 4 → slice_index_or result i false
-            ≡ accepts self.now (n + i) (page_at self.now.profile.page_size pages.now i) }
-    {
-        let _usable = self.profile.usable();
-        let size = self.profile.page_size as usize;
-        [
-            self.tag_holds(n, &pages[..size]),
-            self.tag_holds(n + 1, &pages[size..2 * size]),
-            self.tag_holds(n + 2, &pages[2 * size..3 * size]),
-            self.tag_holds(n + 3, &pages[3 * size..4 * size]),
-        ]
     }
 }

@@ -3,11 +3,11 @@ use Rattle.std.proofs.Common.{◌≡◌, ◌*◌, ◌-◌, ◌≤◌, List, ℕ,
 use Rattle.std.proofs.lemmas.List.{take-append-le, take-append-drop, length-take-le}
 use Rattle.cipher_profile.specs.declared.keys.Secret.{Secret}
 use Rattle.cipher_profile.specs.declared.profile.Profile.{Profile}
-use Rattle.cipher_profile.specs.Keys.{page_keys}
-use Rattle.cipher_profile.specs.Profile.{IsListed}
+use Rattle.std.specs.Prelude.{if◌then◌else◌}
+use Rattle.cipher_profile.specs.Profile.{IsListed, is_plain}
 use Rattle.cipher_profile.proofs.Layouts.{IsListed-each}
 use Rattle.db_format.specs.Header.{IsPageSize}
-use Rattle.page_codec.specs.Page.{salt_of, stored_page, keys_of}
+use Rattle.page_codec.specs.Page.{keys_of, keys_with_salt, magic, salt_of, stored_page}
 
 salt_in_page : (size : ℕ) (file : List ℕ) → 16 ≤ size → size ≤ length file → salt_of (stored_page size 1 file) ≡ salt_of file
 salt_in_page size file long whole =
@@ -21,7 +21,7 @@ salt_in_page size file long whole =
 pub keys_from_page : (profile : Profile) (secret : Secret) (file : List ℕ) → 16 ≤ profile.page_size → profile.page_size ≤ length file
     → keys_of profile secret (stored_page profile.page_size 1 file) ≡ keys_of profile secret file
 keys_from_page profile secret file long whole =
-    ap (λ (salt : List ℕ). record { profile = profile; keys = page_keys profile secret salt; salt = salt }) (salt_in_page profile.page_size file long whole)
+    ap (λ (salt : List ℕ). keys_with_salt profile secret (if is_plain profile then magic else salt)) (salt_in_page profile.page_size file long whole)
 
 -- a buffer of a page's length that was read whole has page 1
 pub page_is : (size : ℕ) (page main : List ℕ) → length page ≡ size → size ≤ length main
@@ -32,6 +32,14 @@ page_is size page main long whole read = read (omega (arith, long, whole)) ∙ a
 pub listed_page_size : (profile : Profile) → IsListed profile → IsPageSize profile.page_size
 listed_page_size =
     IsListed-each (λ (p : Profile). IsPageSize p.page_size)
+    (record { power = refl; least = omega arith; most = omega arith })
+    (record { power = refl; least = omega arith; most = omega arith })
+    (record { power = refl; least = omega arith; most = omega arith })
+    (record { power = refl; least = omega arith; most = omega arith })
+    (record { power = refl; least = omega arith; most = omega arith })
+    (record { power = refl; least = omega arith; most = omega arith })
+    (record { power = refl; least = omega arith; most = omega arith })
+    (record { power = refl; least = omega arith; most = omega arith })
     (record { power = refl; least = omega arith; most = omega arith })
     (record { power = refl; least = omega arith; most = omega arith })
     (record { power = refl; least = omega arith; most = omega arith })

@@ -4,12 +4,13 @@ use Rattle.std.specs.Prelude.{unwrap_or, if◌then◌else◌}
 use Rattle.std.proofs.Math.Nat.{le-mul_of_pos_right}
 use Rattle.std.proofs.lemmas.List.{take-append-le}
 use Rattle.std.proofs.Math.Seq.{drop-append_seam}
-use Rattle.cipher_profile.specs.Profile.{IsListed}
+use Rattle.cipher_profile.specs.Profile.{IsListed, is_plain}
 use Rattle.cipher_profile.specs.declared.profile.Profile.{Profile}
 use Rattle.cipher_profile.proofs.Layouts.{IsListed-laid_out}
 use Rattle.db_format.specs.Count.{largest_database}
 use Rattle.page_cache.specs.Pages.{Page, bytes_at, is_held}
-use Rattle.page_codec.specs.Page.{FileKeys, magic, opened}
+use Rattle.page_codec.specs.Page.{FileKeys, deciphered, magic, opened}
+use Rattle.page_codec.proofs.Parts.{opened_ciphered}
 use Rattle.pager.specs.Changed.{HasMagic, same_layout, with_bytes}
 use Rattle.pager.specs.Held.{bytes_of_page}
 use Rattle.pager.proofs.ChangedLemmas.{is_there, page_is}
@@ -63,7 +64,25 @@ magic_put n at src old new first there each begins = λ held. (elim (1 == n) as 
   | false ↦ λ t. magic_as old new (each 1 ∙ ap (λ (b : Bool). if b then Some (with_bytes at src (bytes_of_page n old)) else bytes_at 1 old) t) begins held
 ]) refl
 
--- page 1 of a file that is opened begins so
-pub magic_kept : (keys : FileKeys) (stored : List ℕ) → with_bytes 0 magic (opened keys 1 stored) ≡ opened keys 1 stored
-unfolding opened
-magic_kept keys stored = ap (λ (l : List ℕ). magic ++ l) (drop-append_seam magic _)
+-- page 1 of an encrypted file begins so
+deciphered_kept : (keys : FileKeys) (stored : List ℕ) → with_bytes 0 magic (deciphered keys 1 stored) ≡ deciphered keys 1 stored
+unfolding deciphered
+deciphered_kept keys stored = ap (λ (l : List ℕ). magic ++ l) (drop-append_seam magic _)
+
+pub magic_kept : (keys : FileKeys) (stored : List ℕ) → is_plain keys.profile ≡ false → with_bytes 0 magic (opened keys 1 stored) ≡ opened keys 1 stored
+magic_kept keys stored ciphered =
+    subst (λ (l : List ℕ). with_bytes 0 magic l ≡ l) (sym (opened_ciphered keys 1 stored ciphered)) (deciphered_kept keys stored)
+
+-- codecs with pages of one length and one reserve are both plain, or both not: an encrypted page has a reserve
+pub ciphered_alike : (read write : Profile) → IsListed read → IsListed write → write.page_size ≡ read.page_size → write.reserve ≡ read.reserve
+    → is_plain write ≡ false → is_plain read ≡ false
+ciphered_alike read write read_listed write_listed size reserve ciphered =
+    let room = (IsListed-laid_out write write_listed).room ciphered in
+    let whole = (IsListed-laid_out write write_listed).whole in
+    decide (is_plain read) (λ plain.
+    let none = (IsListed-laid_out read read_listed).unreserved plain in
+    omega (arith, room, whole, size, reserve, none))
+  where
+    decide : (b : Bool) → (b ≡ true → ⊥) → b ≡ false
+    decide true not = absurd (not refl)
+    decide false not = refl

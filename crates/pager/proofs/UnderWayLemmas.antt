@@ -23,6 +23,7 @@ use Rattle.transaction.specs.Batches.{HasBatches, HasMarked, IsWritten}
 use Rattle.transaction.specs.Commit.{AreChanges}
 use Rattle.transaction.specs.Database.{Base, stored_page}
 use Rattle.transaction.specs.Facts.{Facts, IsBase, IsBegun}
+use Rattle.cipher_profile.specs.Profile.{is_plain}
 use Rattle.transaction.specs.Marks.{is_marked, marked_count}
 use Rattle.transaction.proofs.Batched.{none_or_some, batches_first, count_none}
 use Rattle.transaction.proofs.Changed.{changed_none}
@@ -325,16 +326,24 @@ touched_again marks held n is m = (elim (m == n) as (λ b. (m == n) ≡ b → is
 pub put_same : (m n : ℕ) (w x y z : List ℕ) → w ≡ x → y ≡ z → (if m == n then w else y) ≡ (if m == n then x else z)
 put_same m n w x y z same other = ap (λ (l : List ℕ). if m == n then l else y) same ∙ ap (λ (l : List ℕ). if m == n then x else l) other
 
-opened_begins : (keys : FileKeys) (stored : List ℕ) → take 16 (opened keys 1 stored) ≡ magic
-opened_begins keys stored =
-    ap (λ (l : List ℕ). take 16 l) (sym (magic_kept keys stored)) ∙ take-append_seam magic (drop 16 (opened keys 1 stored))
+opened_begins : (keys : FileKeys) (stored : List ℕ) → is_plain keys.profile ≡ false → take 16 (opened keys 1 stored) ≡ magic
+opened_begins keys stored ciphered =
+    ap (λ (l : List ℕ). take 16 l) (sym (magic_kept keys stored ciphered)) ∙ take-append_seam magic (drop 16 (opened keys 1 stored))
 
--- page 1 begins as each database does
-pub seen_begins : (read write : FileKeys) (file : List ℕ) (count n : ℕ) (marks : List Bool) (held : List Page) → n ≡ 1 → is_number count n ≡ true → is_held n held ≡ false
+-- page 1 of an encrypted file begins as each database does
+keys_ciphered : (read write : FileKeys) (marks : List Bool) (n : ℕ) → is_plain read.profile ≡ false → is_plain write.profile ≡ false
+    → is_plain (keys_at read write marks n).profile ≡ false
+keys_ciphered read write marks n old new = either (is_marked n marks)
+  where
+    either : (b : Bool) → is_plain (if b then write else read).profile ≡ false
+    either true = new
+    either false = old
+
+pub seen_begins : (read write : FileKeys) (file : List ℕ) (count n : ℕ) (marks : List Bool) (held : List Page) → is_plain read.profile ≡ false → is_plain write.profile ≡ false → n ≡ 1 → is_number count n ≡ true → is_held n held ≡ false
     → take 16 ((seen_pages read write file count marks held).page n) ≡ magic
-seen_begins read write file count n marks held is num free =
+seen_begins read write file count n marks held old new is num free =
     ap (λ (l : List ℕ). take 16 l) (free_or n held _ free ∙ opened_at (keys_at read write marks n) file count n num)
-    ∙ subst (λ (k : ℕ). take 16 (opened (keys_at read write marks k) k (page_stored (keys_at read write marks k) file k)) ≡ magic) (sym is) (opened_begins (keys_at read write marks 1) (page_stored (keys_at read write marks 1) file 1))
+    ∙ subst (λ (k : ℕ). take 16 (opened (keys_at read write marks k) k (page_stored (keys_at read write marks k) file k)) ≡ magic) (sym is) (opened_begins (keys_at read write marks 1) (page_stored (keys_at read write marks 1) file 1) (keys_ciphered read write marks 1 old new))
 
 magic_whole : (plain : List ℕ) → take 16 plain ≡ magic → with_bytes 0 magic plain ≡ plain
 magic_whole plain begins = ap (λ (l : List ℕ). l ++ drop 16 plain) (sym begins) ∙ take-append-drop 16 plain

@@ -43,7 +43,7 @@ pub record IsListing (c : Changed) : Type 0 where
 abbrev pub with_bytes : ℕ → List ℕ → List ℕ → List ℕ
 with_bytes at bytes page = take at page ++ (bytes ++ drop (at + length bytes) page)
 
--- page 1 begins as each database does
+-- page 1 begins as each database does: in an encrypted file it opens so, whatever is stored
 abbrev pub HasMagic : List Page → Type 0
 HasMagic held = is_held 1 held ≡ true → take 16 (bytes_of_page 1 held) ≡ magic
 

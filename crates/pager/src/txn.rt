@@ -4,7 +4,7 @@ ghost use Rattle.std.specs.Prelude.{◌≡◌, ◌≢◌, ◌≤◌, ◌<◌, �
 ghost use Rattle.std.specs.List.{range_with_len};
 ghost use Rattle.edge_model.specs.Causes.{HasCause, Rose};
 ghost use Rattle.edge_model.specs.Images.{Each, From, LeavesOnly};
-ghost use Rattle.cipher_profile.specs.Profile.{usable};
+ghost use Rattle.cipher_profile.specs.Profile.{is_plain, usable};
 ghost use Rattle.page_cache.specs.Pages.{bytes_at, is_held};
 ghost use Rattle.page_codec.specs.Page.{magic};
 ghost use Rattle.rollback_journal.specs.Playing.{main_of};
@@ -23,7 +23,7 @@ use crate::fill::{PageError, read_plain};
 use crate::pager::Pager;
 use crate::spilled::{end_frames, write_frames};
 use edge_model::{Disk, Entropy, Failed};
-use page_codec::Codec;
+use page_codec::{Codec, MAGIC};
 use rollback_journal::JournalWriter;
 use std::alloc::Global;
 use transaction::{CommitFault, PageMarks, guard_ahead, undo_batches};
@@ -67,14 +67,11 @@ pub struct Txn<'d, D: Disk, E: Entropy> {
     ghost few: { (length changed.numbers ≤ changed.frames) × (changed.frames ≤ 64) },
     ghost room: { vec_len draws ≡ changed.frames * write.profile.reserve },
     ghost buffers: { (vec_len stored ≡ write.profile.page_size) × (vec_len plain ≡ usable write.profile) },
-    ghost begins: { HasMagic changed.held },
+    ghost begins: { is_plain write.profile ≡ false → HasMagic changed.held },
     ghost long: { 16 ≤ usable write.profile },
     ghost journal: { (writer.page_size ≡ write.profile.page_size) × (writer.initial ≡ count) },
     ghost marks: { length written ≡ count },
 }
-
-/// What page 1 begins with (SQLite file format, section 1.3.1).
-const MAGIC: [u8; 16] = *b"SQLite format 3\0";
 
 /// Whether both codecs have pages of one length, one reserve and one salt.
 pub fn is_same_layout(read: &Codec, write: &Codec) -> bool
@@ -349,6 +346,8 @@ impl<'d, D: Disk, E: Entropy> Txn<'d, D, E> {
         ensures later { (D.faults self.old.disk.now ≤ D.faults self.new.disk.now) × (E.faults self.old.entropy.now ≤ E.faults self.new.entropy.now) }
         ensures file { (self.new.read ≡ self.old.read) × (self.new.write ≡ self.old.write) × (self.new.count ≡ self.old.count) }
     {
+        let _read = self.read.profile();
+        let _write = self.write.profile();
         self.read_in(n)?;
         self.make_room()?;
         self.place(n);
@@ -360,7 +359,7 @@ impl<'d, D: Disk, E: Entropy> Txn<'d, D, E> {
         requires number { (1 ≤ n) × (n ≤ self.old.count) }
         requires free { is_held n self.old.changed.held ≡ false }
         requires room { length self.old.changed.numbers < self.old.changed.frames }
-        ensures bytes { (n ≡ 1 → take 16 self.old.plain.items ≡ magic) → (m : ℕ) → bytes_at m self.new.changed.held ≡ (if m == n then Some self.old.plain.items else bytes_at m self.old.changed.held) }
+        ensures bytes { (n ≡ 1 → is_plain self.old.write.profile ≡ false → take 16 self.old.plain.items ≡ magic) → (m : ℕ) → bytes_at m self.new.changed.held ≡ (if m == n then Some self.old.plain.items else bytes_at m self.old.changed.held) }
         ensures listed { (m : ℕ) → is_held m self.new.changed.held ≡ (if m == n then true else is_held m self.old.changed.held) }
         ensures held { is_held n self.new.changed.held ≡ true }
         ensures sizes { (self.new.changed.frames ≡ self.old.changed.frames) × (self.new.changed.usable ≡ self.old.changed.usable) × (self.new.changed.pages ≡ self.old.changed.pages) }
@@ -370,7 +369,10 @@ impl<'d, D: Disk, E: Entropy> Txn<'d, D, E> {
         ensures file { (self.new.read ≡ self.old.read) × (self.new.write ≡ self.old.write) × (self.new.count ≡ self.old.count) }
     {
         self.changed.bring(n, &self.plain);
-        if n == 1 {
+        if n > 1 {
+            return;
+        }
+        if !self.write.profile().is_plain() {
             self.changed.put(1, 0, &MAGIC);
         }
     }

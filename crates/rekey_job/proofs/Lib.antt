@@ -1,6 +1,5 @@
 pub mod Checked
 pub mod Stopped
-pub mod Salt
 pub mod Rewriting
 pub mod Renewed
 pub mod Committed

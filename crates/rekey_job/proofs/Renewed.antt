@@ -8,7 +8,10 @@ use Rattle.edge_model.specs.Files.{File, Files, bytes_of}
 use Rattle.edge_model.specs.Images.{LeavesOnly}
 use Rattle.btree_model.specs.Plain.{is_leaf, with_zeros}
 use Rattle.db_format.specs.Header.{header_read}
+use Rattle.cipher_profile.specs.Profile.{IsListed, is_plain}
+use Rattle.cipher_profile.specs.declared.profile.Profile.{Profile}
 use Rattle.page_codec.specs.Page.{FileKeys, accepts, opened, salt_of, sealed}
+use Rattle.page_codec.proofs.Parts.{opened_plain_file}
 use Rattle.pager.specs.Base.{base_of, is_some_of}
 use Rattle.pager.specs.Changed.{same_layout}
 use Rattle.pager.specs.Database.{count_by, count_of, counted}
@@ -16,7 +19,7 @@ use Rattle.pager.specs.File.{page_stored}
 use Rattle.pager.specs.Pages.{is_number, opened_pages}
 use Rattle.pager.specs.UnderWay.{HasNewPages}
 use Rattle.pager.proofs.BatchLemmas.{number_in, number_is}
-use Rattle.pager.proofs.TxnLemmas.{layout_same}
+use Rattle.pager.proofs.TxnLemmas.{ciphered_alike, layout_same}
 use Rattle.pager.proofs.UnderWayLemmas.{opened_at}
 use Rattle.pager.proofs.WholeReads.{page_end}
 use Rattle.rollback_journal.specs.Playing.{contents, main_of}
@@ -26,11 +29,11 @@ use Rattle.transaction.specs.Database.{Base, HoldsEither, stored_page, stored_pa
 use Rattle.transaction.specs.Draws.{draw_at}
 use Rattle.transaction.specs.Facts.{IsBase}
 use Rattle.transaction.proofs.Pages.{same_pages}
-use Rattle.rekey_job.specs.Draws.{FileDraws}
+use Rattle.rekey_job.specs.Draws.{AreDrawn, FileDraws}
 use Rattle.rekey_job.specs.Rekeyed.{IsRekeyed}
 use Rattle.rekey_job.specs.Stops.{AreClean}
 use Rattle.rekey_job.proofs.Checked.{first_used}
-use Rattle.rekey_job.proofs.Salt.{salt_stands}
+use Rattle.page_codec.proofs.Salt.{salt_stands}
 
 -- ---- what a transaction starts from
 
@@ -118,6 +121,17 @@ cut_pages count size main long =
 
 -- ---- the layout
 
+-- a file that is plain under the new keys was so under the old ones
+pub plain_alike : (read write : Profile) → IsListed read → IsListed write → (write.page_size ≡ read.page_size) × (write.reserve ≡ read.reserve)
+    → is_plain write ≡ true → is_plain read ≡ true
+plain_alike read write read_listed write_listed same plain = by_kind (is_plain read) refl
+  where
+    by_kind : (b : Bool) → is_plain read ≡ b → b ≡ true
+    by_kind true is = refl
+    by_kind false ciphered =
+        let both : false ≡ true = sym (ciphered_alike write read write_listed read_listed (sym same.0) (sym same.1) ciphered) ∙ plain in
+        cc
+
 pub same_salt : (read write : FileKeys) → same_layout read write ≡ true → write.salt ≡ read.salt
 same_salt read write is = search (rules, is)
 
@@ -129,7 +143,8 @@ IsResealed keys write count old tells drawn file = IsRekeyed keys write count ol
 
 module _ (keys write : FileKeys) (count : ℕ) (old : List ℕ) (tells : Bool) (before after : List ℕ) (layout : same_layout keys write ≡ true) (some : 1 ≤ count) (room : 16 ≤ keys.profile.page_size)
     (salt : keys.salt ≡ salt_of old) (clean : AreClean (opened_pages keys old count))
-    (base : IsBase (base_of keys old count)) (was : (base_of keys old count).counts (length old) ≡ true) where
+    (base : IsBase (base_of keys old count)) (was : (base_of keys old count).counts (length old) ≡ true)
+    (alike : is_plain write.profile ≡ true → is_plain keys.profile ≡ true) where
   abbrev plain : ℕ → List ℕ
   plain = (with_zeros (opened_pages keys old count)).page
 
@@ -173,13 +188,25 @@ module _ (keys write : FileKeys) (count : ℕ) (old : List ℕ) (tells : Bool) (
     main_long = subst (λ (s : ℕ). count * s ≤ length main) sizes.0
         (last_whole count write.profile.page_size main some (omega (arith, sizes.0, room)) (has.whole count (number_is count count some (omega arith)) refl))
 
+    -- the first bytes of a file are those of its page 1
+    starts : (keys : FileKeys) (file : List ℕ) → 16 ≤ keys.profile.page_size → take 16 file ≡ take 16 (page_stored keys file 1)
+    starts keys file within =
+        sym (take-take 16 keys.profile.page_size file within)
+        ∙ ap (λ (at : ℕ). take 16 (take keys.profile.page_size (drop at file))) {x = 0} {y = (1 - 1) * keys.profile.page_size} (omega arith)
+
+    -- they stay: of an encrypted file they are the salt, and of a plain one the page is its own sealed page
     main_salt : take 16 main ≡ salt_of old
-    main_salt =
-        sym (take-take 16 write.profile.page_size main (omega (arith, sizes.0, room)))
-        ∙ ap (λ (at : ℕ). take 16 (take write.profile.page_size (drop at main))) {x = 0} {y = (1 - 1) * write.profile.page_size} (omega arith)
-        ∙ ap (λ (l : List ℕ). take 16 l) (has.own.is_sealed 1 (sealed_at 1 one))
-        ∙ salt_stands write (plain 1) (draw_at write.profile.reserve (has.own.place 1) has.draws) salt_long
-        ∙ same_salt keys write layout ∙ salt
+    main_salt = starts write main (omega (arith, sizes.0, room)) ∙ by_kind (is_plain write.profile) refl
+      where
+        by_kind : (b : Bool) → is_plain write.profile ≡ b → take 16 (page_stored write main 1) ≡ salt_of old
+        by_kind true is =
+            ap (λ (l : List ℕ). take 16 l) (sym (opened_plain_file write 1 (page_stored write main 1) is) ∙ first_opened
+            ∙ opened_plain_file keys 1 (page_stored keys old 1) (alike is))
+            ∙ sym (starts keys old room)
+        by_kind false ciphered =
+            ap (λ (l : List ℕ). take 16 l) (has.own.is_sealed 1 (sealed_at 1 one))
+            ∙ salt_stands write (plain 1) (draw_at write.profile.reserve (has.own.place 1) has.draws) ciphered salt_long
+            ∙ same_salt keys write layout ∙ salt
 
     -- a file with its pages, which counts them
     with_pages : (file : List ℕ) → ((n : ℕ) → is_number count n ≡ true → page_stored write file n ≡ page_stored write main n) → take 16 file ≡ take 16 main
@@ -221,7 +248,7 @@ module _ (keys write : FileKeys) (count : ℕ) (old : List ℕ) (tells : Bool) (
     cut_same = sym (cut_pages count keys.profile.page_size main main_long)
 
     pub own_draws : IsTrue tells → FileDraws write main (is_number count) 0 (drop (length before) after)
-    own_draws told = subst (λ (l : List ℕ). FileDraws write main (is_number count) 0 l) (sym drawn) (record {
+    own_draws told ciphered = subst (λ (l : List ℕ). AreDrawn write main (is_number count) 0 l) (sym drawn) (record {
       place = has.own.place;
       later = λ n num. has.own.later n (sealed_at n num);
       within = λ n num. has.own.within n (sealed_at n num);
@@ -233,8 +260,8 @@ module _ (keys write : FileKeys) (count : ℕ) (old : List ℕ) (tells : Bool) (
         drawn = ap (λ (l : List ℕ). drop (length before) l) (has.since told) ∙ drop-append_seam before has.draws
 
     pub cut_draws : IsTrue tells → FileDraws write cut (is_number count) 0 (drop (length before) after)
-    cut_draws told =
-        let own = own_draws told in
+    cut_draws told ciphered =
+        let own = own_draws told ciphered in
         record {
           place = own.place;
           later = own.later;

@@ -121,5 +121,7 @@ fn rekey_clean<'d, D: Disk, E: Entropy>(
     ensures disk_later { D.faults pager.entry.disk.now ≤ D.faults result.0.now }
     ensures entropy_later { E.faults pager.entry.entropy.now ≤ E.faults result.1.now }
 {
+    let _old = pager.codec().profile();
+    let _new = write.profile();
     rewrite_pages(alloc, pager, write, leaves)
 }

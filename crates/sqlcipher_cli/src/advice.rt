@@ -3,6 +3,7 @@ use crate::failure::{Conflict, Failure, Shown};
 use crate::folder::Folder;
 use crate::key_words::{explain_new_key, remark_on};
 use crate::near::explain_names;
+use crate::plain::{self, is_plain_word};
 use crate::streams::InputSource;
 use crate::usage::explain_usage;
 use cipher_profile::probed_profiles;
@@ -21,9 +22,17 @@ const JOURNAL_THERE: &str =
     "a journal is there; if its file is too, then on a copy of both `recover 4` plays it back or removes it, or says with which \
     version `recover` does, as every other command does first";
 
-const KEY_MISSING: &str =
-    "standard input ended before the last key line, or the file of the first key has no line feed at its end: `rekey` and \
-    `migrate` take two, the old key and the new one, and the others one";
+const KEY_MISSING: &str = "standard input ended before the key line: this command takes one";
+
+const NEW_KEY_MISSING: &str =
+    "standard input ended before the key line: from a plain file one is taken, the new key";
+
+const OLD_KEY_MISSING: &str =
+    "standard input ended before the key line: to a plain file one is taken, the old key";
+
+const TWO_KEYS_MISSING: &str =
+    "standard input ended before the last key line, or the file of the first key has no line feed at its end: this command takes two, \
+    the old key and the new one";
 
 const KEY_EMPTY: &str = "a key line is empty";
 
@@ -53,8 +62,6 @@ const TAGS_REFUSED: &str =
 
 const OTHER_JOURNAL: &str =
     "the journal may have been another file's, and its pages then stand in this one: a copy made before is the way back";
-
-const NOT_ENCRYPTED: &str = "the file begins with `SQLite format 3`: it is not encrypted";
 
 const CHANGED_MEANWHILE: &str =
     "another program wrote to the file meanwhile, so this answer is on no one state of it";
@@ -114,6 +121,7 @@ pub fn explain(rt: &HostRuntime, run: &Ended, input: &InputSource, folder: &mut 
 // What to do about somebody else at the files.
 fn explain_conflict(rt: &HostRuntime, run: &Ended) {
     let advice = match run.conflict() {
+        Some(Conflict::Log) if is_plain_word(run.version()) => plain::LOG,
         Some(Conflict::Log) => {
             "open and close the database with the program that wrote it, or copy FILE and FILE-wal together and do so there; \
             a log that is another file's has to be moved away"
@@ -221,7 +229,7 @@ fn explain_status(rt: &HostRuntime, run: &Ended, input: &InputSource, folder: &m
         Status::Usage => explain_usage(rt, run.words),
         Status::OutOfMemory => say(rt, OUT_OF_MEMORY),
         Status::KeyRefused => explain_key(rt, run, input, folder),
-        Status::Refused(refusal) => explain_refusal(rt, run, refusal, folder.deeds.laid > 0),
+        Status::Refused(refusal) => explain_refusal(rt, run, refusal, folder),
         _ => {}
     }
 }
@@ -238,8 +246,10 @@ pub fn explain_salvaged(rt: &HostRuntime, counts: &str) {
 }
 
 fn explain_key(rt: &HostRuntime, run: &Ended, input: &InputSource, folder: &mut Folder) {
-    if folder.is_plain() {
-        say(rt, NOT_ENCRYPTED);
+    if is_plain_word(run.version()) {
+        say(rt, plain::NO_MAGIC);
+    } else if let Some(head) = folder.plain_head() {
+        plain::explain_unencrypted(rt, head);
     } else if let Some(words) = remark_on(&input.line) {
         say(rt, words);
     } else if run.words.first() == Some(&"probe") {
@@ -260,7 +270,8 @@ fn explain_key(rt: &HostRuntime, run: &Ended, input: &InputSource, folder: &mut 
     } else {
         let version = run.version();
         let order = match run.words {
-            ["rekey" | "migrate", ..] => " The first line is the old key.",
+            ["rekey", ..] => " The first line is the old key.",
+            ["migrate", _, new] if !is_plain_word(new) => " The first line is the old key.",
             _ => "",
         };
         say(
@@ -274,31 +285,81 @@ fn explain_key(rt: &HostRuntime, run: &Ended, input: &InputSource, folder: &mut 
     }
 }
 
-fn explain_refusal(rt: &HostRuntime, run: &Ended, refusal: Refusal, is_played: bool) {
+fn explain_refusal(rt: &HostRuntime, run: &Ended, refusal: Refusal, folder: &mut Folder) {
+    if is_plain_word(run.version()) && is_plain_explained(rt, run.version(), refusal, folder) {
+        return;
+    }
+    match refusal {
+        Refusal::KeyMissing => say(rt, missing_key(run.words)),
+        Refusal::LayoutDiffers => say(rt, other_layout(run.words)),
+        Refusal::NoTable => explain_names(rt, run.words, run.near.as_slice()),
+        Refusal::JournalPageSize { found } => explain_journal(rt, run.version(), found, folder),
+        Refusal::WalMode | Refusal::AutoVacuum => explain_mode(rt, run.version()),
+        _ => explain_briefly(rt, run.words, refusal, folder.deeds.laid > 0),
+    }
+}
+
+// A refusal of which always the same is said.
+fn explain_briefly(rt: &HostRuntime, asked: &[&str], refusal: Refusal, is_played: bool) {
     let words = match refusal {
-        Refusal::KeyMissing => KEY_MISSING,
         Refusal::KeyEmpty => KEY_EMPTY,
         Refusal::KeyTooLong => KEY_TOO_LONG,
         Refusal::KeyForm => KEY_WITH_SALT,
-        Refusal::LayoutDiffers => LAYOUT_DIFFERS,
         Refusal::FileThere => FILE_THERE,
-        Refusal::NoTable => return explain_names(rt, run.words, run.near.as_slice()),
         Refusal::JournalThere => JOURNAL_THERE,
-        Refusal::JournalPageSize { found } => return explain_journal_pages(rt, found),
         Refusal::SuperJournal => SUPER_JOURNAL,
         Refusal::Short { .. } => SHORT,
         Refusal::Ragged { .. } => RAGGED,
-        Refusal::WalMode | Refusal::AutoVacuum => return explain_mode(rt, run.version()),
         // After a playback it was said already what it may be.
         Refusal::PageTag { .. } | Refusal::Defect(_) if is_played => return,
-        Refusal::PageTag { .. } if run.words.first() == Some(&"tags") => TAGS_REFUSED,
+        Refusal::PageTag { .. } if asked.first() == Some(&"tags") => TAGS_REFUSED,
         Refusal::PageTag { .. } | Refusal::Defect(_) => DAMAGED,
         _ => return,
     };
     say(rt, words);
 }
 
-// A journal whose pages have another size than those of the version that was given.
+// What two profiles are whose pages differ, or of which one has no key.
+fn other_layout(words: &[&str]) -> &'static str {
+    if words.iter().any(|word| is_plain_word(word)) {
+        plain::NO_KEY
+    } else {
+        LAYOUT_DIFFERS
+    }
+}
+
+// How many key lines were to come, and which. A plain file has none.
+fn missing_key(words: &[&str]) -> &'static str {
+    match words {
+        ["migrate", ..] if plain::encrypts(words) => NEW_KEY_MISSING,
+        ["migrate", ..] if plain::decrypts(words) => OLD_KEY_MISSING,
+        ["rekey" | "migrate", ..] => TWO_KEYS_MISSING,
+        _ => KEY_MISSING,
+    }
+}
+
+// Whether a refusal of a plain file was explained otherwise than one of an encrypted file. The word is that of its profile.
+fn is_plain_explained(rt: &HostRuntime, word: &str, refusal: Refusal, folder: &mut Folder) -> bool {
+    match refusal {
+        Refusal::NoTags => say(rt, plain::NO_TAGS),
+        Refusal::HeaderFault { offset, found } => plain::explain_header(rt, offset, found),
+        Refusal::WalMode => plain::explain_log_mode(rt),
+        Refusal::AutoVacuum => plain::explain_vacuum(rt),
+        Refusal::Short { .. } => return plain::explain_other_size(rt, word, folder.plain_head()),
+        _ => return false,
+    }
+    true
+}
+
+// A journal whose pages have another size than those of the version that was given: of a plain file or of an encrypted one.
+fn explain_journal(rt: &HostRuntime, version: &str, found: u32, folder: &mut Folder) {
+    if is_plain_word(version) || folder.plain_head().is_some() {
+        plain::explain_journal(rt, found);
+    } else {
+        explain_journal_pages(rt, found);
+    }
+}
+
 fn explain_journal_pages(rt: &HostRuntime, found: u32) {
     let beside = "the journal beside the file has pages of another size";
     let unwritten = "nothing was written";
@@ -370,11 +431,16 @@ fn explain_taken(rt: &HostRuntime, run: &Ended, folder: &Folder) {
             format_args!("{path}: it is the new one; its journal was of no more use"),
         );
     } else if folder.deeds.is_played_back {
+        let version = run.version();
+        let by = if is_plain_word(version) {
+            ""
+        } else {
+            " with the old key"
+        };
         say(
             rt,
             format_args!(
-                "{path}: it is the old one again, and nothing more was written: `verify {}` it with the old key",
-                run.version()
+                "{path}: it is the old one again, and nothing more was written: `verify {version}` it{by}"
             ),
         );
     } else {
@@ -399,6 +465,9 @@ fn explain_either(rt: &HostRuntime, run: &Ended, folder: &Folder) {
     }
     let version = run.version();
     match run.words {
+        ["migrate", old, new] if is_plain_word(old) || is_plain_word(new) => plain::explain_which(
+            rt, old, new,
+        ),
         ["rekey" | "migrate", ..] => say(
             rt,
             format_args!(

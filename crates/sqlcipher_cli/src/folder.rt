@@ -14,6 +14,7 @@ use crate::failure::{Conflict, Failure, called};
 use crate::identity::Mark;
 use crate::lock_table::{LockTable, Sight};
 use crate::paths::Paths;
+use crate::plain::{MAGIC, PlainHead, warn_of_clear_rows};
 use crate::progress::Progress;
 use crate::role_file::RoleFile;
 use crate::undo::Undo;
@@ -76,6 +77,8 @@ pub struct Folder<'a> {
     /// When the next look at the table is due; none where it is due at once.
     due: Option<Instant>,
     pub deeds: Deeds,
+    /// Whether the new file is to hold in the clear what Main holds encrypted, and this was not said yet.
+    pub is_decrypting: bool,
 }
 
 impl<'a> Folder<'a> {
@@ -117,6 +120,7 @@ impl<'a> Folder<'a> {
                 other: None,
                 has_log: false,
             },
+            is_decrypting: false,
         })
     }
 
@@ -191,7 +195,10 @@ impl<'a> Folder<'a> {
         match role {
             Role::Main => self.main.create(self.rt, model.as_ref()),
             Role::Journal => self.create_journal(model.as_ref()),
-            Role::Fresh => self.fresh.create(self.rt, model.as_ref()),
+            Role::Fresh => {
+                self.warn_of_clear_rows();
+                self.fresh.create(self.rt, model.as_ref())
+            }
         }
     }
 
@@ -432,6 +439,15 @@ impl<'a> Folder<'a> {
         Ok(())
     }
 
+    // Once, before the first row is written.
+    fn warn_of_clear_rows(&mut self) {
+        if self.is_decrypting {
+            self.is_decrypting = false;
+            self.progress.clear();
+            warn_of_clear_rows(self.rt, self.main.path());
+        }
+    }
+
     // Only what a stop has left of an earlier new file is removed.
     fn clear_fresh(&mut self) -> Result<(), Failure<'a>> {
         if self.fresh.length(self.rt)?.is_some() && !self.fresh.is_unfinished(self.rt)? {
@@ -524,12 +540,16 @@ impl<'a> Folder<'a> {
         }
     }
 
-    /// Whether Main begins as SQLite's files do that are not encrypted.
-    pub fn is_plain(&mut self) -> bool {
-        let mut bytes = [0u8; 15];
-        match self.main.read_at(self.rt, 0, &mut bytes) {
-            Ok(_) => bytes[..] == b"SQLite format 3"[..],
-            Err(_) => false,
+    /// What Main says of its pages, where it begins as SQLite's files do that are not encrypted.
+    pub fn plain_head(&mut self) -> Option<PlainHead> {
+        let mut bytes = [0u8; 21];
+        self.main.read_at(self.rt, 0, &mut bytes).ok()?;
+        if bytes[..16] != MAGIC[..] {
+            return None;
         }
+        Some(PlainHead {
+            field: u32::from(bytes[16]) << 8 | u32::from(bytes[17]),
+            reserve: bytes[20],
+        })
     }
 }

@@ -2,10 +2,10 @@
 
 /// The text of `--help`.
 pub const HELP: &str = "\
-sqlcipher-tool checks SQLCipher database files, prints their rows, plays back the
-journal that a stop has left, sets two numbers of their header, changes their key,
-and writes their database anew in another version. It writes nothing else to them.
-It also makes databases of any number of rows.
+sqlcipher-tool checks SQLCipher and plain SQLite database files, prints their rows,
+plays back the journal that a stop has left, sets two numbers of their header,
+changes their key, and writes their database anew in another version, encrypted or
+plain. It writes nothing else to them. It also makes databases of any number of rows.
 
 usage: sqlcipher-tool FILE COMMAND [PROFILE [PROFILE | N | FIELD N | NAME LOW HIGH]] < KEYS
        sqlcipher-tool --help | -h | help | --version
@@ -45,6 +45,8 @@ commands
   migrate PROFILE PROFILE
                   write the database anew in the second profile, under the second
                   key, and put it in the file's place; prints `migrated: N pages`.
+                  From plain:SIZE it encrypts. To plain:SIZE it decrypts: every row
+                  is then in the clear, and the old pages may stay on the device.
                   A stop at any moment leaves the old file or the new one.
                   The new one is FILE-migrated until it is done. What a stop leaves
                   there is of no use, and the next run removes it; any other file
@@ -68,9 +70,12 @@ profiles
                   4 alone has pages of 4096 bytes, and can be written 4:4096. The
                   size stands in the encrypted part of the file alone: where it is
                   another one the key is refused, and `probe` finds it
+  plain:SIZE      a plain SQLite file with pages of SIZE bytes: plain:512 to
+                  plain:65536, as plain:4096. It has no key and no tags, so `tags`
+                  and `rekey` refuse it. `header plain:4096` names another size
 
-standard input: one line, the key, but for `recover`; for `rekey` and `migrate`
-two, the old key and the new one
+standard input: a line for each version in the words, its key, the old one first;
+one for `probe`; none for `recover` and none for plain:SIZE
   x'HEX'          a raw key, 64 hex digits
   anything else   a passphrase, 1 to 1,024 bytes up to the line feed
 `rekey`, `migrate` and `make` say which of the two the new key was taken as, and
@@ -97,6 +102,7 @@ examples, on a file FILE
   IFS= read -rs KEY && printf '%s\\n' \"$KEY\" | sqlcipher-tool FILE tags 4
   cat OLD_KEYFILE NEW_KEYFILE | sqlcipher-tool FILE rekey 4 4
   cat KEYFILE KEYFILE | sqlcipher-tool FILE migrate 3 4
+  sqlcipher-tool FILE migrate plain:4096 4 < NEW_KEYFILE
 ";
 
 /// The text of `--version`.

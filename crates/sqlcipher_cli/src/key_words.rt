@@ -1,6 +1,7 @@
 // Remarks on key lines. No byte of a key is printed.
 use crate::advice::say;
 use crate::key_line::KeyLine;
+use crate::plain::{OLD_ROWS, encrypts, is_plain_word};
 use crate::streams::InputSource;
 
 const BARE_KEY: &str =
@@ -78,13 +79,22 @@ pub fn explain_new_key(rt: &HostRuntime, words: &[&str], input: &InputSource) {
                 say(rt, SAME_KEY);
             }
         }
-        ["migrate", _, new] => {
-            explain_line(rt, &input.second);
+        ["migrate", old, new] if !is_plain_word(new) => {
+            // A plain file has no key, so the first line is the new one's.
+            let line = if is_plain_word(old) {
+                &input.line
+            } else {
+                &input.second
+            };
+            explain_line(rt, line);
+            if encrypts(words) {
+                say(rt, OLD_ROWS);
+            }
             if *new == "1" {
                 say(rt, VERSION_1);
             }
         }
-        ["make", ..] => explain_line(rt, &input.line),
+        ["make", new, ..] if !is_plain_word(new) => explain_line(rt, &input.line),
         _ => return,
     }
     if input.goes_on() {

@@ -22,6 +22,7 @@ mod key_words;
 mod lock_table;
 mod near;
 mod paths;
+mod plain;
 mod progress;
 mod role_file;
 mod streams;
@@ -35,6 +36,7 @@ use failure::failed;
 use folder_disk::FolderDisk;
 use near::names_near;
 use paths::Paths;
+use plain::decrypts;
 use progress::Progress;
 use sqlcipher_tool::{Refusal, Status, run};
 use std::alloc::{AllocError, Global};
@@ -188,6 +190,7 @@ fn serve(rt: &HostRuntime, file: &str, words: &[&str]) -> Status
     let Ok(mut disk) = FolderDisk::new(rt, &paths, &progress, is_probe) else {
         return out_of_memory(rt);
     };
+    disk.folder.is_decrypting = decrypts(words);
     let mut input = InputSource::new(rt);
     let mut out = OutputSink::new(rt, &progress);
     let mut entropy = DeviceEntropy::new(rt);

@@ -3,8 +3,9 @@ use crate::advice::say;
 use crate::failure::Shown;
 use crate::folder_disk::FolderDisk;
 use crate::key_line::{KeptLine, KeyLine};
+use crate::plain::is_plain_word;
 use crate::streams::DeviceEntropy;
-use cipher_profile::read_key;
+use cipher_profile::{Secret, read_key};
 use schema_names::{NearName, SchemaKind};
 use sqlcipher_tool::near_names;
 use std::str;
@@ -22,7 +23,12 @@ pub fn names_near(
     entropy: &mut DeviceEntropy,
     disk: &mut FolderDisk,
 ) -> Option<Vec<NearName>> {
-    let secret = read_key(&mut KeptLine::new(line)).ok()?;
+    let version = words.get(1).copied().unwrap_or("");
+    let secret = if is_plain_word(version) {
+        Secret::NoKey
+    } else {
+        read_key(&mut KeptLine::new(line)).ok()?
+    };
     near_names(rt.alloc(), words, &secret, entropy, disk).ok()
 }
 

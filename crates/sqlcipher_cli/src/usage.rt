@@ -52,7 +52,8 @@ fn explain_reader(rt: &HostRuntime, name: &str, words: &[&str]) {
         [] => say(
             rt,
             format_args!(
-                "`{name}` takes the version that wrote the file, 1, 2, 3 or 4, which `probe` finds; --help lists the commands"
+                "`{name}` takes the version that wrote the file, 1, 2, 3 or 4, which `probe` finds, or of a plain file plain:SIZE; --help lists \
+                the commands"
             ),
         ),
         _ => say(
@@ -70,7 +71,7 @@ fn explain_pair(rt: &HostRuntime, name: &str, words: &[&str]) {
         _ => say(
             rt,
             format_args!(
-                "`{name}` takes two versions, that of the file, which `probe` finds, and that of the new key; --help lists the commands"
+                "`{name}` takes two versions, that of the file, which `probe` finds, and that of the new one; --help lists the commands"
             ),
         ),
     }
@@ -86,8 +87,17 @@ fn explain_form(rt: &HostRuntime, version: Option<&&str>, form: &str) {
 
 fn explain_version(rt: &HostRuntime, word: &str) {
     let is_sized = word.starts_with("4:");
+    let is_plain = word.starts_with("plain");
     let word = Shown(word);
-    if is_sized {
+    if is_plain {
+        say(
+            rt,
+            format_args!(
+                "`{word}` is no version: the pages of plain files have 512, 1024, 2048, 4096, 8192, 16384, 32768 or 65536 bytes, as \
+                plain:4096; --help lists the commands"
+            ),
+        );
+    } else if is_sized {
         say(
             rt,
             format_args!(
@@ -99,7 +109,8 @@ fn explain_version(rt: &HostRuntime, word: &str) {
         say(
             rt,
             format_args!(
-                "`{word}` is no version: there are 1, 2, 3, 4 and 4:SIZE, and `probe` finds that of a file; --help lists the commands"
+                "`{word}` is no version: there are 1, 2, 3, 4 and 4:SIZE, and `probe` finds that of a file; plain files are plain:SIZE; --help \
+                lists the commands"
             ),
         );
     }

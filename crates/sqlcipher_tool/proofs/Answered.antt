@@ -1,6 +1,7 @@
 -- What a command answers, and which databases it keeps.
-use Rattle.std.proofs.Common.{◌≡◌, ◌≢◌, ◌⊎◌, ⊎_elim, inl, inr, ℕ, zero, suc, Bool, IsTrue, List, [], ◌∷◌, length, ◌<◌, ◌*◌, Result, Ok, Err, refl, sym, ap, ◌∙◌, subst, arith}
+use Rattle.std.proofs.Common.{◌≡◌, ◌≢◌, ◌⊎◌, ⊎_elim, inl, inr, ℕ, suc, Bool, IsTrue, List, [], ◌∷◌, length, ◌<◌, ◌*◌, Result, Ok, Err, refl, sym, ap, ◌∙◌, subst, arith}
 use Rattle.std.specs.List.{Contains}
+use Rattle.std.specs.Prelude.{IsErr}
 use Rattle.edge_model.specs.Files.{Files}
 use Rattle.edge_model.specs.Images.{Each, From}
 use Rattle.rollback_journal.specs.Recovery.{Recovers, Keeps as KeepsRecovered}
@@ -8,19 +9,18 @@ use Rattle.cipher_profile.specs.declared.key_line.KeyError.{KeyError}
 use Rattle.cipher_profile.specs.declared.keys.Secret.{Secret}
 use Rattle.cipher_profile.specs.declared.key_line.KeyError.TheVariants.{KeyMissing, KeyEmpty, KeyTooLong, KeyForm, SourceFault}
 use Rattle.cipher_profile.specs.KeyCauses.{UnlessFault}
-use Rattle.cipher_profile.specs.KeyLine.{after_line, key_line}
 use Rattle.sqlcipher_tool.specs.Answer.{Answer, IsAnswer, IsAnswered, IsFault, IsKeyStatus, Puts, PutsPart}
 use Rattle.sqlcipher_tool.specs.Crash.{KeepsHeld}
-use Rattle.sqlcipher_tool.specs.Due.{and_secrets, key_answer, key_lines, keyed_answers, secret_answers}
+use Rattle.sqlcipher_tool.specs.Due.{and_secrets, key_answer, key_lines, keyed_answers, rest_line, secret_answers, secret_line}
 use Rattle.sqlcipher_tool.specs.declared.command.Command.{Command}
 use Rattle.sqlcipher_tool.specs.declared.command.Command.TheVariants.{Tags, Header, Verify, Export, Salvage, Find, Probe, Recover, Stamp, Rekey, Migrate, Make}
 use Rattle.sqlcipher_tool.specs.declared.job.Job.TheVariants.{Verify as VerifyPages, Export as ExportPages, Find as FindRows}
 use Rattle.sqlcipher_tool.specs.declared.status.Status.{Status}
 use Rattle.sqlcipher_tool.specs.declared.status.Status.TheVariants.{Done, Usage, Refused, KeyRefused, DiskFault, OutputFault, InputFault, EntropyFault, OutOfMemory}
 use Rattle.sqlcipher_tool.specs.Holding.{AreOfSize, DiskRun, Held, HoldsOneOf, HoldsOnly}
-use Rattle.sqlcipher_tool.specs.Promises.{AnswersOne, IsAnsweredEarly, PutsSo, TakesAtMost, TakesLines, after_lines, left_after}
+use Rattle.sqlcipher_tool.specs.Promises.{AnswersOne, IsAnsweredEarly, PutsSo, TakesAtMost, TakesLines, after_lines, left_after, lines_read}
 use Rattle.sqlcipher_tool.specs.Recovered.{recovered_main, recovery_of}
-use Rattle.sqlcipher_tool.specs.Words.{keys_taken}
+use Rattle.sqlcipher_tool.specs.Words.{asked_keys}
 use Rattle.sqlcipher_tool.proofs.Conclusions.{no_part}
 use Rattle.sqlcipher_tool.proofs.SomeDue.{after_some, make_some, migrated_some, recovered_some, rekeyed_some}
 
@@ -113,27 +113,28 @@ keys_err error = Err error
 rest_same : (one other : Secret) (xs ys : List Secret) → keys_ok (one ∷ xs) ≡ keys_ok (other ∷ ys) → xs ≡ ys
 rest_same one other xs ys is = cc
 
--- so many key lines give so many secrets
-pub lines_many : (n : ℕ) (left : List ℕ) (secrets : List Secret) → key_lines n left ≡ Ok secrets → length secrets ≡ n
-lines_many zero left secrets is = by_list secrets is
+-- as many secrets are given as are asked for
+pub lines_many : (asked : List Bool) (left : List ℕ) (secrets : List Secret) → key_lines asked left ≡ Ok secrets → length secrets ≡ length asked
+lines_many [] left secrets is = by_list secrets is
   where
-    by_list : (secrets : List Secret) → key_lines zero left ≡ Ok secrets → length secrets ≡ 0
+    by_list : (secrets : List Secret) → key_lines [] left ≡ Ok secrets → length secrets ≡ 0
     by_list [] is = refl
     by_list (secret ∷ rest) is = cc
-lines_many (suc more) left secrets is = by_line (key_line left) (key_lines more (after_line left)) (λ others gave. lines_many more (after_line left) others gave) secrets is
+lines_many (asks ∷ more) left secrets is =
+    by_line (secret_line asks left) (key_lines more (rest_line asks left)) (λ others gave. lines_many more (rest_line asks left) others gave) secrets is
   where
-    by_list : (secret : Secret) (others secrets : List Secret) → length others ≡ more → Ok (secret ∷ others) ≡ keys_ok secrets → length secrets ≡ suc more
+    by_list : (secret : Secret) (others secrets : List Secret) → length others ≡ length more → Ok (secret ∷ others) ≡ keys_ok secrets → length secrets ≡ suc (length more)
     by_list secret others [] many is = cc
     by_list secret others (other ∷ rest) many is = ap suc (ap length (sym (rest_same secret other others rest is)) ∙ many)
 
-    by_line : (line : Result Secret KeyError) (rest : Result (List Secret) KeyError) → ((others : List Secret) → rest ≡ Ok others → length others ≡ more) → (secrets : List Secret)
-        → and_secrets line rest ≡ Ok secrets → length secrets ≡ suc more
+    by_line : (line : Result Secret KeyError) (rest : Result (List Secret) KeyError) → ((others : List Secret) → rest ≡ Ok others → length others ≡ length more) → (secrets : List Secret)
+        → and_secrets line rest ≡ Ok secrets → length secrets ≡ suc (length more)
     by_line (Err error) rest many secrets is = cc
     by_line (Ok secret) (Err error) many secrets is = cc
     by_line (Ok secret) (Ok others) many secrets is = by_list secret others secrets (many others refl) is
 
 -- some answer is due to as many secrets as the command takes
-secrets_due : (command : Command) (secrets : List Secret) (files last : Files) → length secrets ≡ keys_taken command → 0 < length (secret_answers command secrets files last)
+secrets_due : (command : Command) (secrets : List Secret) (files last : Files) → length secrets ≡ length (asked_keys command) → 0 < length (secret_answers command secrets files last)
 secrets_due (Tags profile) [] files last is = absurd (omega (arith, is))
 secrets_due (Tags profile) (secret ∷ rest) files last is = omega arith
 secrets_due (Header profile) [] files last is = absurd (omega (arith, is))
@@ -160,7 +161,7 @@ secrets_due (Migrate old new) (first ∷ second ∷ rest) files last is = after_
 secrets_due (Make profile rows) [] files last is = absurd (omega (arith, is))
 secrets_due (Make profile rows) (secret ∷ rest) files last is = make_some profile rows files
 
-lines_due : (command : Command) (lines : Result (List Secret) KeyError) (files last : Files) → ((secrets : List Secret) → lines ≡ Ok secrets → length secrets ≡ keys_taken command)
+lines_due : (command : Command) (lines : Result (List Secret) KeyError) (files last : Files) → ((secrets : List Secret) → lines ≡ Ok secrets → length secrets ≡ length (asked_keys command))
     → 0 < length (keyed_answers command lines files last)
 lines_due command (Ok secrets) files last many = secrets_due command secrets files last (many secrets refl)
 lines_due command (Err error) files last many = omega arith
@@ -170,53 +171,53 @@ first_due [] some = absurd (omega (arith, some))
 first_due (answer ∷ rest) some = (answer, (0, omega arith, refl))
 
 -- where the input failed, nothing is printed
-pub unread_one : (command : Command) (n : ℕ) (left : List ℕ) (files last : Files) (tells : Bool) (before : List ℕ) → n ≡ keys_taken command
-    → AnswersOne (keyed_answers command (key_lines n left) files last) InputFault tells before before
-unread_one command n left files last tells before is =
-    let due = first_due (keyed_answers command (key_lines n left) files last) (lines_due command (key_lines n left) files last (λ secrets gave. lines_many n left secrets gave ∙ is)) in
+pub unread_one : (command : Command) (asked : List Bool) (left : List ℕ) (files last : Files) (tells : Bool) (before : List ℕ) → asked ≡ asked_keys command
+    → AnswersOne (keyed_answers command (key_lines asked left) files last) InputFault tells before before
+unread_one command asked left files last tells before is =
+    let due = first_due (keyed_answers command (key_lines asked left) files last) (lines_due command (key_lines asked left) files last (λ secrets gave. lines_many asked left secrets gave ∙ ap length is)) in
     record { answer = due.0; is_due = due.1; answered = inr tt; puts = λ printed. no_part due.0.begun before before refl }
 
 -- a key line gave no secret, or the input failed
-pub key_one : (command : Command) (n : ℕ) (left : List ℕ) (files last : Files) (error : KeyError) (status : Status) (tells : Bool) (before after : List ℕ) → n ≡ keys_taken command
-    → (error ≢ SourceFault → key_lines n left ≡ Err error)
+pub key_one : (command : Command) (asked : List Bool) (left : List ℕ) (files last : Files) (error : KeyError) (status : Status) (tells : Bool) (before after : List ℕ) → asked ≡ asked_keys command
+    → (error ≢ SourceFault → key_lines asked left ≡ Err error)
     → (error ≢ SourceFault → (status ≡ (key_answer error).status) ⊎ (status ≡ OutputFault))
     → (error ≢ SourceFault → IsTrue tells → Puts status (key_answer error).text before after)
-    → (error ≡ SourceFault → (status ≡ InputFault) × (after ≡ before)) → AnswersOne (keyed_answers command (key_lines n left) files last) status tells before after
-key_one command n left files last error status tells before after many is answered text failed = by_error error is answered text failed
+    → (error ≡ SourceFault → (status ≡ InputFault) × (after ≡ before)) → AnswersOne (keyed_answers command (key_lines asked left) files last) status tells before after
+key_one command asked left files last error status tells before after many is answered text failed = by_error error is answered text failed
   where
-    refused_one : (error : KeyError) → IsAnswer (key_answer error).status → key_lines n left ≡ Err error → (status ≡ (key_answer error).status) ⊎ (status ≡ OutputFault)
-        → (IsTrue tells → Puts status (key_answer error).text before after) → AnswersOne (keyed_answers command (key_lines n left) files last) status tells before after
+    refused_one : (error : KeyError) → IsAnswer (key_answer error).status → key_lines asked left ≡ Err error → (status ≡ (key_answer error).status) ⊎ (status ≡ OutputFault)
+        → (IsTrue tells → Puts status (key_answer error).text before after) → AnswersOne (keyed_answers command (key_lines asked left) files last) status tells before after
     refused_one error answer is answered text = subst (λ (lines : Result (List Secret) KeyError). AnswersOne (keyed_answers command lines files last) status tells before after) (sym is)
         (printed_one (key_answer error) status tells before after answer answered text)
 
-    by_error : (error : KeyError) → (error ≢ SourceFault → key_lines n left ≡ Err error) → (error ≢ SourceFault → (status ≡ (key_answer error).status) ⊎ (status ≡ OutputFault))
+    by_error : (error : KeyError) → (error ≢ SourceFault → key_lines asked left ≡ Err error) → (error ≢ SourceFault → (status ≡ (key_answer error).status) ⊎ (status ≡ OutputFault))
         → (error ≢ SourceFault → IsTrue tells → Puts status (key_answer error).text before after)
-        → (error ≡ SourceFault → (status ≡ InputFault) × (after ≡ before)) → AnswersOne (keyed_answers command (key_lines n left) files last) status tells before after
+        → (error ≡ SourceFault → (status ≡ InputFault) × (after ≡ before)) → AnswersOne (keyed_answers command (key_lines asked left) files last) status tells before after
     by_error KeyMissing is answered text failed = let other : KeyMissing ≢ SourceFault = λ e. cc in refused_one KeyMissing tt (is other) (answered other) (text other)
     by_error KeyEmpty is answered text failed = let other : KeyEmpty ≢ SourceFault = λ e. cc in refused_one KeyEmpty tt (is other) (answered other) (text other)
     by_error KeyTooLong is answered text failed = let other : KeyTooLong ≢ SourceFault = λ e. cc in refused_one KeyTooLong tt (is other) (answered other) (text other)
     by_error KeyForm is answered text failed = let other : KeyForm ≢ SourceFault = λ e. cc in refused_one KeyForm tt (is other) (answered other) (text other)
     by_error SourceFault is answered text failed =
         let both = failed refl in
-        subst (λ (s : Status). AnswersOne (keyed_answers command (key_lines n left) files last) s tells before after) (sym both.0)
-        (subst (λ (l : List ℕ). AnswersOne (keyed_answers command (key_lines n left) files last) InputFault tells before l) (sym both.1) (unread_one command n left files last tells before many))
+        subst (λ (s : Status). AnswersOne (keyed_answers command (key_lines asked left) files last) s tells before after) (sym both.0)
+        (subst (λ (l : List ℕ). AnswersOne (keyed_answers command (key_lines asked left) files last) InputFault tells before l) (sym both.1) (unread_one command asked left files last tells before many))
 
 -- so the answer came early
-pub key_early : (error : KeyError) (n : ℕ) (left : List ℕ) (status : Status) → (error ≢ SourceFault → key_lines n left ≡ Err error)
+pub key_early : (error : KeyError) (asked : List Bool) (left : List ℕ) (status : Status) → (error ≢ SourceFault → key_lines asked left ≡ Err error)
     → (error ≢ SourceFault → (status ≡ (key_answer error).status) ⊎ (status ≡ OutputFault)) → (error ≡ SourceFault → status ≡ InputFault)
-    → (other : KeyError) → key_lines n left ≡ Err other → IsAnsweredEarly status (key_answer other)
-key_early error n left status is answered failed other other_is = by_error error is answered failed
+    → (other : KeyError) → key_lines asked left ≡ Err other → IsAnsweredEarly status (key_answer other)
+key_early error asked left status is answered failed other other_is = by_error error is answered failed
   where
-    same : (one : KeyError) → key_lines n left ≡ Err one → one ≡ other
+    same : (one : KeyError) → key_lines asked left ≡ Err one → one ≡ other
     same one is = err_is (sym is ∙ other_is)
       where
         err_is : keys_err one ≡ keys_err other → one ≡ other
         err_is e = cc
 
-    refused_one : (error : KeyError) → key_lines n left ≡ Err error → (status ≡ (key_answer error).status) ⊎ (status ≡ OutputFault) → IsAnsweredEarly status (key_answer other)
+    refused_one : (error : KeyError) → key_lines asked left ≡ Err error → (status ≡ (key_answer error).status) ⊎ (status ≡ OutputFault) → IsAnsweredEarly status (key_answer other)
     refused_one error is answered = ⊎_elim (λ one. inl (one ∙ ap (λ (e : KeyError). (key_answer e).status) (same error is))) (λ out. inr (inl out)) answered
 
-    by_error : (error : KeyError) → (error ≢ SourceFault → key_lines n left ≡ Err error) → (error ≢ SourceFault → (status ≡ (key_answer error).status) ⊎ (status ≡ OutputFault))
+    by_error : (error : KeyError) → (error ≢ SourceFault → key_lines asked left ≡ Err error) → (error ≢ SourceFault → (status ≡ (key_answer error).status) ⊎ (status ≡ OutputFault))
         → (error ≡ SourceFault → status ≡ InputFault) → IsAnsweredEarly status (key_answer other)
     by_error KeyMissing is answered failed = let no : KeyMissing ≢ SourceFault = λ e. cc in refused_one KeyMissing (is no) (answered no)
     by_error KeyEmpty is answered failed = let no : KeyEmpty ≢ SourceFault = λ e. cc in refused_one KeyEmpty (is no) (answered no)
@@ -225,23 +226,23 @@ key_early error n left status is answered failed other other_is = by_error error
     by_error SourceFault is answered failed = inr (inr (failed refl))
 
 -- and no line more was taken
-pub takes_key : (error : KeyError) (n : ℕ) (status : Status) (before after : List ℕ) → IsKeyStatus status → (error ≡ SourceFault → status ≡ InputFault)
-    → (error ≢ SourceFault → after ≡ after_lines n before) → TakesAtMost (1025 * n) before after → TakesLines status n before after
-takes_key error n Done before after is failed rest most = absurd is
-takes_key error n Usage before after is failed rest most = absurd is
-takes_key error n (Refused refusal) before after is failed rest most = rest (λ e. never (failed e))
+pub takes_key : (error : KeyError) (asked : List Bool) (status : Status) (before after : List ℕ) → IsKeyStatus status → (error ≡ SourceFault → status ≡ InputFault)
+    → (error ≢ SourceFault → after ≡ after_lines asked before) → TakesAtMost (1025 * lines_read asked) before after → TakesLines status asked before after
+takes_key error asked Done before after is failed rest most = absurd is
+takes_key error asked Usage before after is failed rest most = absurd is
+takes_key error asked (Refused refusal) before after is failed rest most = rest (λ e. never (failed e))
   where
     never : Refused refusal ≡ InputFault → ⊥
     never e = cc
-takes_key error n KeyRefused before after is failed rest most = absurd is
-takes_key error n DiskFault before after is failed rest most = absurd is
-takes_key error n OutputFault before after is failed rest most = rest (λ e. never (failed e))
+takes_key error asked KeyRefused before after is failed rest most = absurd is
+takes_key error asked DiskFault before after is failed rest most = absurd is
+takes_key error asked OutputFault before after is failed rest most = rest (λ e. never (failed e))
   where
     never : OutputFault ≡ InputFault → ⊥
     never e = cc
-takes_key error n InputFault before after is failed rest most = most
-takes_key error n EntropyFault before after is failed rest most = absurd is
-takes_key error n OutOfMemory before after is failed rest most = absurd is
+takes_key error asked InputFault before after is failed rest most = most
+takes_key error asked EntropyFault before after is failed rest most = absurd is
+takes_key error asked OutOfMemory before after is failed rest most = absurd is
 
 -- after one line, whatever it gave
 pub one_line : (line : Result Secret KeyError) (rest : List ℕ) → left_after line rest rest ≡ rest
@@ -259,3 +260,37 @@ unless_fault T SourceFault P holds other = absurd (other refl)
 -- it was not carried out
 pub key_not_done : (status : Status) → IsKeyStatus status → status ≡ Done → ⊥
 key_not_done status is done = subst IsKeyStatus done is
+
+-- ---- a command with one secret
+
+-- what was read for it gives the secrets
+pub one_gave : (asked : List Bool) (asks : Bool) (left : List ℕ) (line : Result Secret KeyError) → asked ≡ asks ∷ [] → line ≡ secret_line asks left
+    → key_lines asked left ≡ and_secrets line (Ok [])
+one_gave asked asks left line is gave =
+    ap (λ (l : List Bool). key_lines l left) is ∙ ap (λ (given : Result Secret KeyError). and_secrets given (Ok [])) (sym gave)
+
+-- and leaves the input behind it
+pub one_rest : (asked : List Bool) (asks : Bool) (left after : List ℕ) → asked ≡ asks ∷ [] → after ≡ rest_line asks left → after ≡ after_lines asked left
+one_rest asked asks left after is rest =
+    rest ∙ (sym (one_line (secret_line asks left) (rest_line asks left)) ∙ sym (ap (λ (l : List Bool). after_lines l left) is))
+
+-- ---- secrets that were given
+
+pub not_failed : (lines : Result (List Secret) KeyError) (secrets : List Secret) → lines ≡ Ok secrets → IsErr lines → ⊥
+not_failed (Ok given) secrets is failed = cc
+not_failed (Err error) secrets is failed = cc
+
+pub not_refused : (P : Type 0) (lines : Result (List Secret) KeyError) (secrets : List Secret) (error : KeyError) → lines ≡ Ok secrets → lines ≡ Err error → P
+not_refused P lines secrets error is refused = let never : keys_ok secrets ≡ keys_err error = sym is ∙ refused in cc
+
+-- the lines that were read for them are taken
+pub takes_given : (asked : List Bool) (status : Status) (before after : List ℕ) → (status ≡ InputFault → ⊥) → after ≡ after_lines asked before → TakesLines status asked before after
+takes_given asked Done before after read rest = rest
+takes_given asked Usage before after read rest = rest
+takes_given asked (Refused refusal) before after read rest = rest
+takes_given asked KeyRefused before after read rest = rest
+takes_given asked DiskFault before after read rest = rest
+takes_given asked OutputFault before after read rest = rest
+takes_given asked InputFault before after read rest = absurd (read refl)
+takes_given asked EntropyFault before after read rest = rest
+takes_given asked OutOfMemory before after read rest = rest

@@ -1,21 +1,21 @@
 -- What a command that was asked for keeps, changes and draws, by cases on the command.
-use Rattle.std.proofs.Common.{◌≡◌, ◌⊎◌, ⊎_elim, inl, ◌==◌, ◌&&◌, not, if◌then◌else◌, rules, ℕ, Bool, true, false, List, [], ◌∷◌, Option, Some, None, Result, Ok, IsTrue, refl, sym, ap, subst, ◌∙◌, arith}
-use Rattle.cipher_profile.specs.declared.key_line.KeyError.{KeyError}
+use Rattle.std.proofs.Common.{◌≡◌, ◌⊎◌, ⊎_elim, inl, ◌==◌, ◌&&◌, ◌||◌, not, if◌then◌else◌, rules, ℕ, Bool, true, false, List, [], ◌∷◌, length, Option, Some, None, Ok, IsTrue, refl, sym, ap, subst, ◌∙◌, arith}
 use Rattle.cipher_profile.specs.declared.keys.Secret.{Secret}
 use Rattle.cipher_profile.specs.declared.profile.Profile.{Profile}
+use Rattle.cipher_profile.specs.Profile.{is_plain}
 use Rattle.edge_model.specs.Files.{Files}
 use Rattle.sqlcipher_tool.specs.Answer.{HasCauses, HasDrawnCauses}
 use Rattle.sqlcipher_tool.specs.Change.{IsChangeBetween, change_answers, command_of, is_in_place}
 use Rattle.sqlcipher_tool.specs.Crash.{Changes, GaveKeys, HasOwnDraws, IsDrawnFor, IsSafely, Keeps, KeepsFresh, KeepsHeld, MakesWith, Stays}
 use Rattle.sqlcipher_tool.specs.Holding.{DiskRun, disk_run}
 use Rattle.sqlcipher_tool.specs.Renewal.{Renewal, renewal, same_key, two_keys}
-use Rattle.sqlcipher_tool.specs.Due.{secret_answers, word_refusal}
+use Rattle.sqlcipher_tool.specs.Due.{key_lines, secret_answers, word_refusal}
 use Rattle.sqlcipher_tool.specs.Recovered.{recovered_answers}
 use Rattle.sqlcipher_tool.specs.declared.change.Change.{Change}
 use Rattle.sqlcipher_tool.specs.declared.change.Change.TheVariants.{Stamp as StampOf, Rekey as RekeyOf, Migrate as MigrateOf}
 use Rattle.pager.specs.File.{main_of}
-use Rattle.sqlcipher_tool.specs.Promises.{takes_keys}
-use Rattle.sqlcipher_tool.specs.Words.{draws, keys_taken, lacks_tags, layouts_differ, writes_beside}
+use Rattle.sqlcipher_tool.specs.Promises.{asks_some, lines_read, takes_keys}
+use Rattle.sqlcipher_tool.specs.Words.{alters, asked_keys, lacks_tags, layouts_differ, writes_beside}
 use Rattle.sqlcipher_tool.specs.declared.status.Refusal.TheVariants.{NoTags, LayoutDiffers}
 use Rattle.sqlcipher_tool.specs.declared.command.Command.{Command}
 use Rattle.sqlcipher_tool.specs.declared.command.Command.TheVariants.{Tags, Header, Verify, Export, Salvage, Find, Probe, Recover, Stamp, Rekey, Migrate, Make}
@@ -37,10 +37,10 @@ refusal_not_done refusal status is done = ⊎_elim (λ (same : status ≡ Refuse
 ok_same : (a b : List Secret) → keys_ok a ≡ keys_ok b → a ≡ b
 ok_same a b is = cc
 
--- the secrets that the key lines gave
-pub same_secrets : (tells : Bool) (lines : Result (List Secret) KeyError) (these : List Secret) → (IsTrue tells → lines ≡ Ok these) → (secrets : List Secret)
-    → GaveKeys tells lines secrets → secrets ≡ these
-same_secrets tells lines these is secrets gave = ok_same secrets these (sym gave.1 ∙ is gave.0)
+-- the secrets that were given
+pub same_secrets : (tells : Bool) (asked : List Bool) (left : List ℕ) (these : List Secret) → ((asks_some asked ≡ true → IsTrue tells) → key_lines asked left ≡ Ok these) → (secrets : List Secret)
+    → GaveKeys tells asked left secrets → secrets ≡ these
+same_secrets tells asked left these is secrets gave = ok_same secrets these (sym gave.1 ∙ is gave.0)
 
 -- what holds of all secrets that may have been given holds of those that were
 pub changes_of : (status : Status) (command : Command) (tells : Bool) (drawn : List ℕ) (run : DiskRun) (gave given : List Secret → Type 0) → ((secrets : List Secret) → given secrets → gave secrets)
@@ -76,8 +76,8 @@ changes_as status command other gave tells drawn run is was = subst (λ (c : Com
 pub draws_as : (command other : Command) (gave : List Secret → Type 0) (file drawn : List ℕ) → command ≡ other → HasOwnDraws other gave file drawn → HasOwnDraws command gave file drawn
 draws_as command other gave file drawn is was = subst (λ (c : Command). HasOwnDraws c gave file drawn) (sym is) was
 
-pub causes_as : (status : Status) (command other : Command) (a b d e f g : ℕ) → command ≡ other → HasDrawnCauses status (draws other) a b d e f g → HasDrawnCauses status (draws command) a b d e f g
-causes_as status command other a b d e f g is was = subst (λ (c : Command). HasDrawnCauses status (draws c) a b d e f g) (sym is) was
+pub causes_as : (status : Status) (command other : Command) (a b d e f g : ℕ) → command ≡ other → HasDrawnCauses status (alters other) a b d e f g → HasDrawnCauses status (alters command) a b d e f g
+causes_as status command other a b d e f g is was = subst (λ (c : Command). HasDrawnCauses status (alters c) a b d e f g) (sym is) was
 
 -- the causes of a command that draws nothing
 pub undrawn : (status : Status) (draws : Bool) (a b d e f g : ℕ) → HasCauses status a b d e → g ≡ f → HasDrawnCauses status draws a b d e f g
@@ -93,15 +93,22 @@ undrawn status draws a b d e f g causes same = record {
   entropy_later = omega (arith, same);
 }
 
--- a command of one key line takes one
-pub takes_one : (command : Command) → keys_taken command ≡ 1 → takes_keys command ≡ true
-takes_one command is = ap (λ (n : ℕ). not (n == 0)) is
-
-pub takes_some : (command : Command) → keys_taken command ≡ 1 → takes_keys command ≡ false → ⊥
-takes_some command is none = never (sym (takes_one command is) ∙ none)
+-- of a command with one secret it is said once whether a key line is read for it
+pub one_asked : (command : Command) → length (asked_keys command) ≡ 1 → asked_keys command ≡ takes_keys command ∷ []
+one_asked command is = by_list (asked_keys command) is
   where
-    never : true ≡ false → ⊥
-    never is = cc
+    by_list : (asked : List Bool) → length asked ≡ 1 → asked ≡ not (lines_read asked == 0) ∷ []
+    by_list [] one = cc
+    by_list (true ∷ []) one = refl
+    by_list (false ∷ []) one = refl
+    by_list (true ∷ other ∷ rest) one = absurd (omega (arith, one))
+    by_list (false ∷ other ∷ rest) one = absurd (omega (arith, one))
+
+-- and of a change from one key to another of each
+pub two_asked : (change : Change) (old new : Profile) → length (asked_keys (command_of change old new)) ≡ 2 → asked_keys (command_of change old new) ≡ not (is_plain old) ∷ not (is_plain new) ∷ []
+two_asked (StampOf field value) old new keyed = cc
+two_asked RekeyOf old new keyed = refl
+two_asked MigrateOf old new keyed = refl
 
 -- ---- what the words refuse
 
@@ -115,33 +122,34 @@ none_refused command is = both (lacks_tags command) (layouts_differ command) is
     both false false is = (refl, refl)
 
 pub same_layout : (old new : Profile) → layouts_differ (Rekey old new) ≡ false → (new.page_size ≡ old.page_size) × (new.reserve ≡ old.reserve)
-same_layout old new is = equal old.page_size new.page_size old.reserve new.reserve is
+same_layout old new is = equal (is_plain old) old.page_size new.page_size old.reserve new.reserve is
   where
-    equal : (a b d e : ℕ) → not (a == b && d == e) ≡ false → (b ≡ a) × (e ≡ d)
-    equal a b d e is = (search (rules, is), search (rules, is))
+    equal : (plain : Bool) (a b d e : ℕ) → (plain || not (a == b && d == e)) ≡ false → (b ≡ a) × (e ≡ d)
+    equal true a b d e is = cc
+    equal false a b d e is = (search (rules, is), search (rules, is))
 
 -- ---- a change from one key to another
 
 -- the layouts do not differ where the key alone changes
 pub two_between : (change : Change) (renewal : Renewal) → layouts_differ (command_of change renewal.old_profile renewal.new_profile) ≡ false
-    → keys_taken (command_of change renewal.old_profile renewal.new_profile) ≡ 2 → IsChangeBetween change renewal
+    → length (asked_keys (command_of change renewal.old_profile renewal.new_profile)) ≡ 2 → IsChangeBetween change renewal
 two_between (StampOf field value) renewal layout keyed = cc
 two_between RekeyOf renewal layout keyed = same_layout renewal.old_profile renewal.new_profile layout
 two_between MigrateOf renewal layout keyed = tt
 
-pub two_answers : (change : Change) (renewal : Renewal) (files last : Files) → keys_taken (command_of change renewal.old_profile renewal.new_profile) ≡ 2
+pub two_answers : (change : Change) (renewal : Renewal) (files last : Files) → length (asked_keys (command_of change renewal.old_profile renewal.new_profile)) ≡ 2
     → secret_answers (command_of change renewal.old_profile renewal.new_profile) (renewal.old_secret ∷ renewal.new_secret ∷ []) files last
     ≡ recovered_answers renewal.old_profile files (λ file. change_answers change renewal file (main_of last))
 two_answers (StampOf field value) renewal files last keyed = cc
 two_answers RekeyOf renewal files last keyed = refl
 two_answers MigrateOf renewal files last keyed = refl
 
-pub two_renewal : (change : Change) (old new : Profile) (secrets : List Secret) → keys_taken (command_of change old new) ≡ 2 → renewal (command_of change old new) secrets ≡ two_keys old new secrets
+pub two_renewal : (change : Change) (old new : Profile) (secrets : List Secret) → length (asked_keys (command_of change old new)) ≡ 2 → renewal (command_of change old new) secrets ≡ two_keys old new secrets
 two_renewal (StampOf field value) old new secrets keyed = cc
 two_renewal RekeyOf old new secrets keyed = refl
 two_renewal MigrateOf old new secrets keyed = refl
 
-pub two_keeps : (change : Change) (old new : Profile) (run : DiskRun) → keys_taken (command_of change old new) ≡ 2 → (is_in_place change ≡ true → KeepsFresh run) → Keeps (command_of change old new) run
+pub two_keeps : (change : Change) (old new : Profile) (run : DiskRun) → length (asked_keys (command_of change old new)) ≡ 2 → (is_in_place change ≡ true → KeepsFresh run) → Keeps (command_of change old new) run
 two_keeps (StampOf field value) old new run keyed fresh = cc
 two_keeps RekeyOf old new run keyed fresh = fresh refl
 two_keeps MigrateOf old new run keyed fresh = tt
@@ -155,7 +163,7 @@ two_beside MigrateOf old new beside = refl
 pub none_beside : (command other : Command) → command ≡ other → writes_beside other ≡ false → writes_beside command ≡ true → ⊥
 none_beside command other is none beside = let no = sym none ∙ (sym (ap writes_beside is) ∙ beside) in cc
 
-pub two_changes : (status : Status) (change : Change) (old new : Profile) (gave : List Secret → Type 0) (tells : Bool) (drawn : List ℕ) (run : DiskRun) → keys_taken (command_of change old new) ≡ 2
+pub two_changes : (status : Status) (change : Change) (old new : Profile) (gave : List Secret → Type 0) (tells : Bool) (drawn : List ℕ) (run : DiskRun) → length (asked_keys (command_of change old new)) ≡ 2
     → ((secrets : List Secret) → gave secrets → IsSafely status (command_of change old new) tells drawn run (two_keys old new secrets)) → Changes status (command_of change old new) gave tells drawn run
 two_changes status (StampOf field value) old new gave tells drawn run keyed safe = cc
 two_changes status RekeyOf old new gave tells drawn run keyed safe = safe

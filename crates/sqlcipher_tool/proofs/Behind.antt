@@ -21,7 +21,7 @@ use Rattle.sqlcipher_tool.specs.Due.{key_answer, word_refusal}
 use Rattle.sqlcipher_tool.specs.Holding.{DiskRun}
 use Rattle.sqlcipher_tool.specs.Migrate.{migrate_error}
 use Rattle.sqlcipher_tool.specs.Stop.{outcome_answer}
-use Rattle.sqlcipher_tool.specs.Words.{draws, lacks_tags, layouts_differ}
+use Rattle.sqlcipher_tool.specs.Words.{alters, lacks_tags, layouts_differ}
 use Rattle.sqlcipher_tool.specs.declared.change.Change.{Change}
 use Rattle.sqlcipher_tool.specs.declared.change.Change.TheVariants.{Stamp as StampOf, Rekey as RekeyOf, Migrate as MigrateOf}
 use Rattle.sqlcipher_tool.specs.declared.command.Command.{Command}
@@ -135,10 +135,10 @@ unread status drawing (Some profile) run never = λ has. absurd (never has)
 
 -- ---- the changes
 
-pub change_draws : (change : Change) (old new : Profile) → draws (command_of change old new) ≡ true
-change_draws (StampOf field value) old new = refl
-change_draws RekeyOf old new = refl
-change_draws MigrateOf old new = refl
+pub change_alters : (change : Change) (old new : Profile) → alters (command_of change old new) ≡ true
+change_alters (StampOf field value) old new = refl
+change_alters RekeyOf old new = refl
+change_alters MigrateOf old new = refl
 
 -- behind the opening nothing refuses a stamp
 pub unrefused : {told : Type 0} (P : Type 0) (r : Result (List ℕ) ChangeError) (report : List ℕ) → (told → IsFault (change_status r) ⊎ (r ≡ Ok report))

@@ -9,7 +9,7 @@ use Rattle.btree_model.specs.Parts.{counts}
 use Rattle.cipher_profile.specs.declared.key_line.KeyError.{KeyError}
 use Rattle.cipher_profile.specs.declared.keys.Secret.{Secret}
 use Rattle.cipher_profile.specs.declared.profile.Profile.{Profile}
-use Rattle.cipher_profile.specs.Profile.{IsListed, probed_profiles, sqlcipher_1, sqlcipher_2, sqlcipher_3, sqlcipher_4, sqlcipher_4_of}
+use Rattle.cipher_profile.specs.Profile.{IsListed, is_plain, probed_profiles, sqlcipher_1, sqlcipher_2, sqlcipher_3, sqlcipher_4, sqlcipher_4_of}
 use Rattle.cipher_profile.proofs.Layouts.{IsListed-each}
 use Rattle.db_format.specs.Count.{count_of_pages, largest_database}
 use Rattle.db_format.specs.declared.count.CountRefusal.{CountRefusal}
@@ -312,19 +312,27 @@ module _ (test : Profile → Bool) where
   found_at (first ∷ xs) (suc k) profile there is = finds_later (test first) first (find test xs) (found_at xs k profile there is)
 
   -- the profiles that may be found, by their places in the order
-  listed_found : (profile : Profile) → IsListed profile → test profile ≡ true → is_some (find test probed_profiles) ≡ true
+  listed_found : (profile : Profile) → IsListed profile → is_plain profile ≡ false → test profile ≡ true → is_some (find test probed_profiles) ≡ true
   listed_found =
-      IsListed-each (λ (p : Profile). test p ≡ true → is_some (find test probed_profiles) ≡ true)
-      (found_at probed_profiles 9 sqlcipher_1 refl)
-      (found_at probed_profiles 8 sqlcipher_2 refl)
-      (found_at probed_profiles 7 sqlcipher_3 refl)
-      (found_at probed_profiles 1 (sqlcipher_4_of 1024) refl)
-      (found_at probed_profiles 2 (sqlcipher_4_of 2048) refl)
-      (found_at probed_profiles 0 sqlcipher_4 refl)
-      (found_at probed_profiles 3 (sqlcipher_4_of 8192) refl)
-      (found_at probed_profiles 4 (sqlcipher_4_of 16384) refl)
-      (found_at probed_profiles 5 (sqlcipher_4_of 32768) refl)
-      (found_at probed_profiles 6 (sqlcipher_4_of 65536) refl)
+      IsListed-each (λ (p : Profile). is_plain p ≡ false → test p ≡ true → is_some (find test probed_profiles) ≡ true)
+      (λ ciphered. found_at probed_profiles 9 sqlcipher_1 refl)
+      (λ ciphered. found_at probed_profiles 8 sqlcipher_2 refl)
+      (λ ciphered. found_at probed_profiles 7 sqlcipher_3 refl)
+      (λ ciphered. found_at probed_profiles 1 (sqlcipher_4_of 1024) refl)
+      (λ ciphered. found_at probed_profiles 2 (sqlcipher_4_of 2048) refl)
+      (λ ciphered. found_at probed_profiles 0 sqlcipher_4 refl)
+      (λ ciphered. found_at probed_profiles 3 (sqlcipher_4_of 8192) refl)
+      (λ ciphered. found_at probed_profiles 4 (sqlcipher_4_of 16384) refl)
+      (λ ciphered. found_at probed_profiles 5 (sqlcipher_4_of 32768) refl)
+      (λ ciphered. found_at probed_profiles 6 (sqlcipher_4_of 65536) refl)
+      (λ ciphered. cc)
+      (λ ciphered. cc)
+      (λ ciphered. cc)
+      (λ ciphered. cc)
+      (λ ciphered. cc)
+      (λ ciphered. cc)
+      (λ ciphered. cc)
+      (λ ciphered. cc)
 
 none_of_two : (a b : Bool) (x y : Answer) → a ≡ false → b ≡ false
     → first_of (record { holds = a; answer = x } ∷ record { holds = b; answer = y } ∷ []) ≡ None
@@ -332,12 +340,12 @@ none_of_two true b x y one two = cc
 none_of_two false true x y one two = cc
 none_of_two false false x y one two = refl
 
-first_found : (secret : Secret) (file : List ℕ) (profile : Profile) → IsListed profile → is_fitting secret file profile ≡ true → is_some (first_fitting secret file) ≡ true
+first_found : (secret : Secret) (file : List ℕ) (profile : Profile) → IsListed profile → is_plain profile ≡ false → is_fitting secret file profile ≡ true → is_some (first_fitting secret file) ≡ true
 unfolding first_fitting
-first_found secret file profile listed fit = listed_found (is_fitting secret file) profile listed fit
+first_found secret file profile listed ciphered fit = listed_found (is_fitting secret file) profile listed ciphered fit
 
 probe_alone : (secret : Secret) (files : Files) → IsProbed secret files → IsDoneAlone (probe_answer secret files ∷ [])
-probe_alone secret files way = subst (λ (a : Answer). IsDoneAlone (a ∷ [])) (sym due_is) (found_alone found (first_found secret main way.profile way.listed way.fit))
+probe_alone secret files way = subst (λ (a : Answer). IsDoneAlone (a ∷ [])) (sym due_is) (found_alone found (first_found secret main way.profile way.listed way.ciphered way.fit))
   where
     main : List ℕ
     main = main_of files

@@ -15,7 +15,7 @@ use Rattle.sqlcipher_tool.specs.Job.{job_answers}
 use Rattle.sqlcipher_tool.specs.Promises.{AnswersOne}
 use Rattle.sqlcipher_tool.specs.Recovered.{answers_after, recovered_answers, recovered_main, recovery_answer, recovery_of}
 use Rattle.sqlcipher_tool.specs.Reported.{IsExported, IsVerified, Reports}
-use Rattle.sqlcipher_tool.specs.Words.{form, keys_taken}
+use Rattle.sqlcipher_tool.specs.Words.{asked_keys, form}
 use Rattle.sqlcipher_tool.specs.declared.command.Command.{Command}
 use Rattle.sqlcipher_tool.specs.declared.command.Command.TheVariants.{Export, Verify}
 use Rattle.sqlcipher_tool.specs.declared.job.Job.{Job}
@@ -26,12 +26,11 @@ use Rattle.sqlcipher_tool.proofs.Completeness.{one_is}
 use Rattle.sqlcipher_tool.proofs.DueReports.{done_exports, done_verifies}
 
 -- what is due to a command that takes one key
-one_due : (words : List (List ℕ)) (left : List ℕ) (files after : Files) (command : Command) (secret : Secret) → word_refusal command ≡ None → keys_taken command ≡ 1
-    → form words ≡ Some command → key_lines 1 left ≡ Ok (secret ∷ []) → due words left files after ≡ secret_answers command (secret ∷ []) files after
-one_due words left files after command secret unrefused takes is gave =
+one_due : (words : List (List ℕ)) (left : List ℕ) (files after : Files) (command : Command) (secret : Secret) → word_refusal command ≡ None → form words ≡ Some command
+    → key_lines (asked_keys command) left ≡ Ok (secret ∷ []) → due words left files after ≡ secret_answers command (secret ∷ []) files after
+one_due words left files after command secret unrefused is gave =
     ap (λ (c : Option Command). command_answers c left files after) is
     ∙ ap (λ (r : Option Refusal). asked_answers r command left files after) unrefused
-    ∙ ap (λ (n : ℕ). keyed_answers command (key_lines n left) files after) takes
     ∙ ap (λ (lines : Result (List Secret) KeyError). keyed_answers command lines files after) gave
 
 -- a recovery that is refused is not Done
@@ -58,15 +57,15 @@ job_done job profile secret says holds files tells before after one =
     (one.answer.text, holds file one.answer due_so done, λ printed. one.puts printed)
 
 pub verify_done_run : (words : List (List ℕ)) (left : List ℕ) (files after : Files) (profile : Profile) (secret : Secret) (tells : Bool) (was now : List ℕ)
-    → form words ≡ Some (Verify profile) → key_lines 1 left ≡ Ok (secret ∷ []) → AnswersOne (due words left files after) Done tells was now
+    → form words ≡ Some (Verify profile) → key_lines (asked_keys (Verify profile)) left ≡ Ok (secret ∷ []) → AnswersOne (due words left files after) Done tells was now
     → Reports profile files (λ file text. IsVerified (keys_of profile secret file) file text) tells was now
 verify_done_run words left files after profile secret tells was now is gave one =
     job_done VerifyPages profile secret (λ file text. IsVerified (keys_of profile secret file) file text) (done_verifies profile secret) files tells was now
-    (subst (λ (l : List Answer). AnswersOne l Done tells was now) (one_due words left files after (Verify profile) secret refl refl is gave) one)
+    (subst (λ (l : List Answer). AnswersOne l Done tells was now) (one_due words left files after (Verify profile) secret refl is gave) one)
 
 pub export_done_run : (words : List (List ℕ)) (left : List ℕ) (files after : Files) (profile : Profile) (secret : Secret) (tells : Bool) (was now : List ℕ)
-    → form words ≡ Some (Export profile) → key_lines 1 left ≡ Ok (secret ∷ []) → AnswersOne (due words left files after) Done tells was now
+    → form words ≡ Some (Export profile) → key_lines (asked_keys (Export profile)) left ≡ Ok (secret ∷ []) → AnswersOne (due words left files after) Done tells was now
     → Reports profile files (λ file text. IsExported (keys_of profile secret file) file text) tells was now
 export_done_run words left files after profile secret tells was now is gave one =
     job_done ExportPages profile secret (λ file text. IsExported (keys_of profile secret file) file text) (done_exports profile secret) files tells was now
-    (subst (λ (l : List Answer). AnswersOne l Done tells was now) (one_due words left files after (Export profile) secret refl refl is gave) one)
+    (subst (λ (l : List Answer). AnswersOne l Done tells was now) (one_due words left files after (Export profile) secret refl is gave) one)

@@ -8,7 +8,7 @@ use Rattle.btree_walk.specs.declared.error.WalkError.{WalkError}
 use Rattle.btree_walk.specs.declared.error.WalkError.TheVariants.{Defect as Found, Source, OutOfMemory as MemoryEnds}
 use Rattle.db_format.specs.Pages.{Pages}
 use Rattle.export_rows.specs.Causes.{IfWalk, is_defect}
-use Rattle.export_rows.specs.Out.{MovesPart}
+use Rattle.row_text.specs.Out.{MovesPart}
 use Rattle.export_rows.specs.Report.{export_report}
 use Rattle.export_rows.specs.declared.error.ExportError.{ExportError}
 use Rattle.export_rows.specs.declared.error.ExportError.TheVariants.{Walk}

@@ -7,12 +7,12 @@ use Rattle.page_codec.specs.Page.{FileKeys, sealed}
 use Rattle.pager.specs.Pages.{is_number}
 use Rattle.pager.specs.UnderWay.{HasNewPages, Start}
 use Rattle.transaction.specs.Draws.{draw_at}
-use Rattle.rekey_job.specs.Draws.{FileDraws}
+use Rattle.rekey_job.specs.Draws.{AreDrawn, FileDraws}
 
 pub file_draws : (start : Start) (keys : FileKeys) (touched : ℕ → Bool) (plain : ℕ → List ℕ) (tells : Bool) (drawn main : List ℕ) → HasNewPages start keys touched plain tells drawn main
     → IsTrue tells → (pages : Test) → ((n : ℕ) → pages n ≡ true → (is_number start.base.pages n ≡ true) × (touched n ≡ true))
     → FileDraws keys main pages 0 (drop (length start.drawn) drawn)
-file_draws start keys touched plain tells drawn main has told pages changed = subst (λ (l : List ℕ). FileDraws keys main pages 0 l) (sym since) (record {
+file_draws start keys touched plain tells drawn main has told pages changed = λ ciphered. subst (λ (l : List ℕ). AreDrawn keys main pages 0 l) (sym since) (record {
   place = has.own.place;
   later = λ n is. has.own.later n (sealed_so n is);
   within = λ n is. has.own.within n (sealed_so n is);

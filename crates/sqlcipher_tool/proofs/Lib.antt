@@ -1,5 +1,4 @@
 pub mod PagesAnswer
-pub mod Probing
 pub mod RefusedPages
 pub mod Conclusions
 pub mod LeftAlone
@@ -19,8 +18,11 @@ pub mod DueReports
 pub mod DoneRuns
 pub mod StampedFields
 pub mod OpenedParts
+pub mod FirstBytes
+pub mod Probing
 pub mod Databases
 pub mod FileDraws
+pub mod PlainDraws
 pub mod StampedPages
 pub mod Changing
 pub mod Stamping

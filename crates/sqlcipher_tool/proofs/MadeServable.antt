@@ -1,12 +1,12 @@
 -- Nothing stands in the way of a command that reads a made file, nor of a recovery where no file is.
-use Rattle.std.proofs.Common.{List, ◌≡◌, ℕ, ◌≤◌, ◌*◌, ◌/◌, true, [], ◌∷◌, length, Option, Result, refl, sym, ap, subst, ◌∙◌, arith}
+use Rattle.std.proofs.Common.{List, ◌≡◌, ℕ, ◌≤◌, ◌*◌, ◌/◌, true, false, [], ◌∷◌, length, Option, Result, refl, sym, ap, subst, ◌∙◌, arith}
 use Rattle.std.proofs.Math.Nat.{mul-div_cancel}
 use Rattle.std.proofs.lemmas.Nat.{le-div}
 use Rattle.std.specs.Prelude.{IsOk, codes, is_ok}
 use Rattle.std.specs.Cmp.Derive.{both_true}
 use Rattle.cipher_profile.specs.declared.keys.Secret.{Secret}
 use Rattle.cipher_profile.specs.declared.profile.Profile.{Profile}
-use Rattle.cipher_profile.specs.Profile.{IsListed, profile_named, sqlcipher_4}
+use Rattle.cipher_profile.specs.Profile.{IsListed, is_plain, profile_named, sqlcipher_4}
 use Rattle.db_format.specs.Count.{largest_database}
 use Rattle.edge_model.specs.Files.{File, nothing}
 use Rattle.make_job.specs.Made.{IsMade, made_header}
@@ -57,11 +57,12 @@ module _ (profile : Profile) (secret : Secret) (rows : ℕ) (file : File) (fresh
   clean : IsClean keys file.bytes
   clean = (made_clean profile secret rows file.bytes made).0
 
-  probed : IsProbed secret (standing file fresh)
-  probed = record {
+  probed : is_plain profile ≡ false → IsProbed secret (standing file fresh)
+  probed ciphered = record {
     no_journal = refl;
     profile = profile;
     listed = listed;
+    ciphered = ciphered;
     fit = both_true (le_true profile.page_size (length file.bytes) is_open.long) is_open.fit;
   }
 
@@ -73,7 +74,7 @@ module _ (profile : Profile) (secret : Secret) (rows : ℕ) (file : File) (fresh
       subst (λ (p : Profile). IsServable (Export p) (secret ∷ second ∷ []) (standing file fresh)) (sym is) (record { recovers = refl; holds = (clean.held, clean.opens) })
   made_servable second (Salvage other) is = subst (λ (p : Profile). IsServable (Salvage p) (secret ∷ second ∷ []) (standing file fresh)) (sym is) (record { recovers = refl; holds = has_pages })
   made_servable second (Find other name low high) is = absurd is
-  made_servable second Probe is = probed
+  made_servable second Probe is = probed is
   made_servable second (Recover other) is = refl
   made_servable second (Stamp other field value) is =
       subst (λ (p : Profile). IsServable (Stamp p field value) (secret ∷ second ∷ []) (standing file fresh)) (sym is) (record { recovers = refl; holds = opens })

@@ -46,6 +46,14 @@ no_chain new listed len few =
     (fits_whole len 16269 16300 _ (omega (arith, few)) refl)
     (fits_whole len 32653 32684 _ (omega (arith, few)) refl)
     (fits_whole len 65421 65452 _ (omega (arith, few)) refl)
+    (fits_whole len 477 508 _ (omega (arith, few)) refl)
+    (fits_whole len 989 1020 _ (omega (arith, few)) refl)
+    (fits_whole len 2013 2044 _ (omega (arith, few)) refl)
+    (fits_whole len 4061 4092 _ (omega (arith, few)) refl)
+    (fits_whole len 8157 8188 _ (omega (arith, few)) refl)
+    (fits_whole len 16349 16380 _ (omega (arith, few)) refl)
+    (fits_whole len 32733 32764 _ (omega (arith, few)) refl)
+    (fits_whole len 65501 65532 _ (omega (arith, few)) refl)
     new listed
 
 most_zero : (f : ℕ → ℕ) (from n : ℕ) → ((k : ℕ) → k < from + n → f k ≡ 0) → most_of (map f (range_with_len from n)) ≡ 0

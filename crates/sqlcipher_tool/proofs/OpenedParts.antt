@@ -1,6 +1,9 @@
 -- What is known of a file that opens.
-use Rattle.std.proofs.Common.{◌≡◌, ◌==◌, ◌≤◌, ℕ, Bool, true, false, not, List, [], ◌∷◌, length, Option, Some, None, Result, Ok, Err, refl, sym, ap, ◌∙◌, rules}
+use Rattle.std.proofs.Common.{◌≡◌, ◌==◌, ◌≤◌, ◌<◌, ℕ, zero, suc, Bool, true, false, not, List, [], ◌∷◌, length, take, Option, Some, None, Result, Ok, Err, refl, sym, ap, ◌∙◌, arith, rules}
 use Rattle.std.specs.Prelude.{if◌then◌else◌, nat_lt, IsTrue}
+use Rattle.std.specs.Str.{bytes_eq}
+use Rattle.cipher_profile.proofs.Layouts.{IsListed-laid_out}
+use Rattle.cipher_profile.specs.Profile.{IsListed, is_plain}
 use Rattle.db_format.specs.Bytes.{u16_at}
 use Rattle.db_format.specs.Count.{count_of_pages}
 use Rattle.db_format.specs.Header.{header_fields, header_read, header_rules, page_size_of}
@@ -9,7 +12,7 @@ use Rattle.db_format.specs.declared.count.CountRefusal.{CountRefusal}
 use Rattle.db_format.specs.declared.header.Header.{Header}
 use Rattle.db_format.specs.declared.header.HeaderRefusal.{HeaderRefusal}
 use Rattle.db_format.specs.declared.header.HeaderRefusal.TheVariants.{HeaderFault}
-use Rattle.page_codec.specs.Page.{FileKeys, accepts, bears_sign, fits, opened}
+use Rattle.page_codec.specs.Page.{FileKeys, accepts, bears_sign, fits, magic, opened}
 use Rattle.page_codec.proofs.TagPlace.{accepts-no_tag}
 use Rattle.pager.specs.Database.{count_of, counted, ok_count}
 use Rattle.pager.specs.File.{first_page, page_stored}
@@ -72,9 +75,21 @@ open_count keys file header n is_open =
     more : (a b : ℕ) → b ≤ a → nat_lt a b ≡ false
     more a b le = search (rules, le)
 
+-- of an encrypted file the key fits by the tag of page 1, or by its sign
+pub ciphered_fits : (keys : FileKeys) (first : List ℕ) → is_plain keys.profile ≡ false
+    → fits keys first ≡ (if keys.profile.tag_len == 0 then bears_sign (opened keys 1 first) else accepts keys 1 first)
+ciphered_fits keys first ciphered =
+    ap (λ (b : Bool). if b then bytes_eq (take 16 first) magic else (if keys.profile.tag_len == 0 then bears_sign (opened keys 1 first) else accepts keys 1 first)) ciphered
+
+-- and of a plain one by the magic
+pub plain_fits : (keys : FileKeys) (first : List ℕ) → is_plain keys.profile ≡ true → fits keys first ≡ bytes_eq (take 16 first) magic
+plain_fits keys first plain =
+    ap (λ (b : Bool). if b then bytes_eq (take 16 first) magic else (if keys.profile.tag_len == 0 then bears_sign (opened keys 1 first) else accepts keys 1 first)) plain
+
 -- and its page 1 is accepted
-pub open_accepts : (keys : FileKeys) (file : List ℕ) (header : Header) (n : ℕ) → IsOpen keys file header n → IsTrue (accepts keys 1 (page_stored keys file 1))
-open_accepts keys file header n is_open = by_tag (keys.profile.tag_len == 0) refl
+pub open_accepts : (keys : FileKeys) (file : List ℕ) (header : Header) (n : ℕ) → IsListed keys.profile → IsOpen keys file header n
+    → IsTrue (accepts keys 1 (page_stored keys file 1))
+open_accepts keys file header n listed is_open = by_tag (keys.profile.tag_len == 0) refl
   where
     first : List ℕ
     first = page_stored keys file 1
@@ -82,11 +97,17 @@ open_accepts keys file header n is_open = by_tag (keys.profile.tag_len == 0) ref
     zero_is : (a : ℕ) → (a == 0) ≡ true → a ≡ 0
     zero_is a is = search rules
 
+    some_is : (a : ℕ) → (a == 0) ≡ false → 0 < a
+    some_is zero is = cc
+    some_is (suc a) is = omega arith
+
     by_tag : (b : Bool) → (keys.profile.tag_len == 0) ≡ b → IsTrue (accepts keys 1 first)
     by_tag true none = accepts-no_tag keys 1 first (zero_is keys.profile.tag_len none)
     by_tag false some =
-        let fit : (if keys.profile.tag_len == 0 then bears_sign (opened keys 1 first) else accepts keys 1 first) ≡ true = is_open.fit in
-        let accepted : accepts keys 1 first ≡ true = ap (λ (b : Bool). if b then bears_sign (opened keys 1 first) else accepts keys 1 first) (sym some) ∙ fit in
+        let ciphered = (IsListed-laid_out keys.profile listed).tagged (some_is keys.profile.tag_len some) in
+        let inner : (if keys.profile.tag_len == 0 then bears_sign (opened keys 1 first) else accepts keys 1 first) ≡ true =
+        sym (ciphered_fits keys first ciphered) ∙ is_open.fit in
+        let accepted : accepts keys 1 first ≡ true = ap (λ (b : Bool). if b then bears_sign (opened keys 1 first) else accepts keys 1 first) (sym some) ∙ inner in
         accepted
 
 -- the page size in a header that is read is the file's

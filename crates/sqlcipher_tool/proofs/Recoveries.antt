@@ -1,5 +1,5 @@
 -- A command that reads the recovered file.
-use Rattle.std.proofs.Common.{◌≡◌, ⊎_elim, ◌≤◌, ◌<◌, ◌*◌, ◌==◌, not, ℕ, Bool, true, false, List, [], ◌∷◌, length, Option, Some, None, Result, Ok, Err, sym, ap, ◌∙◌, subst, arith}
+use Rattle.std.proofs.Common.{◌≡◌, ⊎_elim, ◌≤◌, ◌<◌, ◌*◌, ◌==◌, not, ℕ, Bool, true, false, List, [], ◌∷◌, length, Option, Some, None, Result, Ok, Err, IsTrue, refl, sym, ap, ◌∙◌, subst, arith}
 use Rattle.std.specs.Prelude.{nat_lt, unwrap_or}
 use Rattle.db_format.specs.Count.{largest_database}
 use Rattle.page_codec.specs.Page.{fits, keys_of}
@@ -14,7 +14,7 @@ use Rattle.pager.specs.declared.opening.OpenError.{OpenError}
 use Rattle.pager.specs.declared.opening.OpenError.TheVariants.{Empty, Short, KeyRefused as NoKey, HeaderFault, WalMode, AutoVacuum, Ragged, TooLarge, DiskFault as DiskFails, OutOfMemory as MemoryEnds}
 use Rattle.rollback_journal.specs.declared.recovery.Recovery.{Recovery}
 use Rattle.rollback_journal.specs.declared.recovery.RecoverError.{RecoverError}
-use Rattle.rollback_journal.specs.Recovery.{IsDone, recovered}
+use Rattle.rollback_journal.specs.Recovery.{HasByte, IsDone, answer_of, answer_to, changes_nothing, recovered}
 use Rattle.pager.specs.File.{first_page, main_of, whole_pages}
 use Rattle.sqlcipher_tool.specs.Answer.{Answer, Cause, IsAnswered, IsFault, first_of}
 use Rattle.sqlcipher_tool.specs.declared.status.Status.{Status}
@@ -121,3 +121,24 @@ had_byte profile files main is byte =
 pub journal_gone : (size : ℕ) (main journal : Option (List ℕ)) (image : Files) → IsDone size main journal image → image.journal ≡ None
 journal_gone size None journal image done = absurd done
 journal_gone size (Some main) journal image done = done.1
+
+-- a file without a byte is recovered to itself
+none_recovered : (size : ℕ) (journal : Option (List ℕ)) → recovered size [] journal ≡ []
+none_recovered size None = refl
+none_recovered size (Some journal) = refl
+
+-- what is read after a recovery that came to its end
+pub main_after : (size : ℕ) (was now : Files) → (HasByte (bytes_of was.main) → IsDone size (bytes_of was.main) (bytes_of was.journal) now)
+    → (IsTrue (changes_nothing (answer_to size was)) → now ≡ was) → main_of now ≡ recovered size (main_of was) (bytes_of was.journal)
+main_after size was now done idle = by_main (bytes_of was.main) (bytes_of was.journal) refl done idle
+  where
+    empty : (o journal : Option (List ℕ)) → bytes_of was.main ≡ o → unwrap_or o [] ≡ [] → now ≡ was → unwrap_or (bytes_of now.main) [] ≡ recovered size [] journal
+    empty o journal is none same =
+        ap (λ (files : Files). unwrap_or (bytes_of files.main) []) same ∙ (ap (λ (b : Option (List ℕ)). unwrap_or b []) is ∙ (none ∙ sym (none_recovered size journal)))
+
+    by_main : (o journal : Option (List ℕ)) → bytes_of was.main ≡ o → (HasByte o → IsDone size o journal now)
+        → (IsTrue (changes_nothing (answer_of size o journal)) → now ≡ was) → unwrap_or (bytes_of now.main) [] ≡ recovered size (unwrap_or o []) journal
+    by_main None journal is done idle = empty None journal is refl (idle refl)
+    by_main (Some []) None is done idle = empty (Some []) None is refl (idle refl)
+    by_main (Some []) (Some journal) is done idle = empty (Some []) (Some journal) is refl (idle refl)
+    by_main (Some (x ∷ xs)) journal is done idle = ap (λ (b : Option (List ℕ)). unwrap_or b []) (done (omega arith)).0

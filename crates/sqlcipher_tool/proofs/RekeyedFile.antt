@@ -1,7 +1,8 @@
 -- The old file of a rekeyed one was clean, and the new one opens under the new keys to its content.
-use Rattle.std.proofs.Common.{◌≡◌, ◌≤◌, ◌==◌, ◌&&◌, ◌-◌, ◌+◌, ◌*◌, ◌<◌, ◌/◌, ◌%◌, not, ℕ, zero, suc, Bool, true, false, List, [], length, map, Some, None, Result, Ok, Err, refl, sym, ap, subst, ◌∙◌, arith, rules, if◌then◌else◌}
+use Rattle.std.proofs.Common.{◌≡◌, ◌≤◌, ◌==◌, ◌&&◌, ◌-◌, ◌+◌, ◌*◌, ◌<◌, ◌/◌, ◌%◌, not, ℕ, zero, suc, Bool, true, false, List, [], length, map, take, Some, None, Result, Ok, Err, refl, sym, ap, subst, ◌∙◌, arith, rules, if◌then◌else◌}
 use Rattle.std.specs.Prelude.{nat_lt, replicate}
 use Rattle.std.specs.List.{Contains, list_any, range_with_len}
+use Rattle.std.specs.Str.{bytes_eq}
 use Rattle.std.proofs.Math.Nat.{div-add-mod, mod-lt}
 use Rattle.std.proofs.Math.Path.{fun_ext}
 use Rattle.btree_model.specs.Finding.{is_sound, leaves}
@@ -9,7 +10,7 @@ use Rattle.btree_model.specs.Freelist.{freelist_walk}
 use Rattle.btree_model.specs.Parts.{is_database}
 use Rattle.btree_model.specs.Plain.{is_leaf, with_zeros}
 use Rattle.btree_model.proofs.UnmarkedLemmas.{and_left}
-use Rattle.cipher_profile.specs.Profile.{IsListed}
+use Rattle.cipher_profile.specs.Profile.{IsListed, is_plain}
 use Rattle.cipher_profile.proofs.Layouts.{IsListed-laid_out, reserve_untagged, untagged_reserve}
 use Rattle.cipher_profile.specs.declared.profile.Profile.{Profile}
 use Rattle.db_format.specs.Count.{count_of_pages, size_counts}
@@ -18,7 +19,8 @@ use Rattle.db_format.specs.Pages.{Pages, nothing}
 use Rattle.db_format.specs.declared.count.CountRefusal.{CountRefusal}
 use Rattle.db_format.specs.declared.header.Header.{Header}
 use Rattle.db_format.specs.declared.header.HeaderRefusal.{HeaderRefusal}
-use Rattle.page_codec.specs.Page.{FileKeys, accepts, bears_sign, fits, opened}
+use Rattle.page_codec.proofs.Parts.{opened_plain_file}
+use Rattle.page_codec.specs.Page.{FileKeys, accepts, bears_sign, fits, magic, opened}
 use Rattle.pager.specs.Database.{count_by, count_of, counted, ok_count}
 use Rattle.pager.specs.File.{page_stored}
 use Rattle.pager.specs.Pages.{is_number, opened_pages}
@@ -28,7 +30,7 @@ use Rattle.rekey_job.specs.Stops.{AreClean}
 use Rattle.sqlcipher_tool.specs.Plain.{HaveSamePages, IsClean, Opens, content_of, is_left, refused_in_use}
 use Rattle.sqlcipher_tool.specs.Renewal.{IsRekeyedSo}
 use Rattle.sqlcipher_tool.proofs.Databases.{counted_pages}
-use Rattle.sqlcipher_tool.proofs.OpenedParts.{header_size}
+use Rattle.sqlcipher_tool.proofs.OpenedParts.{ciphered_fits, header_size, plain_fits}
 use Rattle.sqlcipher_tool.proofs.Rekeying.{clean_accepted, number_among}
 use Rattle.sqlcipher_tool.proofs.SamePages.{free_same, in_use_same, opens_same}
 use Rattle.sqlcipher_tool.proofs.Verified.{some_is}
@@ -90,6 +92,17 @@ clean_file keys file count fit counts clean = record {
 }
 
 -- ---- the same database
+
+-- a file of a plain layout is plain: an encrypted page has room for an IV
+pub same_plain_file : (one other : Profile) → IsListed one → IsListed other → other.reserve ≡ one.reserve → is_plain one ≡ true → is_plain other ≡ true
+same_plain_file one other one_listed other_listed same plain = by_plain (is_plain other) refl
+  where
+    by_plain : (b : Bool) → is_plain other ≡ b → is_plain other ≡ true
+    by_plain true is = is
+    by_plain false is =
+        let none = (IsListed-laid_out one one_listed).unreserved plain in
+        let laid_out = IsListed-laid_out other other_listed in
+        absurd (omega (arith, none, same, laid_out.whole, laid_out.room is))
 
 module _ (old_keys new_keys : FileKeys) (count : ℕ) (old new : List ℕ) (old_listed : IsListed old_keys.profile) (new_listed : IsListed new_keys.profile)
     (sizes : new_keys.profile.page_size ≡ old_keys.profile.page_size) (reserves : new_keys.profile.reserve ≡ old_keys.profile.reserve)
@@ -195,7 +208,7 @@ module _ (old_keys new_keys : FileKeys) (count : ℕ) (old new : List ℕ) (old_
           reserve_untagged old old_listed (omega (arith, same, few))
 
   fit : fits new_keys (page_stored new_keys new 1) ≡ true
-  fit = by_tag (new_keys.profile.tag_len == 0) refl
+  fit = by_plain (is_plain new_keys.profile) refl
     where
       is_zero : (a : ℕ) → (a == 0) ≡ true → a ≡ 0
       is_zero a is = search rules
@@ -209,16 +222,37 @@ module _ (old_keys new_keys : FileKeys) (count : ℕ) (old new : List ℕ) (old_
           size : (p : Profile) → IsListed p → 1 ≤ p.page_size
           size p listed = let least = (IsListed-laid_out p listed).least in omega (arith, least)
 
-      by_tag : (b : Bool) → (new_keys.profile.tag_len == 0) ≡ b → fits new_keys (page_stored new_keys new 1) ≡ true
-      by_tag true none =
+      by_tag : (b : Bool) → (new_keys.profile.tag_len == 0) ≡ b → is_plain new_keys.profile ≡ false → is_plain old_keys.profile ≡ false → fits new_keys (page_stored new_keys new 1) ≡ true
+      by_tag true none ciphered was_ciphered =
           let old_none = zero_is old_keys.profile.tag_len (same_tags (is_zero new_keys.profile.tag_len none)) in
-          ap (λ (b : Bool). if b then bears_sign (opened new_keys 1 (page_stored new_keys new 1)) else accepts new_keys 1 (page_stored new_keys new 1)) none
+          ciphered_fits new_keys (page_stored new_keys new 1) ciphered
+          ∙ ap (λ (b : Bool). if b then bears_sign (opened new_keys 1 (page_stored new_keys new 1)) else accepts new_keys 1 (page_stored new_keys new 1)) none
           ∙ ap bears_sign rekeyed.first
           ∙ sym (ap (λ (b : Bool). if b then bears_sign (opened old_keys 1 (page_stored old_keys old 1)) else accepts old_keys 1 (page_stored old_keys old 1)) old_none)
+          ∙ sym (ciphered_fits old_keys (page_stored old_keys old 1) was_ciphered)
           ∙ clean.opens.fit
-      by_tag false some =
-          ap (λ (b : Bool). if b then bears_sign (opened new_keys 1 (page_stored new_keys new 1)) else accepts new_keys 1 (page_stored new_keys new 1)) some
+      by_tag false some ciphered was_ciphered =
+          ciphered_fits new_keys (page_stored new_keys new 1) ciphered
+          ∙ ap (λ (b : Bool). if b then bears_sign (opened new_keys 1 (page_stored new_keys new 1)) else accepts new_keys 1 (page_stored new_keys new 1)) some
           ∙ rekeyed.accepted 1 first
+
+      -- both files are plain, or none is
+      by_plain : (b : Bool) → is_plain new_keys.profile ≡ b → fits new_keys (page_stored new_keys new 1) ≡ true
+      by_plain true plain =
+          let was_plain = same_plain_file new_keys.profile old_keys.profile new_listed old_listed (sym reserves) plain in
+          plain_fits new_keys (page_stored new_keys new 1) plain
+          ∙ ap (λ (page : List ℕ). bytes_eq (take 16 page) magic)
+          (sym (opened_plain_file new_keys 1 (page_stored new_keys new 1) plain) ∙ (rekeyed.first ∙ opened_plain_file old_keys 1 (page_stored old_keys old 1) was_plain))
+          ∙ sym (plain_fits old_keys (page_stored old_keys old 1) was_plain)
+          ∙ clean.opens.fit
+      by_plain false ciphered = by_tag (new_keys.profile.tag_len == 0) refl ciphered (was (is_plain old_keys.profile) refl)
+        where
+          was : (b : Bool) → is_plain old_keys.profile ≡ b → is_plain old_keys.profile ≡ false
+          was false is = is
+          was true is = absurd (differ (sym (same_plain_file old_keys.profile new_keys.profile old_listed new_listed reserves is) ∙ ciphered))
+            where
+              differ : true ≡ false → ⊥
+              differ is = cc
 
   opens_renewed : Opens new_keys new clean.held
   opens_renewed = opens_same count old_keys new_keys old new clean.held same_pages fit clean.opens

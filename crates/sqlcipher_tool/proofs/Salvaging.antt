@@ -6,7 +6,7 @@ use Rattle.std.specs.Cmp.Derive.{both_true}
 use Rattle.cipher_profile.specs.declared.keys.Secret.{Secret}
 use Rattle.cipher_profile.specs.declared.profile.Profile.{Profile}
 use Rattle.db_format.specs.Count.{largest_database}
-use Rattle.export_rows.specs.Out.{MovesPart}
+use Rattle.row_text.specs.Out.{MovesPart}
 use Rattle.page_codec.specs.Page.{FileKeys, accepts, keys_of}
 use Rattle.pager.specs.File.{page_stored, whole_pages}
 use Rattle.pager.specs.Pages.{is_number}

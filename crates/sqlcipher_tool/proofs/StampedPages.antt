@@ -1,26 +1,28 @@
 -- What a transaction leaves that changed page 1 to the stamped one.
-use Rattle.std.proofs.Common.{◌≡◌, ◌⊎◌, ⊎_elim, ◌==◌, ◌≤◌, ◌<◌, ◌+◌, ◌-◌, ◌*◌, ◌^◌, ◌++◌, ℕ, suc, zero, Bool, true, false, IsTrue, List, length, take, drop, Some, Result, Ok, sym, ap, subst, ◌∙◌, arith, rules, length-append, length-take, length-drop}
+use Rattle.std.proofs.Common.{◌≡◌, ◌⊎◌, ⊎_elim, ◌==◌, ◌≤◌, ◌<◌, ◌+◌, ◌-◌, ◌*◌, ◌^◌, ◌++◌, ℕ, suc, zero, Bool, true, false, IsTrue, List, length, take, drop, Some, Result, Ok, refl, sym, ap, subst, ◌∙◌, arith, rules, length-append, length-take, length-drop}
 use Rattle.std.proofs.lemmas.List.{take-take, length-take-le}
 use Rattle.std.specs.Cmp.Derive.{both_true}
-use Rattle.cipher_profile.specs.Profile.{usable}
+use Rattle.cipher_profile.specs.Profile.{is_plain, usable}
 use Rattle.db_format.specs.Bytes.{u32_at}
 use Rattle.db_format.specs.Count.{count_of_pages, largest_database}
 use Rattle.db_format.specs.Header.{header_fields, header_read}
 use Rattle.db_format.specs.declared.header.Header.{Header}
 use Rattle.db_format.specs.declared.header.HeaderRefusal.{HeaderRefusal}
-use Rattle.page_codec.specs.Page.{FileKeys, opened, salt_of}
+use Rattle.page_codec.proofs.Parts.{opened_plain_file}
+use Rattle.page_codec.specs.Page.{FileKeys, opened, salt_of, sealed}
 use Rattle.pager.specs.Database.{count_by, counted, ok_count}
 use Rattle.pager.specs.File.{page_stored}
 use Rattle.pager.specs.Pages.{is_number}
 use Rattle.pager.specs.UnderWay.{HasNewPages}
 use Rattle.pager.proofs.BatchLemmas.{number_is}
-use Rattle.rekey_job.proofs.Salt.{salt_stands}
+use Rattle.page_codec.proofs.Salt.{salt_stands}
 use Rattle.rekey_job.specs.Draws.{FileDraws}
 use Rattle.sqlcipher_tool.specs.Stamp.{IsStamped, field_at, next_change, stamped_page, with_field}
 use Rattle.sqlcipher_tool.specs.declared.command.Field.{Field}
 use Rattle.sqlcipher_tool.specs.declared.command.Field.TheVariants.{UserVersion, ApplicationId}
 use Rattle.sqlcipher_tool.proofs.Databases.{counted_pages, start_of}
 use Rattle.sqlcipher_tool.proofs.FileDraws.{file_draws}
+use Rattle.sqlcipher_tool.proofs.FirstBytes.{first_of_page, sealed_plain_file, stamped_first}
 use Rattle.sqlcipher_tool.proofs.OpenedParts.{IsOpen, header_size, open_count}
 use Rattle.sqlcipher_tool.proofs.StampedFields.{stamped_count, stamped_read}
 
@@ -194,7 +196,16 @@ module _ (keys : FileKeys) (field : Field) (value n : ℕ) (file : List ℕ) (he
       let one = new.own.is_sealed 1 (both_true numbered is_touched) in
       sym (take-take 16 keys.profile.page_size main (omega (arith, size_some)))
       ∙ (ap (λ (at : ℕ). take 16 (take keys.profile.page_size (drop at main))) {x = 0} {y = (1 - 1) * keys.profile.page_size} (omega arith)
-      ∙ (ap (λ (l : List ℕ). take 16 l) one ∙ salt_stands keys (pages 1) _ salt_long))
+      ∙ (ap (λ (l : List ℕ). take 16 l) one ∙ by_plain (is_plain keys.profile) refl _))
+    where
+      -- page 1 of a plain file is sealed as it is, and its first bytes were those of the file
+      by_plain : (b : Bool) → is_plain keys.profile ≡ b → (draw : List ℕ) → take 16 (sealed keys 1 (pages 1) draw) ≡ keys.salt
+      by_plain false ciphered draw = salt_stands keys (pages 1) draw ciphered salt_long
+      by_plain true is draw =
+          ap (λ (l : List ℕ). take 16 l) (sealed_plain_file keys 1 (pages 1) draw is ∙ is_page)
+          ∙ (stamped_first field value n plain place long
+          ∙ (ap (λ (l : List ℕ). take 16 l) (opened_plain_file keys 1 (page_stored keys file 1) is)
+          ∙ (first_of_page keys.profile.page_size file (omega (arith, size_some)) ∙ sym salt)))
 
   pub is_stamped : IsStamped keys field value file main
   is_stamped = record {

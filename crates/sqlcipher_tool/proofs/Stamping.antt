@@ -4,7 +4,7 @@ use Rattle.std.specs.Prelude.{OnOk, if◌then◌else◌, ◌&&◌, ◌==◌, tru
 use Rattle.std.specs.Str.{bytes_eq}
 use Rattle.std.proofs.lemmas.Slice.Eq.{bytes_eq-Decides}
 use Rattle.disk_side.specs.Published.{IsNew as IsAlone}
-use Rattle.cipher_profile.specs.Profile.{IsListed, usable}
+use Rattle.cipher_profile.specs.Profile.{IsListed, is_plain, usable}
 use Rattle.cipher_profile.specs.declared.profile.Profile.{Profile}
 use Rattle.cipher_profile.proofs.Layouts.{IsListed-laid_out}
 use Rattle.db_format.specs.declared.header.Header.{Header}
@@ -13,10 +13,9 @@ use Rattle.edge_model.specs.Images.{Each, LeavesOnly}
 use Rattle.edge_model.specs.Moments.{and_then, started, weaker}
 use Rattle.db_format.specs.Pages.{Pages}
 use Rattle.page_cache.specs.Pages.{Page}
-use Rattle.cipher_profile.specs.Keys.{page_keys}
 use Rattle.cipher_profile.specs.declared.keys.Secret.{Secret}
 use Rattle.edge_model.specs.Causes.{Rose}
-use Rattle.page_codec.specs.Page.{FileKeys, accepts, keys_of, opened, salt_of}
+use Rattle.page_codec.specs.Page.{FileKeys, accepts, keys_of, keys_with_salt, magic, opened, salt_of}
 use Rattle.pager.specs.Base.{base_of}
 use Rattle.pager.specs.Changed.{same_layout}
 use Rattle.pager.specs.Database.{count_by, count_of}
@@ -92,8 +91,9 @@ pub record SeesFirst (keys : FileKeys) (file : List ℕ) (seen : Pages) : Type 0
   pub accepted : seen.accepts 1 ≡ true
 
 pub sees_first : (keys read write : FileKeys) (file main : List ℕ) (header : Header) (n count : ℕ) (marks : List Bool) (held : List Page) → read ≡ keys → main ≡ file → count ≡ n → held ≡ []
-    → is_touched marks held 1 ≡ false → 1 ≤ n → file_opened keys file ≡ Ok (record { header = header; count = n }) → SeesFirst keys file (seen_pages read write main count marks held)
-sees_first keys read write file main header n count marks held one two three free untouched some opens =
+    → is_touched marks held 1 ≡ false → 1 ≤ n → IsListed keys.profile → file_opened keys file ≡ Ok (record { header = header; count = n })
+    → SeesFirst keys file (seen_pages read write main count marks held)
+sees_first keys read write file main header n count marks held one two three free untouched some listed opens =
     subst (λ (k : FileKeys). SeesFirst keys file (seen_pages k write main count marks held)) (sym one)
     (subst (λ (l : List ℕ). SeesFirst keys file (seen_pages keys write l count marks held)) (sym two)
     (subst (λ (i : ℕ). SeesFirst keys file (seen_pages keys write file i marks held)) (sym three)
@@ -116,7 +116,7 @@ sees_first keys read write file main header n count marks held one two three fre
     sees = record {
       page = ap (λ (k : FileKeys). (opened_pages k file n).page 1) same ∙ ap (λ (b : Bool). if b then opened keys 1 (page_stored keys file 1) else []) (one_number n some);
       accepted = ap (λ (k : FileKeys). (opened_pages k file n).accepts 1) same
-          ∙ (ap (λ (b : Bool). b && accepts keys 1 (page_stored keys file 1)) (one_number n some) ∙ open_accepts keys file header n (open_parts keys file header n opens));
+          ∙ (ap (λ (b : Bool). b && accepts keys 1 (page_stored keys file 1)) (one_number n some) ∙ open_accepts keys file header n listed (open_parts keys file header n opens));
     }
 
 -- the page that is written is the stamped one
@@ -203,10 +203,7 @@ rose_from before mid now le rose = omega (arith, le, rose)
 
 -- files with the same salt have the same keys
 pub same_keys : (profile : Profile) (secret : Secret) (one two : List ℕ) → salt_of one ≡ salt_of two → keys_of profile secret one ≡ keys_of profile secret two
-same_keys profile secret one two same = ap (λ (salt : List ℕ). keys_with profile secret salt) same
-  where
-    keys_with : Profile → Secret → List ℕ → FileKeys
-    keys_with profile secret salt = record { profile = profile; keys = page_keys profile secret salt; salt = salt }
+same_keys profile secret one two same = ap (λ (salt : List ℕ). keys_with_salt profile secret (if is_plain profile then magic else salt)) same
 
 -- ---- the disk
 

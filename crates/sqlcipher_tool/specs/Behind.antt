@@ -16,17 +16,17 @@ use Rattle.sqlcipher_tool.specs.declared.status.Status.{Status}
 use Rattle.sqlcipher_tool.specs.declared.status.Status.TheVariants.{Done, Usage, Refused, KeyRefused, DiskFault, OutputFault, InputFault, EntropyFault, OutOfMemory}
 
 -- The recovery was done, and behind it the disk was only read. A refusal of the key or of the recovered file says so, and Done of a
--- command that draws nothing, as it seals no page.
+-- command that changes nothing, as it seals no page.
 abbrev pub HasOnlyRead : Bool → Status → Type 0
-HasOnlyRead draws Done = draws ≡ false
-HasOnlyRead draws Usage = ⊥
-HasOnlyRead draws (Refused refusal) = (is_early refusal ≡ false) × (IsUnrecovered (Refused refusal) → ⊥)
-HasOnlyRead draws KeyRefused = Unit {0}
-HasOnlyRead draws DiskFault = ⊥
-HasOnlyRead draws OutputFault = ⊥
-HasOnlyRead draws InputFault = ⊥
-HasOnlyRead draws EntropyFault = ⊥
-HasOnlyRead draws OutOfMemory = ⊥
+HasOnlyRead alters Done = alters ≡ false
+HasOnlyRead alters Usage = ⊥
+HasOnlyRead alters (Refused refusal) = (is_early refusal ≡ false) × (IsUnrecovered (Refused refusal) → ⊥)
+HasOnlyRead alters KeyRefused = Unit {0}
+HasOnlyRead alters DiskFault = ⊥
+HasOnlyRead alters OutputFault = ⊥
+HasOnlyRead alters InputFault = ⊥
+HasOnlyRead alters EntropyFault = ⊥
+HasOnlyRead alters OutOfMemory = ⊥
 
 -- where Main had a byte, every image has the recovered file as Main and no journal
 abbrev pub IsRecovered : Profile → DiskRun → Type 0
@@ -35,8 +35,8 @@ IsRecovered profile run =
 
 -- so it is left by a command that recovers by this profile
 abbrev pub LeavesRecovered : Status → Bool → Option Profile → DiskRun → Type 0
-LeavesRecovered status draws None run = Unit {0}
-LeavesRecovered status draws (Some profile) run = HasOnlyRead draws status → IsRecovered profile run
+LeavesRecovered status alters None run = Unit {0}
+LeavesRecovered status alters (Some profile) run = HasOnlyRead alters status → IsRecovered profile run
 
 -- how a recovery stops a command
 abbrev pub IsOfRecovery : Stop → Type 0

@@ -1,12 +1,11 @@
 -- What a crash at any moment of a run leaves, and what the run leaves at its end.
-use Rattle.std.specs.Prelude.{◌≡◌, ◌⊎◌, ℕ, Bool, true, IsTrue, List, [], ◌∷◌, Option, Some, None, Result, Ok}
+use Rattle.std.specs.Prelude.{◌≡◌, ◌⊎◌, ℕ, Bool, true, IsTrue, List, [], ◌∷◌, Option, Some, None, Ok}
 use Rattle.edge_model.specs.Files.{Files, bytes_of}
 use Rattle.edge_model.specs.Images.{Each, From}
 use Rattle.disk_side.specs.Published.{IsNew as IsAlone}
 use Rattle.fresh_file.specs.Draws.{HasOwnDraws as AreOwn}
 use Rattle.make_job.specs.Free.{IsFree}
 use Rattle.make_job.specs.Made.{IsMade}
-use Rattle.cipher_profile.specs.declared.key_line.KeyError.{KeyError}
 use Rattle.cipher_profile.specs.declared.keys.Secret.{Secret}
 use Rattle.cipher_profile.specs.declared.profile.Profile.{Profile}
 use Rattle.rollback_journal.specs.Recovery.{Keeps as KeepsRecovered}
@@ -14,8 +13,10 @@ use Rattle.sqlcipher_tool.specs.declared.command.Command.{Command}
 use Rattle.sqlcipher_tool.specs.declared.command.Command.TheVariants.{Tags, Header, Verify, Export, Salvage, Find, Probe, Recover, Stamp, Rekey, Migrate, Make}
 use Rattle.sqlcipher_tool.specs.declared.status.Status.{Status}
 use Rattle.sqlcipher_tool.specs.declared.status.Status.TheVariants.{Done, Usage, Refused, KeyRefused, DiskFault, OutputFault, InputFault, EntropyFault, OutOfMemory}
+use Rattle.sqlcipher_tool.specs.Due.{key_lines}
 use Rattle.sqlcipher_tool.specs.Holding.{Held, HoldsOnly, HoldsOneOf, AreOfSize, DiskRun, held_by}
 use Rattle.sqlcipher_tool.specs.Make.{has_main_or_journal}
+use Rattle.sqlcipher_tool.specs.Promises.{asks_some}
 use Rattle.sqlcipher_tool.specs.Recovered.{recovered_main}
 use Rattle.sqlcipher_tool.specs.Renewal.{Renewal, renewal, old_keys, new_keys, AreDrawn, IsNewDrawn, WithDraws}
 use Rattle.page_codec.specs.Page.{keys_of}
@@ -120,9 +121,9 @@ MakesWith status profile rows tells drawn run (secret ∷ rest) = Makes status p
 
 -- ---- by command
 
--- the input told these secrets
-abbrev pub GaveKeys : Bool → Result (List Secret) KeyError → List Secret → Type 0
-GaveKeys tells lines secrets = IsTrue tells × (lines ≡ Ok secrets)
+-- these secrets are given for those that are asked for, by an input that tells its bytes, where a key line is taken of it
+abbrev pub GaveKeys : Bool → List Bool → List ℕ → List Secret → Type 0
+GaveKeys tells asked left secrets = (asks_some asked ≡ true → IsTrue tells) × (key_lines asked left ≡ Ok secrets)
 
 -- what a command keeps, whatever its status
 abbrev pub Keeps : Command → DiskRun → Type 0

@@ -1,10 +1,11 @@
 -- The answers that may come of the words, the input and the files, where nothing outside fails and memory does not run out. The files
 -- are those before the run, and those after it: `migrate` reports the count of pages of the file that it has made.
-use Rattle.std.specs.Prelude.{ℕ, zero, suc, List, [], ◌∷◌, Option, Some, None, Result, Ok, Err, if◌then◌else◌}
+use Rattle.std.specs.Prelude.{ℕ, Bool, true, false, List, [], ◌∷◌, Option, Some, None, Result, Ok, Err, if◌then◌else◌}
 use Rattle.edge_model.specs.Files.{Files}
 use Rattle.cipher_profile.specs.declared.key_line.KeyError.{KeyError}
 use Rattle.cipher_profile.specs.declared.key_line.KeyError.TheVariants.{KeyMissing, KeyEmpty, KeyTooLong, KeyForm, SourceFault}
 use Rattle.cipher_profile.specs.declared.keys.Secret.{Secret}
+use Rattle.cipher_profile.specs.declared.keys.Secret.TheVariants.{NoKey}
 use Rattle.cipher_profile.specs.KeyLine.{after_line, key_line}
 use Rattle.pager.specs.File.{main_of}
 use Rattle.sqlcipher_tool.specs.Answer.{Answer, refused, usage}
@@ -25,21 +26,31 @@ use Rattle.sqlcipher_tool.specs.Renewal.{pages_under}
 use Rattle.sqlcipher_tool.specs.Salvage.{salvage_answer}
 use Rattle.sqlcipher_tool.specs.Stamp.{stamp_answer}
 use Rattle.sqlcipher_tool.specs.Tags.{tags_answer}
-use Rattle.sqlcipher_tool.specs.Words.{form, keys_taken, lacks_tags, layouts_differ}
+use Rattle.sqlcipher_tool.specs.Words.{form, asked_keys, lacks_tags, layouts_differ}
 
 -- the refusal that the words alone decide
 abbrev pub word_refusal : Command → Option Refusal
 word_refusal command = if lacks_tags command then Some NoTags else (if layouts_differ command then Some LayoutDiffers else None)
 
--- so many key lines give these secrets, or the first line that gives none has this error
+-- the next secret: that of a key line, where one is read for it, and else that of a plain file
+abbrev pub secret_line : Bool → List ℕ → Result Secret KeyError
+secret_line true left = key_line left
+secret_line false left = Ok NoKey
+
+-- the input behind it
+abbrev pub rest_line : Bool → List ℕ → List ℕ
+rest_line true left = after_line left
+rest_line false left = left
+
+-- the secrets, for each of which a key line is read or not, or the error of the first line that gives none
 abbrev pub and_secrets : Result Secret KeyError → Result (List Secret) KeyError → Result (List Secret) KeyError
 and_secrets (Err error) rest = Err error
 and_secrets (Ok secret) (Err error) = Err error
 and_secrets (Ok secret) (Ok rest) = Ok (secret ∷ rest)
 
-abbrev pub key_lines : ℕ → List ℕ → Result (List Secret) KeyError
-key_lines zero left = Ok []
-key_lines (suc more) left = and_secrets (key_line left) (key_lines more (after_line left))
+abbrev pub key_lines : List Bool → List ℕ → Result (List Secret) KeyError
+key_lines [] left = Ok []
+key_lines (asks ∷ more) left = and_secrets (secret_line asks left) (key_lines more (rest_line asks left))
 
 -- the answer to a key line that gives no secret; the last is never due to a line
 abbrev pub key_answer : KeyError → Answer
@@ -90,7 +101,7 @@ keyed_answers command (Err error) files after = key_answer error ∷ []
 
 abbrev pub asked_answers : Option Refusal → Command → List ℕ → Files → Files → List Answer
 asked_answers (Some refusal) command left files after = refused refusal ∷ []
-asked_answers None command left files after = keyed_answers command (key_lines (keys_taken command) left) files after
+asked_answers None command left files after = keyed_answers command (key_lines (asked_keys command) left) files after
 
 abbrev pub command_answers : Option Command → List ℕ → Files → Files → List Answer
 command_answers None left files after = usage ∷ []

@@ -1,9 +1,8 @@
 -- The words of the top call's clauses.
-use Rattle.std.specs.Prelude.{◌≡◌, ◌⊎◌, ◌≤◌, ◌*◌, ◌==◌, ℕ, zero, suc, not, Bool, true, false, IsTrue, List, [], ◌∷◌, ◌++◌, drop, Some, None, Result, Ok, Err}
+use Rattle.std.specs.Prelude.{◌≡◌, ◌⊎◌, ◌≤◌, ◌+◌, ◌*◌, ◌==◌, ℕ, not, Bool, true, false, IsTrue, List, [], ◌∷◌, ◌++◌, drop, Some, None, Result, Ok, Err}
 use Rattle.std.specs.List.{Contains}
 use Rattle.cipher_profile.specs.declared.keys.Secret.{Secret}
 use Rattle.cipher_profile.specs.declared.key_line.KeyError.{KeyError}
-use Rattle.cipher_profile.specs.KeyLine.{after_line, key_line}
 use Rattle.sqlcipher_tool.specs.Answer.{Answer, IsAnswered, PutsPart}
 use Rattle.edge_model.specs.Files.{Files}
 use Rattle.sqlcipher_tool.specs.Make.{has_main_or_journal}
@@ -12,13 +11,23 @@ use Rattle.sqlcipher_tool.specs.declared.command.Command.TheVariants.{Tags, Head
 use Rattle.sqlcipher_tool.specs.declared.status.Refusal.TheVariants.{JournalPageSize, SuperJournal}
 use Rattle.sqlcipher_tool.specs.declared.status.Status.{Status}
 use Rattle.sqlcipher_tool.specs.declared.status.Status.TheVariants.{Done, Usage, Refused, KeyRefused, DiskFault, OutputFault, InputFault, EntropyFault, OutOfMemory}
-use Rattle.sqlcipher_tool.specs.Due.{key_lines, word_refusal}
-use Rattle.sqlcipher_tool.specs.Words.{form, keys_taken, takes_memory}
+use Rattle.sqlcipher_tool.specs.Due.{key_lines, rest_line, secret_line, word_refusal}
+use Rattle.sqlcipher_tool.specs.Words.{form, asked_keys, takes_memory}
 
 -- ---- what was asked
 
+-- how many key lines are read
+abbrev pub lines_read : List Bool → ℕ
+lines_read [] = 0
+lines_read (true ∷ rest) = 1 + lines_read rest
+lines_read (false ∷ rest) = lines_read rest
+
+abbrev pub asks_some : List Bool → Bool
+asks_some asked = not (lines_read asked == 0)
+
+-- a key line is read for it
 abbrev pub takes_keys : Command → Bool
-takes_keys command = not (keys_taken command == 0)
+takes_keys command = asks_some (asked_keys command)
 
 -- the words are a command of which this holds
 abbrev pub AreWordsThat : (Command → Bool) → List (List ℕ) → Type 0
@@ -52,11 +61,11 @@ abbrev pub left_after : Result Secret KeyError → List ℕ → List ℕ → Lis
 left_after (Ok secret) rest left = rest
 left_after (Err error) rest left = left
 
-abbrev pub after_lines : ℕ → List ℕ → List ℕ
-after_lines zero left = left
-after_lines (suc more) left = left_after (key_line left) (after_lines more (after_line left)) (after_line left)
+abbrev pub after_lines : List Bool → List ℕ → List ℕ
+after_lines [] left = left
+after_lines (asks ∷ more) left = left_after (secret_line asks left) (after_lines more (rest_line asks left)) (rest_line asks left)
 
--- what two key lines gave, as a list
+-- what was read for two secrets, as a list
 abbrev pub two_secrets : Result (Secret × Secret) KeyError → Result (List Secret) KeyError
 two_secrets (Ok both) = Ok (both.0 ∷ both.1 ∷ [])
 two_secrets (Err error) = Err error
@@ -67,18 +76,18 @@ pub record TakesAtMost (most : ℕ) (before after : List ℕ) : Type 0 where
   pub few : taken ≤ most
   pub is : after ≡ drop taken before
 
--- The key lines are taken, up to the first that gives no secret, and no byte more. After a fault of the input it may be
+-- The key lines that are read for the secrets are taken, up to the first that gives none, and no byte more. After a fault of the input it may be
 -- fewer, a line of at most 1,025 bytes each.
-abbrev pub TakesLines : Status → ℕ → List ℕ → List ℕ → Type 0
-TakesLines Done lines before after = after ≡ after_lines lines before
-TakesLines Usage lines before after = after ≡ after_lines lines before
-TakesLines (Refused refusal) lines before after = after ≡ after_lines lines before
-TakesLines KeyRefused lines before after = after ≡ after_lines lines before
-TakesLines DiskFault lines before after = after ≡ after_lines lines before
-TakesLines OutputFault lines before after = after ≡ after_lines lines before
-TakesLines InputFault lines before after = TakesAtMost (1025 * lines) before after
-TakesLines EntropyFault lines before after = after ≡ after_lines lines before
-TakesLines OutOfMemory lines before after = after ≡ after_lines lines before
+abbrev pub TakesLines : Status → List Bool → List ℕ → List ℕ → Type 0
+TakesLines Done asked before after = after ≡ after_lines asked before
+TakesLines Usage asked before after = after ≡ after_lines asked before
+TakesLines (Refused refusal) asked before after = after ≡ after_lines asked before
+TakesLines KeyRefused asked before after = after ≡ after_lines asked before
+TakesLines DiskFault asked before after = after ≡ after_lines asked before
+TakesLines OutputFault asked before after = after ≡ after_lines asked before
+TakesLines InputFault asked before after = TakesAtMost (1025 * lines_read asked) before after
+TakesLines EntropyFault asked before after = after ≡ after_lines asked before
+TakesLines OutOfMemory asked before after = after ≡ after_lines asked before
 
 -- ---- the answer
 
@@ -125,4 +134,4 @@ pub record ComesLate (words : List (List ℕ)) (tells : Bool) (left : List ℕ) 
   pub is_form : form words ≡ Some command
   pub takes_some : takes_memory command ≡ true
   pub no_refusal : word_refusal command ≡ None
-  pub has_keys : IsTrue tells → (secrets : List Secret) × (key_lines (keys_taken command) left ≡ Ok secrets)
+  pub has_keys : IsTrue tells → (secrets : List Secret) × (key_lines (asked_keys command) left ≡ Ok secrets)

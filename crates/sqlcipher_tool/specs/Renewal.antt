@@ -90,7 +90,7 @@ IsNew (Rekey old new) renewal before after = IsRekeyedSo (old_keys renewal befor
 IsNew (Migrate old new) renewal before after = IsMigratedSo (old_keys renewal before) (new_keys renewal after) before after
 IsNew (Make profile rows) renewal before after = IsMade renewal.new_profile renewal.new_secret rows after
 
--- each page of the new file that the command sealed has drawn bytes of its own
+-- each page of the new file that the command sealed has drawn bytes of its own; a plain file takes none, and nothing is asked of one
 abbrev pub AreDrawn : Command → Renewal → List ℕ → List ℕ → Type 0
 AreDrawn (Tags profile) renewal file drawn = ⊥
 AreDrawn (Header profile) renewal file drawn = ⊥

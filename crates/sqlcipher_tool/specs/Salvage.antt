@@ -4,18 +4,13 @@ use Rattle.std.specs.Prelude.{ℕ, ◌&&◌, not, nat_lt, Bool, List, ◌++◌, 
 use Rattle.std.specs.List.{list_all, range_with_len}
 use Rattle.cipher_profile.specs.declared.keys.Secret.{Secret}
 use Rattle.cipher_profile.specs.declared.profile.Profile.{Profile}
-use Rattle.db_format.specs.Pages.{Pages}
 use Rattle.page_codec.specs.Page.{FileKeys, keys_of}
 use Rattle.pager.specs.File.{whole_pages}
-use Rattle.pager.specs.Pages.{opened_pages}
+pub use Rattle.salvage_scan.specs.Salvage.{pages_of_file as file_pages}
 use Rattle.salvage_scan.specs.Salvage.{salvage_lines}
 use Rattle.salvage_scan.specs.Text.{salvage_report}
 use Rattle.sqlcipher_tool.specs.Answer.{Answer, Cause, done, first_of, key_refused}
 use Rattle.sqlcipher_tool.specs.Opening.{length_causes, size_causes}
-
--- the whole pages of the file by its length, each opened with these keys
-abbrev pub file_pages : FileKeys → List ℕ → Pages
-file_pages keys file = opened_pages keys file (whole_pages keys.profile file)
 
 -- the profile has tags, and no page is accepted
 abbrev pub opens_none : FileKeys → List ℕ → Bool

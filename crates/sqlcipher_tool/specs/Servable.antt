@@ -7,7 +7,7 @@ use Rattle.btree_model.specs.Schema.{schema_part}
 use Rattle.btree_page.specs.declared.kind.Family.TheVariants.{Table}
 use Rattle.cipher_profile.specs.declared.keys.Secret.{Secret}
 use Rattle.cipher_profile.specs.declared.profile.Profile.{Profile}
-use Rattle.cipher_profile.specs.Profile.{IsListed, usable}
+use Rattle.cipher_profile.specs.Profile.{IsListed, is_plain, usable}
 use Rattle.db_format.specs.Count.{largest_database}
 use Rattle.db_format.specs.Pages.{nothing}
 use Rattle.edge_model.specs.Causes.{Rose}
@@ -31,7 +31,7 @@ use Rattle.sqlcipher_tool.specs.Plain.{IsClean, Opens}
 use Rattle.sqlcipher_tool.specs.Probe.{is_fitting}
 use Rattle.sqlcipher_tool.specs.Recovered.{recovered_main, recovery_of}
 use Rattle.sqlcipher_tool.specs.Salvage.{opens_none}
-use Rattle.sqlcipher_tool.specs.Words.{form, keys_taken}
+use Rattle.sqlcipher_tool.specs.Words.{form, asked_keys}
 
 -- ---- what each command asks of the files
 
@@ -65,11 +65,12 @@ pub record HasPages (profile : Profile) (secret : Secret) (file : List ℕ) : Ty
   pub few : whole_pages profile file * profile.page_size ≤ largest_database
   pub opens : opens_none (keys_of profile secret file) file ≡ false
 
--- no journal is there, and the key fits under some profile
+-- no journal is there, and the key fits under some profile that is not plain
 pub record IsProbed (secret : Secret) (files : Files) : Type 0 where
   pub no_journal : files.journal ≡ None
   pub profile : Profile
   pub listed : IsListed profile
+  pub ciphered : is_plain profile ≡ false
   pub fit : is_fitting secret (main_of files) profile ≡ true
 
 -- a new file of this content has no more pages than are served
@@ -115,7 +116,7 @@ pub record CanBeServed (words : List (List ℕ)) (left : List ℕ) (files : File
   pub is_form : form words ≡ Some command
   pub no_refusal : word_refusal command ≡ None
   pub secrets : List Secret
-  pub gave : key_lines (keys_taken command) left ≡ Ok secrets
+  pub gave : key_lines (asked_keys command) left ≡ Ok secrets
   pub servable : IsServable command secrets files
 
 -- ---- a file that stands alone
@@ -124,7 +125,7 @@ pub record CanBeServed (words : List (List ℕ)) (left : List ℕ) (files : File
 abbrev pub standing : File → Option File → Files
 standing file fresh = record { main = Some file; journal = None; fresh = fresh }
 
--- the command reads a file of this profile, and nothing of what it asks rests on the size of the content
+-- the command reads a file of this profile, and nothing of what it asks rests on the size of the content; `probe` finds no plain file
 abbrev pub IsReading : Profile → Command → Type 0
 IsReading profile (Tags other) = other ≡ profile
 IsReading profile (Header other) = other ≡ profile
@@ -132,7 +133,7 @@ IsReading profile (Verify other) = other ≡ profile
 IsReading profile (Export other) = other ≡ profile
 IsReading profile (Salvage other) = other ≡ profile
 IsReading profile (Find other name low high) = ⊥
-IsReading profile Probe = Unit {0}
+IsReading profile Probe = is_plain profile ≡ false
 IsReading profile (Recover other) = other ≡ profile
 IsReading profile (Stamp other field value) = other ≡ profile
 IsReading profile (Rekey old new) = old ≡ profile

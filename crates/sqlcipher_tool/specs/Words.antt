@@ -1,28 +1,31 @@
 -- The words of the command line. P and P2 name profiles, and N is one to ten digits, at most 4,294,967,295. NAME is any word. LOW and
 -- HIGH are one to 19 digits, with or without a minus before them, and from -2^63 to 2^63 - 1.
 --
--- | words                      | command                         | key lines | draws |
--- | `tags P`                   | Tags profile P                  | 1         | no    |
--- | `header P`                 | Header profile P                | 1         | no    |
--- | `verify P`                 | Verify profile P                | 1         | no    |
--- | `export P`                 | Export profile P                | 1         | no    |
--- | `salvage P`                | Salvage profile P               | 1         | no    |
--- | `find P NAME LOW HIGH`     | Find profile P NAME LOW HIGH    | 1         | no    |
--- | `probe`                    | Probe                           | 1         | no    |
--- | `recover P`                | Recover profile P               | 0         | no    |
--- | `stamp P user-version N`   | Stamp profile P UserVersion N   | 1         | yes   |
--- | `stamp P application-id N` | Stamp profile P ApplicationId N | 1         | yes   |
--- | `rekey P P2`               | Rekey profile P, profile P2     | 2         | yes   |
--- | `migrate P P2`             | Migrate profile P, profile P2   | 2         | yes   |
--- | `make P N`                 | Make profile P N                | 1         | yes   |
-use Rattle.std.specs.Prelude.{ℕ, ℤ, pos, neg_ℤ, ◌^◌, ◌-◌, drop, ◌==◌, ◌&&◌, not, nat_le, nat_lt, Bool, true, false, List, [], ◌∷◌, length, map, Option, Some, None, codes, if◌then◌else◌}
+-- The last three columns say for which profiles a key line is read (`asked_keys`), whether the file is changed (`alters`), and for which
+-- profile bytes are drawn from the entropy (`draws`): a plain profile has no key, so none is read for it, and nothing is drawn for it.
+--
+-- | words                      | command                         | key lines | changes | draws  |
+-- | `tags P`                   | Tags profile P                  | P         | no      | no     |
+-- | `header P`                 | Header profile P                | P         | no      | no     |
+-- | `verify P`                 | Verify profile P                | P         | no      | no     |
+-- | `export P`                 | Export profile P                | P         | no      | no     |
+-- | `salvage P`                | Salvage profile P               | P         | no      | no     |
+-- | `find P NAME LOW HIGH`     | Find profile P NAME LOW HIGH    | P         | no      | no     |
+-- | `probe`                    | Probe                           | one       | no      | no     |
+-- | `recover P`                | Recover profile P               | none      | no      | no     |
+-- | `stamp P user-version N`   | Stamp profile P UserVersion N   | P         | yes     | for P  |
+-- | `stamp P application-id N` | Stamp profile P ApplicationId N | P         | yes     | for P  |
+-- | `rekey P P2`               | Rekey profile P, profile P2     | P, P2     | yes     | for P2 |
+-- | `migrate P P2`             | Migrate profile P, profile P2   | P, P2     | yes     | for P2 |
+-- | `make P N`                 | Make profile P N                | P         | yes     | for P  |
+use Rattle.std.specs.Prelude.{ℕ, ℤ, pos, neg_ℤ, ◌^◌, ◌-◌, drop, ◌==◌, ◌&&◌, ◌||◌, not, nat_le, nat_lt, Bool, true, false, List, [], ◌∷◌, length, map, Option, Some, None, codes, if◌then◌else◌}
 use Rattle.std.specs.Borrow.{Bor}
 use Rattle.std.specs.Char.{digit_value}
 use Rattle.std.specs.List.{list_all}
 use Rattle.std.specs.Option.{option_map, option_and_then}
 use Rattle.std.specs.Str.{bytes_eq}
 use Rattle.std.specs.Str.Parse.{digits_value, starts_with_minus}
-use Rattle.cipher_profile.specs.Profile.{IsListed, profile_named}
+use Rattle.cipher_profile.specs.Profile.{IsListed, is_plain, profile_named}
 use Rattle.cipher_profile.specs.declared.profile.Profile.{Profile}
 use Rattle.sqlcipher_tool.specs.declared.command.Command.{Command}
 use Rattle.sqlcipher_tool.specs.declared.command.Command.TheVariants.{Tags, Header, Verify, Export, Salvage, Find, Probe, Recover, Stamp, Rekey, Migrate, Make}
@@ -132,7 +135,7 @@ lacks_tags (Rekey old new) = false
 lacks_tags (Migrate old new) = false
 lacks_tags (Make profile rows) = false
 
--- it asks for new keys in place, of a profile whose pages have another size or reserve
+-- it asks for new keys in place, of a profile whose pages have another size or reserve, or of a plain file, which has no key
 abbrev pub layouts_differ : Command → Bool
 layouts_differ (Tags profile) = false
 layouts_differ (Header profile) = false
@@ -143,24 +146,24 @@ layouts_differ (Find profile name low high) = false
 layouts_differ Probe = false
 layouts_differ (Recover profile) = false
 layouts_differ (Stamp profile field value) = false
-layouts_differ (Rekey old new) = not (old.page_size == new.page_size && old.reserve == new.reserve)
+layouts_differ (Rekey old new) = is_plain old || not (old.page_size == new.page_size && old.reserve == new.reserve)
 layouts_differ (Migrate old new) = false
 layouts_differ (Make profile rows) = false
 
--- how many key lines it takes
-abbrev pub keys_taken : Command → ℕ
-keys_taken (Tags profile) = 1
-keys_taken (Header profile) = 1
-keys_taken (Verify profile) = 1
-keys_taken (Export profile) = 1
-keys_taken (Salvage profile) = 1
-keys_taken (Find profile name low high) = 1
-keys_taken Probe = 1
-keys_taken (Recover profile) = 0
-keys_taken (Stamp profile field value) = 1
-keys_taken (Rekey old new) = 2
-keys_taken (Migrate old new) = 2
-keys_taken (Make profile rows) = 1
+-- for each secret that it takes, whether a key line is read for it: that of a plain file is none
+abbrev pub asked_keys : Command → List Bool
+asked_keys (Tags profile) = not (is_plain profile) ∷ []
+asked_keys (Header profile) = not (is_plain profile) ∷ []
+asked_keys (Verify profile) = not (is_plain profile) ∷ []
+asked_keys (Export profile) = not (is_plain profile) ∷ []
+asked_keys (Salvage profile) = not (is_plain profile) ∷ []
+asked_keys (Find profile name low high) = not (is_plain profile) ∷ []
+asked_keys Probe = true ∷ []
+asked_keys (Recover profile) = []
+asked_keys (Stamp profile field value) = not (is_plain profile) ∷ []
+asked_keys (Rekey old new) = not (is_plain old) ∷ not (is_plain new) ∷ []
+asked_keys (Migrate old new) = not (is_plain old) ∷ not (is_plain new) ∷ []
+asked_keys (Make profile rows) = not (is_plain profile) ∷ []
 
 -- it takes memory
 abbrev pub takes_memory : Command → Bool
@@ -177,7 +180,22 @@ takes_memory (Rekey old new) = true
 takes_memory (Migrate old new) = true
 takes_memory (Make profile rows) = true
 
--- it draws from the entropy
+-- it changes the file: it seals pages of it
+abbrev pub alters : Command → Bool
+alters (Tags profile) = false
+alters (Header profile) = false
+alters (Verify profile) = false
+alters (Export profile) = false
+alters (Salvage profile) = false
+alters (Find profile name low high) = false
+alters Probe = false
+alters (Recover profile) = false
+alters (Stamp profile field value) = true
+alters (Rekey old new) = true
+alters (Migrate old new) = true
+alters (Make profile rows) = true
+
+-- it draws from the entropy, as pages are sealed that are not of a plain file
 abbrev pub draws : Command → Bool
 draws (Tags profile) = false
 draws (Header profile) = false
@@ -187,10 +205,10 @@ draws (Salvage profile) = false
 draws (Find profile name low high) = false
 draws Probe = false
 draws (Recover profile) = false
-draws (Stamp profile field value) = true
-draws (Rekey old new) = true
-draws (Migrate old new) = true
-draws (Make profile rows) = true
+draws (Stamp profile field value) = not (is_plain profile)
+draws (Rekey old new) = not (is_plain new)
+draws (Migrate old new) = not (is_plain new)
+draws (Make profile rows) = not (is_plain profile)
 
 -- it prints rows before it has looked at all pages that it reads
 abbrev pub finds : Command → Bool

@@ -1,8 +1,9 @@
 // The words of the command line.
 ghost use Rattle.std.specs.Prelude.{◌≡◌, ◌∷◌, [], IfSome};
 ghost use Rattle.sqlcipher_tool.specs.Due.{word_refusal};
+ghost use Rattle.sqlcipher_tool.specs.Promises.{takes_keys};
 ghost use Rattle.sqlcipher_tool.specs.declared.command.Command.TheVariants.{Rekey as RekeyOf, Migrate as MigrateOf};
-ghost use Rattle.sqlcipher_tool.specs.Words.{form, find_form, stamp_form, two_profiles, make_form, field_named, number_named, rowid_named, texts, lacks_tags, layouts_differ, IsServed};
+ghost use Rattle.sqlcipher_tool.specs.Words.{form, find_form, stamp_form, two_profiles, make_form, field_named, number_named, rowid_named, texts, draws, lacks_tags, layouts_differ, IsServed};
 
 use crate::status::Refusal;
 use cipher_profile::{Profile, profile_of};
@@ -120,6 +121,46 @@ impl<'w> Command<'w> {
         None
     }
 
+    /// Whether a key line is read for it.
+    pub fn takes_keys(&self) -> bool
+        ensures { result ≡ takes_keys self.now }
+    {
+        match self {
+            Command::Tags(profile)
+            | Command::Header(profile)
+            | Command::Verify(profile)
+            | Command::Export(profile)
+            | Command::Salvage(profile) => !profile.is_plain(),
+            Command::Find { profile, .. } => !profile.is_plain(),
+            Command::Probe => true,
+            Command::Recover(_) => false,
+            Command::Stamp { profile, .. } => !profile.is_plain(),
+            Command::Rekey { old, new } => !old.is_plain() || !new.is_plain(),
+            Command::Migrate { old, new } => !old.is_plain() || !new.is_plain(),
+            Command::Make { profile, .. } => !profile.is_plain(),
+        }
+    }
+
+    /// Whether it draws from the entropy: it seals pages, and not those of a plain file.
+    pub fn draws(&self) -> bool
+        ensures { result ≡ draws self.now }
+    {
+        match self {
+            Command::Stamp { profile, .. } => !profile.is_plain(),
+            Command::Rekey { new, .. } => !new.is_plain(),
+            Command::Migrate { new, .. } => !new.is_plain(),
+            Command::Make { profile, .. } => !profile.is_plain(),
+            Command::Tags(_)
+            | Command::Header(_)
+            | Command::Verify(_)
+            | Command::Export(_)
+            | Command::Salvage(_)
+            | Command::Find { .. }
+            | Command::Probe
+            | Command::Recover(_) => false,
+        }
+    }
+
     // Whether it asks for tags that the profile has not.
     fn lacks_tags(&self) -> bool
         ensures { result ≡ lacks_tags self.now }
@@ -140,13 +181,13 @@ impl<'w> Command<'w> {
         }
     }
 
-    // Whether it asks for new keys in place, of a profile whose pages have another size or reserve.
+    // Whether it asks for new keys in place, of a profile whose pages have another size or reserve, or of a plain file.
     fn layouts_differ(&self) -> bool
         ensures { result ≡ layouts_differ self.now }
     {
         match self {
             Command::Rekey { old, new } => {
-                !(old.page_size == new.page_size && old.reserve == new.reserve)
+                old.is_plain() || !(old.page_size == new.page_size && old.reserve == new.reserve)
             }
             Command::Tags(_)
             | Command::Header(_)

@@ -1,5 +1,5 @@
 // That nothing but what stands in its way, a fault outside and want of memory keep a command from being done.
-ghost use Rattle.std.specs.Prelude.{◌≡◌, ◌∷◌, [], ℕ, List, Ok, Option, codes, length};
+ghost use Rattle.std.specs.Prelude.{◌≡◌, ◌∷◌, [], ℕ, Bool, List, Ok, Option, codes, length};
 ghost use Rattle.cipher_profile.specs.declared.keys.Secret.{Secret};
 ghost use Rattle.cipher_profile.specs.declared.profile.Profile.{Profile};
 ghost use Rattle.cipher_profile.specs.Profile.{IsListed};
@@ -10,9 +10,9 @@ ghost use Rattle.sqlcipher_tool.specs.Servable.{CanBeServed, IsDoneAlone, IsRead
 ghost use Rattle.sqlcipher_tool.specs.declared.command.Command.{Command};
 ghost use Rattle.sqlcipher_tool.specs.declared.command.Command.TheVariants.{Migrate};
 
-/// So many key lines give so many secrets.
+/// Each secret that is asked for is given, by a key line or without one.
 pub fn key_lines_law()
-    ensures { (lines : ℕ) (left : List ℕ) (secrets : List Secret) → key_lines lines left ≡ Ok secrets → length secrets ≡ lines }
+    ensures { (asked : List Bool) (left : List ℕ) (secrets : List Secret) → key_lines asked left ≡ Ok secrets → length secrets ≡ length asked }
 {}
 
 /// Where nothing stands in the way of the command that the words make, Done alone is due.

@@ -33,7 +33,7 @@ ghost use Rattle.sqlcipher_tool.specs.Rekey.{rekey_answers};
 ghost use Rattle.sqlcipher_tool.specs.Reported.{CanBeMigrated, CanBeRekeyed, IsExported, IsVerified, Reports};
 ghost use Rattle.sqlcipher_tool.specs.Servable.{HasTable};
 ghost use Rattle.sqlcipher_tool.specs.Text.{migrated_report, rekeyed_report, verify_report};
-ghost use Rattle.sqlcipher_tool.specs.Words.{form};
+ghost use Rattle.sqlcipher_tool.specs.Words.{asked_keys, form};
 ghost use Rattle.sqlcipher_tool.specs.declared.command.Command.TheVariants.{Export as ExportFile, Verify as VerifyFile};
 ghost use Rattle.sqlcipher_tool.specs.declared.job.Job.TheVariants.{Export, Find, Verify};
 ghost use Rattle.sqlcipher_tool.specs.declared.status.Status.TheVariants.{Done};
@@ -66,7 +66,7 @@ pub fn verify_clean_law()
 /// So where `verify` was done, as `run` answers it, the recovered file is clean, and its counts were printed.
 pub fn verify_run_law()
     ensures { (words : List (List ℕ)) (left : List ℕ) (files after : Files) (profile : Profile) (secret : Secret) (tells : Bool) (was now : List ℕ)
-        → form words ≡ Some (VerifyFile profile) → key_lines 1 left ≡ Ok (secret ∷ []) → AnswersOne (due words left files after) Done tells was now
+        → form words ≡ Some (VerifyFile profile) → key_lines (asked_keys (VerifyFile profile)) left ≡ Ok (secret ∷ []) → AnswersOne (due words left files after) Done tells was now
         → Reports profile files (λ file text. IsVerified (keys_of profile secret file) file text) tells was now }
 {}
 
@@ -93,7 +93,7 @@ pub fn export_opens_law()
 /// So where `export` was done, the recovered file opens, and the text of its content was printed.
 pub fn export_run_law()
     ensures { (words : List (List ℕ)) (left : List ℕ) (files after : Files) (profile : Profile) (secret : Secret) (tells : Bool) (was now : List ℕ)
-        → form words ≡ Some (ExportFile profile) → key_lines 1 left ≡ Ok (secret ∷ []) → AnswersOne (due words left files after) Done tells was now
+        → form words ≡ Some (ExportFile profile) → key_lines (asked_keys (ExportFile profile)) left ≡ Ok (secret ∷ []) → AnswersOne (due words left files after) Done tells was now
         → Reports profile files (λ file text. IsExported (keys_of profile secret file) file text) tells was now }
 {}
 

@@ -14,6 +14,7 @@ mod laws;
 mod make;
 mod migrate;
 mod names;
+mod no_entropy;
 mod opening;
 mod probe;
 mod recovery;

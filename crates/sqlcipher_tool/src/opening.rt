@@ -1,10 +1,10 @@
 // A file is opened for its secret: nothing stands in the way, and the key fits.
-ghost use Rattle.std.specs.Prelude.{◌≡◌, ◌⊎◌, ◌*◌, ◌/◌, ◌<◌, ◌≤◌, length, None, Ok, IfOk, OnOk, IfErr, IsTrue};
+ghost use Rattle.std.specs.Prelude.{◌≡◌, ◌⊎◌, ◌*◌, ◌/◌, ◌<◌, ◌≤◌, length, true, None, Ok, IfOk, OnOk, IfErr, IsTrue};
 ghost use Rattle.edge_model.specs.Causes.{HasCause, Rose};
 ghost use Rattle.edge_model.specs.OnlyRead.{OnlyRead};
-ghost use Rattle.cipher_profile.specs.Profile.{IsListed};
+ghost use Rattle.cipher_profile.specs.Profile.{IsListed, is_plain};
 ghost use Rattle.db_format.specs.Count.{largest_database};
-ghost use Rattle.page_codec.specs.Page.{keys_of};
+ghost use Rattle.page_codec.specs.Page.{codec_salt, keys_of, magic};
 ghost use Rattle.pager.specs.File.{main_of};
 ghost use Rattle.sqlcipher_tool.specs.Answer.{first_of};
 ghost use Rattle.sqlcipher_tool.specs.Opening.{length_causes, key_causes, opened_with, unopened_answer, AreRecovered};
@@ -17,7 +17,7 @@ use crate::status::Refusal;
 use cipher_profile::{Profile, Secret, derive};
 use db_format::LARGEST_DATABASE;
 use edge_model::{Disk, Failed};
-use page_codec::Codec;
+use page_codec::{Codec, MAGIC};
 use pager::{OpenError, OpenedFile, codec_of, read_main};
 use std::alloc::Global;
 
@@ -213,12 +213,28 @@ fn two_codecs<D: Disk>(
     ensures cause { HasCause (D.faults disk.old) (D.faults disk.new) result }
     ensures only_read { IsTrue D.tells → OnlyRead D.reads D.images D.moment D.since disk.old disk.new }
 {
-    let _usable = profile.usable();
-    let mut salt = [0u8; 16];
-    read_main(disk, 0, &mut salt)?;
+    let salt = salt_of_main(disk, profile)?;
     let keys = derive(secret, &profile, &salt);
     Ok((
         Codec::new(profile, keys, salt),
         Codec::new(profile, keys, salt),
     ))
+}
+
+// The salt of Main's codec: a plain file has none of its own.
+fn salt_of_main<D: Disk>(disk: &mut D, profile: Profile) -> Result<[u8; 16], Failed>
+    requires listed { IsListed profile }
+    requires some { IsTrue D.tells → profile.page_size ≤ length (main_of (D.reads disk.old)) }
+    ensures salt { IfOk result (λ salt. IsTrue D.tells → salt ≡ codec_salt profile (main_of (D.reads disk.old))) }
+    ensures plain { IfOk result (λ salt. is_plain profile ≡ true → salt ≡ magic) }
+    ensures cause { HasCause (D.faults disk.old) (D.faults disk.new) result }
+    ensures only_read { IsTrue D.tells → OnlyRead D.reads D.images D.moment D.since disk.old disk.new }
+{
+    if profile.is_plain() {
+        return Ok(MAGIC);
+    }
+    let _usable = profile.usable();
+    let mut salt = [0u8; 16];
+    read_main(disk, 0, &mut salt)?;
+    Ok(salt)
 }

@@ -18,7 +18,7 @@ use edge_model::{Disk, Failed, Role, Sink};
 use page_codec::Codec;
 use pager::{MAX_PAGE, file_length, read_main, read_page};
 
-// The length of the shortest page of any profile, in bytes.
+// The length of the shortest page of any profile that is tried, in bytes.
 const LEAST_PAGE: u64 = 1024;
 
 /// `probe` with this secret.

@@ -1,14 +1,14 @@
 // `rekey`: every page is sealed under another key, in one transaction.
-ghost use Rattle.std.specs.Prelude.{◌≡◌, ◌≢◌, ◌≤◌, ℕ, List, drop, length, Ok, Err, IfErr, IsErr, OnOk, IsTrue, Some};
+ghost use Rattle.std.specs.Prelude.{◌≡◌, ◌≢◌, ◌≤◌, ℕ, true, List, drop, length, Ok, Err, IfErr, IsErr, OnOk, IsTrue, Some};
 ghost use Rattle.std.specs.List.{Contains};
 ghost use Rattle.disk_side.specs.OnlyFresh.{IsOld};
 ghost use Rattle.disk_side.specs.Published.{IsNew as IsAlone};
 ghost use Rattle.edge_model.specs.Causes.{Rose};
 ghost use Rattle.edge_model.specs.Images.{Each, From, LeavesOnly};
 ghost use Rattle.edge_model.specs.OnlyRead.{OnlyRead};
-ghost use Rattle.cipher_profile.specs.Profile.{IsListed};
+ghost use Rattle.cipher_profile.specs.Profile.{IsListed, is_plain};
 ghost use Rattle.db_format.specs.Source.{no_pins};
-ghost use Rattle.page_codec.specs.Page.{keys_of, salt_of};
+ghost use Rattle.page_codec.specs.Page.{keys_of, magic, salt_of};
 ghost use Rattle.pager.specs.File.{main_of};
 ghost use Rattle.pager.specs.Held.{pins_of};
 ghost use Rattle.pager.specs.Opening.{file_opened};
@@ -82,7 +82,8 @@ pub fn rekey_file<E: Entropy, D: Disk>(
 
 // The codec that the secret gives for a file with this salt.
 fn codec_of_salt(profile: Profile, secret: &Secret, salt: [u8; 16]) -> Codec
-    requires { IsListed profile }
+    requires listed { IsListed profile }
+    requires plain { is_plain profile ≡ true → salt ≡ magic }
     ensures keys { (file : List ℕ) → salt ≡ salt_of file → result ≡ keys_of profile secret.now file }
     ensures profile { result.profile ≡ profile }
     ensures salt { result.salt ≡ salt }

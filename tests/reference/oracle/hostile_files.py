@@ -1,5 +1,5 @@
 #!/usr/bin/env python3
-"""Hostile files: damaged ones, most of them sealed under the right key, with journals and left-overs beside them.
+"""Hostile files: damaged ones, most of them sealed under the right key, some plain, with journals and left-overs beside them.
 
     hostile_files.py PROGRAM FOLDER SEED FIRST COUNT     makes the files FIRST to FIRST + COUNT - 1 of a seed, runs each command
                                                          on a copy of each, and compares what it says and leaves
@@ -25,7 +25,7 @@ import tempfile
 
 from hostile_pages import KEY, SALT, Maker, Parts
 from sqlcipher_formats import (
-    JOURNAL_MAGIC, JOURNAL_MARK, PROFILES, Codec, Database, Refused, be, draw_source, export_lines, find_lines, header_text,
+    JOURNAL_MAGIC, JOURNAL_MARK, PLAIN, PROFILES, WORDS, Codec, Database, Refused, be, draw_source, export_lines, find_lines, header_text,
     journal_checksum, journal_sector, journal_segments, probe_line, recover, tag_lines, verify_lines, whole_main)
 from sqlcipher_oracle import blank_plain, make_plain
 from sqlcipher_salvage import salvage_lines
@@ -39,6 +39,7 @@ HANGS = 120             # seconds by the clock for all runs on one file
 EDGES = (0, 1, 2, 3, 127, 128, 255, 256, 2 ** 15, 2 ** 16 - 1, 2 ** 24, 2 ** 31 - 1, 2 ** 31, 2 ** 32 - 1)
 # A file of version 4 with pages of another size once in a while: it has few pages, or takes long to make.
 PROFILE_WORDS = tuple("1234") * 4 + tuple(word for word in PROFILES if ":" in word)
+PLAIN_SHARE = 0.15      # of the files, and of the profiles that one is migrated to
 COMMANDS = ("tags", "header", "verify", "export", "find", "salvage", "probe", "recover", "stamp", "rekey", "migrate")
 FINDS = 8               # runs of `find` on a file, where they are tried alone
 LEAST, MOST = -2 ** 63, 2 ** 63 - 1
@@ -94,7 +95,13 @@ class Hostile:
         rng = self.rng
         self.word = rng.choice(PROFILE_WORDS)
         self.other = rng.choice(PROFILE_WORDS)
-        self.profile = PROFILES[self.word]
+        # Plain words are drawn apart, so that the other files of a seed stay what they are.
+        apart = random.Random(f"{self.name} plain")
+        if apart.random() < PLAIN_SHARE:
+            self.word = apart.choice(tuple(PLAIN))
+        if apart.random() < PLAIN_SHARE:
+            self.other = apart.choice(tuple(PLAIN))
+        self.profile = WORDS[self.word]
         self.codec = Codec(self.profile, KEY, SALT)
         self.draw = draw_source(seed=rng.randrange(2 ** 32))
         self.kinds = []
@@ -111,6 +118,8 @@ class Hostile:
             self.spoil_stored()
         self.fresh = bytes(rng.choice((0, 1, 1024, 5000))) if rng.random() < 0.1 else None
         self.key = WRONG_KEY if rng.random() < 0.03 else KEY
+        if self.profile.is_plain:       # of it no line is read, so the first is that of the new key
+            self.key = NEW_KEY
         self.kinds = sorted(set(self.kinds)) or ["sound"]
 
     def seal(self, n, plain):
@@ -442,6 +451,8 @@ class Answers:
         return (status, texts) if status else (0, ["stamped\n"])
 
     def allowed_rekey(self):
+        if self.profile.is_plain:
+            raise Refused("layout differs")
         self.ready()
         if self.allowed("verify")[0] == 0:
             return 0, [f"rekeyed: {self.database().count} pages\n"]
@@ -468,7 +479,7 @@ class Answers:
             return f"none of {texts!r:.600} is printed"
         if wanted == 0 and command in ("stamp", "rekey", "migrate"):
             return self.wrong_change(command, text, left)
-        keeps_all = command == "probe" or command == "tags" and not self.profile.tag_len
+        keeps_all = command == "probe" or command == "tags" and not self.profile.tag_len or command == "rekey" and self.profile.is_plain
         return self.wrong_left(left, *((self.file.main, self.file.journal) if keeps_all else (self.recovered, self.journal)))
 
     def wrong_left(self, left, main, journal):
@@ -511,7 +522,7 @@ class Answers:
         return None
 
     def wrong_migrate(self, main, text):
-        other = PROFILES[self.file.other]
+        other = WORDS[self.file.other]
         if text != f"migrated: {len(main) // other.page_size} pages\n" or len(main) % other.page_size:
             return f"{text!r} of a file of {len(main)} bytes"
         new = Database(main, Codec(other, NEW_KEY, main[:16]))
@@ -600,7 +611,7 @@ def say(text):
 
 
 def sound_of_layouts():
-    layouts = {(it.page_size, it.reserve): it for it in PROFILES.values()}
+    layouts = {(it.page_size, it.reserve): it for it in WORDS.values()}
     return {layout: sound_files(profile) for layout, profile in layouts.items()}
 
 

@@ -24,8 +24,8 @@ pub write_database-requires : goal.write_database-requires
 write_database-requires g c =
     let d = g.D.Disk in
     let p = c.args.pager.now in
-    let q = c.draw_salt.new.pager in
-    let drew = c.draw_salt.ensures in
+    let q = c.new_salt.new.pager in
+    let drew = c.new_salt.ensures in
     let pages = opened_pages p.codec (main_of (d.reads p.disk.now)) p.count in
     let now = opened_pages q.codec (main_of (d.reads q.disk.now)) q.count in
     record {
@@ -46,9 +46,9 @@ pub returns-clause-written : goal.returns-clause-written
 returns-clause-written g c =
     let d = g.D.Disk in
     let p = c.args.pager.now in
-    let q = c.draw_salt.new.pager in
+    let q = c.new_salt.new.pager in
     let r = c.write_database.new.pager in
-    let drew = c.draw_salt.ensures in
+    let drew = c.new_salt.ensures in
     let pages = opened_pages p.codec (main_of (d.reads p.disk.now)) p.count in
     let now = opened_pages q.codec (main_of (d.reads q.disk.now)) q.count in
     let profile = c.args.profile in
@@ -59,7 +59,7 @@ returns-clause-written g c =
     let same : now ≡ pages = pages_beside p.codec q.codec (d.reads p.disk.now) (d.reads q.disk.now) p.count q.count drew.file.0 (drew.beside.only_fresh told).main drew.file.2 in
     beside_as d.reads d.images (IsSalted keys (IsMigratedUnder keys q.header now)) (IsMigrated profile secret p.header pages) r.disk.now
     (λ file salted. migrated_as profile secret p.header q.header pages now drew.file.1 same file
-    (told_as profile secret c.in-Ok.salt (λ k l. IsMigratedUnder k q.header now l) keys (search rules) file salted))
+    (told_as profile secret c.in-Ok.salt (λ k l. IsMigratedUnder k q.header now l) keys (search rules) c.in-Ok.ensures.plain file salted))
     (beside d.reads d.images (IsSalted keys (IsMigratedUnder keys q.header now)) r.disk.now r.disk.now refl (written told) (synced told)))
     c.write_database.ensures.written c.write_database.ensures.synced
 
@@ -71,23 +71,23 @@ pub returns-clause-own_draws : goal.returns-clause-own_draws
 returns-clause-own_draws g c =
     let d = g.D.Disk in
     let drawn = g.E.Entropy.drawn in
-    let q = c.draw_salt.new.pager in
+    let q = c.new_salt.new.pager in
     let r = c.write_database.new.pager in
     let keys = c.new-codec.result in
     let now = opened_pages q.codec (main_of (d.reads q.disk.now)) q.count in
     ok_both c.write_database.result
     (λ written own told tell file is.
-    own_as c.args.profile c.args.secret.now c.in-Ok.salt keys file (drawn c.args.pager.now.entropy.now) (drawn q.entropy.now) (drawn r.entropy.now) (search rules) (search rules)
+    own_as c.args.profile c.args.secret.now c.in-Ok.salt keys file (drawn c.args.pager.now.entropy.now) (drawn q.entropy.now) (drawn r.entropy.now) (search rules) c.in-Ok.ensures.plain (search rules)
     (written_salt keys (IsMigratedUnder keys q.header now) (bytes_of (d.reads r.disk.now).fresh) file (written told) is)
-    (c.in-Ok.ensures.drawn tell) (c.write_database.ensures.beside.drawn_on tell) (own told tell file is))
+    (λ ciphered. c.in-Ok.ensures.drawn ciphered tell) (c.write_database.ensures.beside.drawn_on tell) (own told tell file is))
     c.write_database.ensures.written c.write_database.ensures.own_draws
 
 pub returns-clause-shown : goal.returns-clause-shown
 returns-clause-shown g c =
     let d = g.D.Disk in
     let p = c.args.pager.now in
-    let q = c.draw_salt.new.pager in
-    let drew = c.draw_salt.ensures in
+    let q = c.new_salt.new.pager in
+    let drew = c.new_salt.ensures in
     let pages = opened_pages p.codec (main_of (d.reads p.disk.now)) p.count in
     let now = opened_pages q.codec (main_of (d.reads q.disk.now)) q.count in
     IfErr-weaker c.write_database.result _ _ (λ e shown told.
@@ -101,13 +101,13 @@ returns-clause-limit g c limit is = c.write_database.ensures.limit limit is ∙ 
 pub returns-clause-disk_fault : goal.returns-clause-disk_fault
 returns-clause-disk_fault g c is =
     let faults = g.D.Disk.faults in
-    rose_later (faults c.args.pager.now.disk.now) (faults c.draw_salt.new.pager.disk.now) (faults c.write_database.new.pager.disk.now) (search (rules, arith)) (c.write_database.ensures.disk_fault is)
+    rose_later (faults c.args.pager.now.disk.now) (faults c.new_salt.new.pager.disk.now) (faults c.write_database.new.pager.disk.now) (search (rules, arith)) (c.write_database.ensures.disk_fault is)
 
 pub returns-clause-entropy_fault : goal.returns-clause-entropy_fault
 returns-clause-entropy_fault g c is =
     let faults = g.E.Entropy.faults in
-    rose_later (faults c.args.pager.now.entropy.now) (faults c.draw_salt.new.pager.entropy.now) (faults c.write_database.new.pager.entropy.now) c.draw_salt.ensures.entropy_later
+    rose_later (faults c.args.pager.now.entropy.now) (faults c.new_salt.new.pager.entropy.now) (faults c.write_database.new.pager.entropy.now) c.new_salt.ensures.entropy_later
     (c.write_database.ensures.entropy_fault is)
 
 pub returns-clause-beside : goal.returns-clause-beside
-returns-clause-beside g c = beside_joins g.met.D.Disk.counts_now c.draw_salt.ensures.beside c.write_database.ensures.beside
+returns-clause-beside g c = beside_joins g.met.D.Disk.counts_now c.new_salt.ensures.beside c.write_database.ensures.beside

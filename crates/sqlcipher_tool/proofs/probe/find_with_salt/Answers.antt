@@ -1,10 +1,16 @@
-use Rattle.std.proofs.Common.{◌≡◌, ◌∙◌, true, false, IsTrue, ap, arith, rules}
+use Rattle.std.proofs.Common.{◌≡◌, ◌∙◌, true, false, IsTrue, sym, ap, arith, rules}
 use Rattle.edge_model.specs.Files.{Files}
 use Rattle.pager.specs.File.{main_of}
 use Rattle.pager.specs.Reads.{then_read}
 use Rattle.sqlcipher_tool.specs.Probe.{is_fitting}
-use Rattle.sqlcipher_tool.proofs.Probing.{fits_first, fits_so, none_fits, none_yet}
+use Rattle.sqlcipher_tool.proofs.Probing.{ciphered_each, fits_first, fits_so, none_fits, none_yet}
 use Rattle.sqlcipher_tool.proofs.probe.find_with_salt.Goals as goal
+
+-- no profile that is tried is plain
+pub new-codec-requires-clause-plain : goal.new-codec-requires-clause-plain
+new-codec-requires-clause-plain g c = λ plain.
+    let never : true ≡ false = sym plain ∙ ciphered_each c.loop-tried.tried c.profile_after-profile.result c.profile_after-profile.ensures.value in
+    cc
 
 pub loop-tried-preserved : goal.loop-tried-preserved
 loop-tried-preserved g c =
@@ -12,7 +18,7 @@ loop-tried-preserved g c =
     let mid = main_of (g.D.Disk.reads c.loop-tried.disk) in
     let profile = c.profile_after-profile.result in
     let fails : IsTrue g.D.Disk.tells → is_fitting c.args.secret.now main profile ≡ false = λ told.
-    fits_so profile c.args.secret.now c.args.salt.now main mid c.derive_beside-keys.result c.new-codec.result c.in_ok-fits.fits c.new-codec.ensures c.derive_beside-keys.ensures
+    fits_so profile c.args.secret.now c.args.salt.now main mid c.derive_beside-keys.result c.new-codec.result c.in_ok-fits.fits (ciphered_each c.loop-tried.tried profile c.profile_after-profile.ensures.value) c.new-codec.ensures c.derive_beside-keys.ensures
     (c.requires.salt told) (ap (λ (files : Files). main_of files) (c.loop-tried.invariant.only_read told).stays) (c.in_ok-fits.ensures.told told) ∙ c.if-fits.false in
     record {
       known = c.derive_beside-keys.ensures;
@@ -27,7 +33,7 @@ returns-then-fits-clause-told g c = λ told.
     let mid = main_of (g.D.Disk.reads c.loop-tried.disk) in
     let profile = c.profile_after-profile.result in
     let passes : is_fitting c.args.secret.now main profile ≡ true =
-    fits_so profile c.args.secret.now c.args.salt.now main mid c.derive_beside-keys.result c.new-codec.result c.in_ok-fits.fits c.new-codec.ensures c.derive_beside-keys.ensures
+    fits_so profile c.args.secret.now c.args.salt.now main mid c.derive_beside-keys.result c.new-codec.result c.in_ok-fits.fits (ciphered_each c.loop-tried.tried profile c.profile_after-profile.ensures.value) c.new-codec.ensures c.derive_beside-keys.ensures
     (c.requires.salt told) (ap (λ (files : Files). main_of files) (c.loop-tried.invariant.only_read told).stays) (c.in_ok-fits.ensures.told told) ∙ c.if-fits.true in
     fits_first c.args.secret.now main c.loop-tried.tried profile c.profile_after-profile.ensures.value passes (c.loop-tried.invariant.none told)
 

@@ -1,5 +1,12 @@
 use Rattle.sqlcipher_tool.proofs.LeftAlone.{left_idle}
+use Rattle.sqlcipher_tool.proofs.Recoveries.{main_after}
 use Rattle.sqlcipher_tool.proofs.recovery.recover_main.Goals as goal
+
+pub returns-in-Ok-clause-main : goal.returns-in-Ok-clause-main
+returns-in-Ok-clause-main g c = λ told.
+    let d = g.D.Disk in
+    let now = c.recover.new.disk in
+    main_after c.args.profile.page_size (d.reads c.args.disk.now) (d.reads now) (λ byte. c.in-Ok.ensures.done told byte (d.reads now) (g.met.D.Disk.reads_now now)) (c.recover.ensures.idle_same told)
 
 pub returns-in-Ok-clause-untouched : goal.returns-in-Ok-clause-untouched
 returns-in-Ok-clause-untouched g c = λ told none. left_idle g.D.Disk.reads g.D.Disk.images c.args.profile (c.recover.ensures.idle_same told) (c.recover.ensures.idle told) none

@@ -26,7 +26,9 @@ use Rattle.sqlcipher_tool.specs.Behind.{IsRefusedChange}
 use Rattle.sqlcipher_tool.proofs.Behind.{after_read, read_stays}
 use Rattle.sqlcipher_tool.proofs.Changing.{after_old, read_fresh, read_only, said_so, stop_not_done}
 use Rattle.sqlcipher_tool.proofs.OpenedParts.{open_parts}
-use Rattle.sqlcipher_tool.proofs.RekeyedFile.{rekeyed_so}
+use Rattle.sqlcipher_tool.proofs.RekeyedFile.{rekeyed_so, same_plain_file}
+use Rattle.sqlcipher_tool.proofs.FirstBytes.{fitting_salt}
+use Rattle.cipher_profile.specs.Profile.{is_plain}
 use Rattle.sqlcipher_tool.proofs.Rekeying.{rekeyed_draws}
 use Rattle.sqlcipher_tool.proofs.VerifiedFile.{unopened_due}
 use Rattle.sqlcipher_tool.proofs.LeftAlone.{is_opened}
@@ -56,8 +58,27 @@ rekey_pages-disk-requires-clause-layout g c =
     let profile = ap (λ (k : FileKeys). k.profile) c.into_pager-pager.ensures.file.0 ∙ c.in-Ok.ensures.profile in (
       ap (λ (p : Profile). p.page_size) write.profile ∙ (c.requires.layout.0 ∙ sym (ap (λ (p : Profile). p.page_size) profile)),
       ap (λ (p : Profile). p.reserve) write.profile ∙ (c.requires.layout.1 ∙ sym (ap (λ (p : Profile). p.reserve) profile)),
-      write.salt ∙ (c.salt.ensures ∙ ap (λ (k : FileKeys). k.salt) c.codec.ensures),
+      write.salt ∙ (c.salt.ensures.value ∙ ap (λ (k : FileKeys). k.salt) c.codec.ensures),
     )
+
+-- a plain file has the salt of a plain file
+pub codec_of_salt-write-requires-clause-plain : goal.codec_of_salt-write-requires-clause-plain
+codec_of_salt-write-requires-clause-plain g c = λ plain.
+    let profile = ap (λ (k : FileKeys). k.profile) (c.codec.ensures ∙ c.into_pager-pager.ensures.file.0) ∙ c.in-Ok.ensures.profile in
+    let was = same_plain_file c.args.new c.args.old c.requires.listed.1 c.requires.listed.0 (sym c.requires.layout.1) plain in
+    c.salt.ensures.plain (ap is_plain profile ∙ was)
+
+-- and an opened one begins with its salt
+pub rekey_pages-disk-requires-clause-salt : goal.rekey_pages-disk-requires-clause-salt
+rekey_pages-disk-requires-clause-salt g c = λ told.
+    let d = g.D.Disk in
+    let made = c.into_pager-pager.ensures in
+    let file = main_of (d.reads c.args.disk.now) in
+    let keys = keys_of c.args.old c.args.first.now file in
+    let opened = open_parts keys file _ _ (c.in-Ok.ensures.opens told) in
+    let same = ap (λ (x : _). main_of (d.reads x)) made.disk.1 ∙ ap (λ (files : Files). main_of files) (c.open_main.ensures.only_read told).stays in
+    ap (λ (k : FileKeys). k.salt) (made.file.0 ∙ c.in-Ok.ensures.codec told)
+    ∙ (fitting_salt c.args.old c.args.first.now file c.requires.listed.0 opened.fit ∙ ap (λ (l : List ℕ). salt_of l) (sym same))
 
 pub rekey_pages-disk-requires-clause-unpinned : goal.rekey_pages-disk-requires-clause-unpinned
 rekey_pages-disk-requires-clause-unpinned g c = no_held_pins c.into_pager-pager.result.cache.held c.into_pager-pager.ensures.unread.0
@@ -109,7 +130,7 @@ returns-clause-safely g c = λ told start.
     (HoldsOnly (held_by k (main_of (d.reads p.disk.now)))) (λ m. HoldsOnly (held_by write m)) p.disk.now end) codec (c.rekey_pages-disk.ensures.safely told) in
     let two = subst (λ (l : List ℕ). KeepsOrCommits d.reads d.images d.moment d.since status (WithDraws (IsRekeyed keys write p.count l) n.tells own)
     (HoldsOnly (held_by keys l)) (λ m. HoldsOnly (held_by write m)) p.disk.now end) same one in
-    let salt = c.salt.ensures ∙ ap (λ (k : FileKeys). k.salt) (c.codec.ensures ∙ codec) in
+    let salt = c.salt.ensures.value ∙ (ap (λ (k : FileKeys). k.salt) (c.codec.ensures ∙ codec) ∙ fitting_salt c.args.old c.args.first.now file c.requires.listed.0 opened.fit) in
     let is_key : (m : List ℕ) → salt_of m ≡ salt_of file → write ≡ keys_of c.args.new c.args.second.now m = λ m same_salt. c.codec_of_salt-write.ensures.keys m (salt ∙ sym same_salt) in
     let three = said_so d.reads d.images d.moment d.since g.met.D.Disk.counts_now g.met.D.Disk.only_now {R = λ m. HoldsOnly (held_by (keys_of c.args.new c.args.second.now m) m)}
     {is_other = WithDraws (λ m. IsRekeyedSo keys (keys_of c.args.new c.args.second.now m) file m) n.tells
@@ -160,7 +181,8 @@ returns-clause-own_draws g c =
     rw (last, drawn_last) (ok_both c.rekey_pages-disk.result.2 c.rekey_pages-disk.ensures.rekeyed c.rekey_pages-disk.ensures.own_draws (λ rekeyed draws told drawing.
     let codec : p.codec ≡ keys = made.file.0 ∙ c.in-Ok.ensures.codec told in
     let same : main_of (d.reads p.disk.now) ≡ file = ap (λ (x : _). main_of (d.reads x)) made.disk.1 ∙ ap (λ (files : Files). main_of files) (read told).stays in
-    let salt = c.salt.ensures ∙ ap (λ (k : FileKeys). k.salt) (c.codec.ensures ∙ codec) in
+    let opened = open_parts keys file _ _ (c.in-Ok.ensures.opens told) in
+    let salt = c.salt.ensures.value ∙ (ap (λ (k : FileKeys). k.salt) (c.codec.ensures ∙ codec) ∙ fitting_salt c.args.old c.args.first.now file c.requires.listed.0 opened.fit) in
     let is = rekeyed told in
     let same_salt : salt_of main ≡ salt_of file = is.salt ∙ ap salt_of same in
     rekeyed_draws p.codec write p.count (main_of (d.reads p.disk.now)) main (drop (length (g.E.Entropy.drawn c.args.entropy.now)) (g.E.Entropy.drawn after)) c.args.new c.args.second.now is

@@ -1,4 +1,5 @@
-use Rattle.std.proofs.Common.{◌≡◌, ⊎_elim, inl, ◌≤◌, ◌==◌, ℕ, List, drop, length, Ok, IsTrue, refl, sym, ap, subst, ◌∙◌, arith, rules}
+use Rattle.std.proofs.Common.{◌≡◌, ⊎_elim, inl, ◌≤◌, ◌==◌, ℕ, List, [], drop, length, Option, Result, Ok, Err, IsTrue, refl, sym, ap, subst, ◌∙◌, arith, rules}
+use Rattle.std.specs.Prelude.{OnOk, unwrap_or}
 use Rattle.disk_side.specs.Published.{IsNew as IsAlone}
 use Rattle.edge_model.specs.Files.{Files}
 use Rattle.edge_model.specs.Images.{From, LeavesOnly}
@@ -17,10 +18,13 @@ use Rattle.rekey_job.specs.Draws.{FileDraws}
 use Rattle.sqlcipher_tool.specs.Renewal.{WithDraws}
 use Rattle.sqlcipher_tool.specs.Stamp.{IsStamped, stamped_answer}
 use Rattle.sqlcipher_tool.specs.Text.{stamped_report}
+use Rattle.sqlcipher_tool.specs.declared.status.Status.{Status}
+use Rattle.sqlcipher_tool.specs.declared.status.Status.TheVariants.{Done}
 use Rattle.sqlcipher_tool.proofs.Behind.{read_stays, unrefused}
 use Rattle.sqlcipher_tool.proofs.Changing.{after_old, read_fresh, read_only, said_so, stop_not_done}
 use Rattle.sqlcipher_tool.proofs.OpenedParts.{open_parts, opened_same}
 use Rattle.sqlcipher_tool.proofs.Databases.{told_base}
+use Rattle.sqlcipher_tool.proofs.FirstBytes.{fitting_salt}
 use Rattle.sqlcipher_tool.proofs.Stamping.{same_keys, starts}
 use Rattle.sqlcipher_tool.proofs.Changed.{fault_none}
 use Rattle.sqlcipher_tool.proofs.Verified.{some_is}
@@ -75,7 +79,10 @@ stamp_pages-disk-requires g c κs within =
                   (
                     subst (λ (profile : Profile). IsListed profile) (sym (ap (λ (k : FileKeys). k.profile) made.file.0 ∙ c.in-Ok.ensures.profile)) c.requires.listed,
                     (
-                      λ told. ap (λ (k : FileKeys). k.salt) (codec told) ∙ ap (λ (l : List ℕ). salt_of l) (sym (same told)),
+                      λ told.
+                          let is_open = open_parts keys file _ _ (c.in-Ok.ensures.opens told) in
+                          ap (λ (k : FileKeys). k.salt) (codec told)
+                          ∙ (fitting_salt c.args.profile c.args.secret.now file c.requires.listed is_open.fit ∙ ap (λ (l : List ℕ). salt_of l) (sym (same told))),
                       (
                         opened,
                         λ told image now.
@@ -158,3 +165,38 @@ returns-in-Err-clause-stays g c = λ refused told. read_stays (c.open_to_change.
 
 pub returns-clause-stays : goal.returns-clause-stays
 returns-clause-stays g c = unrefused _ c.stamp_pages-disk.result.2 stamped_report c.stamp_pages-disk.ensures.told
+
+-- after Done Main is the new file
+committed_new : {D : Type 0} (reads : D → Files) (images : D → Files → Type 0) (moment : D → ℕ) (since : D → ℕ → Files → Type 0) (status : Status) (new_file : List ℕ → Type 0)
+    (old_one : Files → Type 0) (new_one : List ℕ → Files → Type 0) (old new : D) → status ≡ Done → KeepsOrCommits reads images moment since status new_file old_one new_one old new
+    → new_file (main_of (reads new))
+committed_new reads images moment since status new_file old_one new_one old new is run = ⊎_elim (λ kept. absurd (kept.not_done is))
+    (λ commits. subst new_file (sym (ap (λ (o : Option (List ℕ)). unwrap_or o []) (commits.is_main is))) commits.is_new) run
+
+ok_with : {T E : Type 0} {A C : Type 0} (r : Result T E) → OnOk r A → ((x : T) → r ≡ Ok x → A → C) → OnOk r C
+ok_with (Ok x) a f = f x refl a
+ok_with (Err e) a f = a
+
+pub returns-clause-own_draws : goal.returns-clause-own_draws
+returns-clause-own_draws g c =
+    let d = g.D.Disk in
+    let n = g.E.Entropy in
+    let p = c.into_pager-pager.result in
+    let made = c.into_pager-pager.ensures in
+    let profile = c.args.profile in
+    let secret = c.args.secret.now in
+    let file = main_of (d.reads c.args.disk.now) in
+    let keys = keys_of profile secret file in
+    let end = c.stamp_pages-disk.result.0.now in
+    let after = c.stamp_pages-disk.result.1.now in
+    let main = main_of (d.reads end) in
+    let last : c.disk-1.given.0 ≡ end = search rules in
+    let drawn_last : c.entropy-1.given.0 ≡ after = search rules in
+    rw (last, drawn_last) (ok_with c.stamp_pages-disk.result.2 c.stamp_pages-disk.ensures.own_draws (λ report is draws told drawing.
+    let codec : p.codec ≡ keys = made.file.0 ∙ c.in-Ok.ensures.codec told in
+    let same : main_of (d.reads p.disk.now) ≡ file = ap (λ (x : _). main_of (d.reads x)) made.disk.1 ∙ ap (λ (files : Files). main_of files) (c.open_to_change.ensures.only_read told).stays in
+    let stamped : IsStamped p.codec c.args.field c.args.value (main_of (d.reads p.disk.now)) main =
+    (committed_new d.reads d.images d.moment d.since (change_status c.stamp_pages-disk.result.2) _ _ _ p.disk.now end (ap change_status is) (c.stamp_pages-disk.ensures.safely told)).0 in
+    let key : p.codec ≡ keys_of profile secret main = codec ∙ sym (same_keys profile secret main file (stamped.salt ∙ ap (λ (l : List ℕ). salt_of l) same)) in
+    subst (λ (k : FileKeys). FileDraws k main (λ i. i == 1) 0 (drop (length (n.drawn c.args.entropy.now)) (n.drawn after))) key
+    (subst (λ (x : _). FileDraws p.codec main (λ i. i == 1) 0 (drop (length (n.drawn x)) (n.drawn after))) made.entropy.1 (draws told drawing))))

@@ -90,7 +90,7 @@ returns-in-Err-write_fields-clause-told g c = λ told.
     let file = main_of (d.reads p.disk.now) in
     let main = sym (same_main (d.reads t.disk.now)) ∙ ap (λ (x : _). main_of (d.reads x)) e.disk.1 in
     let sees : SeesFirst p.codec file (seen_pages t.read t.write (read_main (d.reads t.disk.now)) t.count t.written t.changed.held) =
-    sees_first p.codec t.read t.write file (read_main (d.reads t.disk.now)) p.header p.count t.count t.written t.changed.held e.file.0 main e.file.2 e.unchanged.0 (e.untouched 1) p.some (r.1.1.1.1.1.1.1.0 told) in
+    sees_first p.codec t.read t.write file (read_main (d.reads t.disk.now)) p.header p.count t.count t.written t.changed.held e.file.0 main e.file.2 e.unchanged.0 (e.untouched 1) p.some r.1.1.1.1.1.0 (r.1.1.1.1.1.1.1.0 told) in
     let n = g.E.Entropy in
     let txn = c.write_fields.new.txn in
     inl (page_faults d.tells (seen_pages t.read t.write (read_main (d.reads t.disk.now)) t.count t.written t.changed.held)
@@ -136,7 +136,7 @@ returns-in-Ok-done-clause-safely g c = λ told.
     let file = main_of (d.reads p.disk.now) in
     let main = sym (same_main (d.reads t.disk.now)) ∙ ap (λ (x : _). main_of (d.reads x)) e.disk.1 in
     let sees : SeesFirst p.codec file (seen_pages t.read t.write (read_main (d.reads t.disk.now)) t.count t.written t.changed.held) =
-    sees_first p.codec t.read t.write file (read_main (d.reads t.disk.now)) p.header p.count t.count t.written t.changed.held e.file.0 main e.file.2 e.unchanged.0 (e.untouched 1) p.some (r.1.1.1.1.1.1.1.0 told) in
+    sees_first p.codec t.read t.write file (read_main (d.reads t.disk.now)) p.header p.count t.count t.written t.changed.held e.file.0 main e.file.2 e.unchanged.0 (e.untouched 1) p.some r.1.1.1.1.1.0 (r.1.1.1.1.1.1.1.0 told) in
     let txn = c.write_fields.new.txn in
     let keys : txn.write ≡ p.codec = c.write_fields.ensures.file.1 ∙ (e.file.1 ∙ r.1.1.1.1.0) in
     let touched = is_touched txn.written txn.changed.held in
@@ -167,7 +167,7 @@ returns-in-Ok-done-clause-own_draws g c = λ told drawing.
     let file = main_of (d.reads p.disk.now) in
     let main = sym (same_main (d.reads t.disk.now)) ∙ ap (λ (x : _). main_of (d.reads x)) e.disk.1 in
     let sees : SeesFirst p.codec file (seen_pages t.read t.write (read_main (d.reads t.disk.now)) t.count t.written t.changed.held) =
-    sees_first p.codec t.read t.write file (read_main (d.reads t.disk.now)) p.header p.count t.count t.written t.changed.held e.file.0 main e.file.2 e.unchanged.0 (e.untouched 1) p.some (r.1.1.1.1.1.1.1.0 told) in
+    sees_first p.codec t.read t.write file (read_main (d.reads t.disk.now)) p.header p.count t.count t.written t.changed.held e.file.0 main e.file.2 e.unchanged.0 (e.untouched 1) p.some r.1.1.1.1.1.0 (r.1.1.1.1.1.1.1.0 told) in
     let txn = c.write_fields.new.txn in
     let keys : txn.write ≡ p.codec = c.write_fields.ensures.file.1 ∙ (e.file.1 ∙ r.1.1.1.1.0) in
     let touched = is_touched txn.written txn.changed.held in
@@ -195,7 +195,7 @@ returns-in-Err-DiskFault-clause-safely g c = λ told.
     let file = main_of (d.reads p.disk.now) in
     let main = sym (same_main (d.reads t.disk.now)) ∙ ap (λ (x : _). main_of (d.reads x)) e.disk.1 in
     let sees : SeesFirst p.codec file (seen_pages t.read t.write (read_main (d.reads t.disk.now)) t.count t.written t.changed.held) =
-    sees_first p.codec t.read t.write file (read_main (d.reads t.disk.now)) p.header p.count t.count t.written t.changed.held e.file.0 main e.file.2 e.unchanged.0 (e.untouched 1) p.some (r.1.1.1.1.1.1.1.0 told) in
+    sees_first p.codec t.read t.write file (read_main (d.reads t.disk.now)) p.header p.count t.count t.written t.changed.held e.file.0 main e.file.2 e.unchanged.0 (e.untouched 1) p.some r.1.1.1.1.1.0 (r.1.1.1.1.1.1.1.0 told) in
     let txn = c.write_fields.new.txn in
     let keys : txn.write ≡ p.codec = c.write_fields.ensures.file.1 ∙ (e.file.1 ∙ r.1.1.1.1.0) in
     let touched = is_touched txn.written txn.changed.held in

@@ -5,7 +5,7 @@ use Rattle.cipher_profile.specs.declared.keys.Secret.{Secret}
 use Rattle.pager.specs.File.{main_of}
 use Rattle.sqlcipher_tool.specs.Crash.{IsDrawnFor, IsSafely, Keeps, MakesWith}
 use Rattle.sqlcipher_tool.specs.Renewal.{same_key}
-use Rattle.sqlcipher_tool.specs.Words.{draws, finds}
+use Rattle.sqlcipher_tool.specs.Words.{alters, finds}
 use Rattle.sqlcipher_tool.specs.declared.command.Command.TheVariants.{Tags, Header, Verify, Export, Salvage, Find, Probe, Stamp, Make}
 use Rattle.sqlcipher_tool.proofs.Asked.{causes_as, changes_as, draws_as, no_draws, none_beside, undrawn}
 use Rattle.sqlcipher_tool.specs.Behind.{LeavesRecovered}
@@ -100,7 +100,7 @@ returns-in-Probe-clause-answer g c = λ told.
     (sym c.in-Probe.is) one
 
 pub returns-in-Tags-clause-causes : goal.returns-in-Tags-clause-causes
-returns-in-Tags-clause-causes g c = undrawn c.tags.result (draws c.args.command) _ _ _ _ (g.E.Entropy.faults c.args.entropy.now) (g.E.Entropy.faults c.args.entropy.now) c.tags.ensures.causes refl
+returns-in-Tags-clause-causes g c = undrawn c.tags.result (alters c.args.command) _ _ _ _ (g.E.Entropy.faults c.args.entropy.now) (g.E.Entropy.faults c.args.entropy.now) c.tags.ensures.causes refl
 
 pub returns-in-Tags-clause-own_draws : goal.returns-in-Tags-clause-own_draws
 returns-in-Tags-clause-own_draws g c = λ told drawing done. no_draws c.args.command (Tags c.in-Tags.profile) c.in-Tags.is (λ secrets. refl) (λ secrets. secrets ≡ c.args.secret.now ∷ [])
@@ -112,7 +112,7 @@ returns-in-Tags-clause-changes g c = λ told.
     changes_as c.tags.result c.args.command (Tags c.in-Tags.profile) (λ secrets. secrets ≡ c.args.secret.now ∷ []) g.E.Entropy.tells (drop (length (g.E.Entropy.drawn c.args.entropy.now)) (g.E.Entropy.drawn c.args.entropy.now)) run c.in-Tags.is tt
 
 pub returns-in-Header-clause-causes : goal.returns-in-Header-clause-causes
-returns-in-Header-clause-causes g c = undrawn c.header.result (draws c.args.command) _ _ _ _ (g.E.Entropy.faults c.args.entropy.now) (g.E.Entropy.faults c.header.new.entropy) c.header.ensures.causes (ap g.E.Entropy.faults c.header.ensures.draws)
+returns-in-Header-clause-causes g c = undrawn c.header.result (alters c.args.command) _ _ _ _ (g.E.Entropy.faults c.args.entropy.now) (g.E.Entropy.faults c.header.new.entropy) c.header.ensures.causes (ap g.E.Entropy.faults c.header.ensures.draws)
 
 pub returns-in-Header-clause-own_draws : goal.returns-in-Header-clause-own_draws
 returns-in-Header-clause-own_draws g c = λ told drawing done. no_draws c.args.command (Header c.in-Header.profile) c.in-Header.is (λ secrets. refl) (λ secrets. secrets ≡ c.args.secret.now ∷ [])
@@ -124,7 +124,7 @@ returns-in-Header-clause-changes g c = λ told.
     changes_as c.header.result c.args.command (Header c.in-Header.profile) (λ secrets. secrets ≡ c.args.secret.now ∷ []) g.E.Entropy.tells (drop (length (g.E.Entropy.drawn c.args.entropy.now)) (g.E.Entropy.drawn c.header.new.entropy)) run c.in-Header.is tt
 
 pub returns-in-Verify-clause-causes : goal.returns-in-Verify-clause-causes
-returns-in-Verify-clause-causes g c = undrawn c.answer_job.result (draws c.args.command) _ _ _ _ (g.E.Entropy.faults c.args.entropy.now) (g.E.Entropy.faults c.answer_job.new.entropy) c.answer_job.ensures.causes (ap g.E.Entropy.faults c.answer_job.ensures.draws)
+returns-in-Verify-clause-causes g c = undrawn c.answer_job.result (alters c.args.command) _ _ _ _ (g.E.Entropy.faults c.args.entropy.now) (g.E.Entropy.faults c.answer_job.new.entropy) c.answer_job.ensures.causes (ap g.E.Entropy.faults c.answer_job.ensures.draws)
 
 pub returns-in-Verify-clause-own_draws : goal.returns-in-Verify-clause-own_draws
 returns-in-Verify-clause-own_draws g c = λ told drawing done. no_draws c.args.command (Verify c.in-Verify.profile) c.in-Verify.is (λ secrets. refl) (λ secrets. secrets ≡ c.args.secret.now ∷ [])
@@ -136,13 +136,13 @@ returns-in-Verify-clause-changes g c = λ told.
     changes_as c.answer_job.result c.args.command (Verify c.in-Verify.profile) (λ secrets. secrets ≡ c.args.secret.now ∷ []) g.E.Entropy.tells (drop (length (g.E.Entropy.drawn c.args.entropy.now)) (g.E.Entropy.drawn c.answer_job.new.entropy)) run c.in-Verify.is tt
 
 pub returns-in-Export-clause-causes : goal.returns-in-Export-clause-causes
-returns-in-Export-clause-causes g c = undrawn c.answer_job-in-Export.result (draws c.args.command) _ _ _ _ (g.E.Entropy.faults c.args.entropy.now) (g.E.Entropy.faults c.answer_job-in-Export.new.entropy) c.answer_job-in-Export.ensures.causes (ap g.E.Entropy.faults c.answer_job-in-Export.ensures.draws)
+returns-in-Export-clause-causes g c = undrawn c.answer_job-in-Export.result (alters c.args.command) _ _ _ _ (g.E.Entropy.faults c.args.entropy.now) (g.E.Entropy.faults c.answer_job-in-Export.new.entropy) c.answer_job-in-Export.ensures.causes (ap g.E.Entropy.faults c.answer_job-in-Export.ensures.draws)
 
 pub returns-in-Salvage-clause-causes : goal.returns-in-Salvage-clause-causes
-returns-in-Salvage-clause-causes g c = undrawn c.salvage_file.result (draws c.args.command) _ _ _ _ (g.E.Entropy.faults c.args.entropy.now) (g.E.Entropy.faults c.args.entropy.now) c.salvage_file.ensures.causes refl
+returns-in-Salvage-clause-causes g c = undrawn c.salvage_file.result (alters c.args.command) _ _ _ _ (g.E.Entropy.faults c.args.entropy.now) (g.E.Entropy.faults c.args.entropy.now) c.salvage_file.ensures.causes refl
 
 pub returns-in-Find-clause-causes : goal.returns-in-Find-clause-causes
-returns-in-Find-clause-causes g c = undrawn c.answer_job-in-Find.result (draws c.args.command) _ _ _ _ (g.E.Entropy.faults c.args.entropy.now) (g.E.Entropy.faults c.answer_job-in-Find.new.entropy) c.answer_job-in-Find.ensures.causes (ap g.E.Entropy.faults c.answer_job-in-Find.ensures.draws)
+returns-in-Find-clause-causes g c = undrawn c.answer_job-in-Find.result (alters c.args.command) _ _ _ _ (g.E.Entropy.faults c.args.entropy.now) (g.E.Entropy.faults c.answer_job-in-Find.new.entropy) c.answer_job-in-Find.ensures.causes (ap g.E.Entropy.faults c.answer_job-in-Find.ensures.draws)
 
 pub returns-in-Export-clause-own_draws : goal.returns-in-Export-clause-own_draws
 returns-in-Export-clause-own_draws g c = λ told drawing done. no_draws c.args.command (Export c.in-Export.profile) c.in-Export.is (λ secrets. refl) (λ secrets. secrets ≡ c.args.secret.now ∷ [])
@@ -172,7 +172,7 @@ returns-in-Find-clause-changes g c = λ told.
     changes_as c.answer_job-in-Find.result c.args.command (Find c.in-Find.profile c.in-Find.name c.in-Find.low c.in-Find.high) (λ secrets. secrets ≡ c.args.secret.now ∷ []) g.E.Entropy.tells (drop (length (g.E.Entropy.drawn c.args.entropy.now)) (g.E.Entropy.drawn c.answer_job-in-Find.new.entropy)) run c.in-Find.is tt
 
 pub returns-in-Probe-clause-causes : goal.returns-in-Probe-clause-causes
-returns-in-Probe-clause-causes g c = undrawn c.probe.result (draws c.args.command) _ _ _ _ (g.E.Entropy.faults c.args.entropy.now) (g.E.Entropy.faults c.args.entropy.now) c.probe.ensures.causes refl
+returns-in-Probe-clause-causes g c = undrawn c.probe.result (alters c.args.command) _ _ _ _ (g.E.Entropy.faults c.args.entropy.now) (g.E.Entropy.faults c.args.entropy.now) c.probe.ensures.causes refl
 
 pub returns-in-Probe-clause-own_draws : goal.returns-in-Probe-clause-own_draws
 returns-in-Probe-clause-own_draws g c = λ told drawing done. no_draws c.args.command (Probe) c.in-Probe.is (λ secrets. refl) (λ secrets. secrets ≡ c.args.secret.now ∷ [])
@@ -321,47 +321,47 @@ returns-in-Make-clause-fresh_gone g c = λ told done beside. c.make_file.ensures
 pub returns-in-Tags-clause-recovered : goal.returns-in-Tags-clause-recovered
 returns-in-Tags-clause-recovered g c = λ told.
     let run = disk_run g.D.Disk.reads g.D.Disk.images g.D.Disk.moment g.D.Disk.since c.args.disk.now c.tags.new.disk in
-    subst (λ (command : Asked). LeavesRecovered c.tags.result (draws command) (recovers_by command) run) (sym c.in-Tags.is) (c.tags.ensures.recovered told)
+    subst (λ (command : Asked). LeavesRecovered c.tags.result (alters command) (recovers_by command) run) (sym c.in-Tags.is) (c.tags.ensures.recovered told)
 
 pub returns-in-Header-clause-recovered : goal.returns-in-Header-clause-recovered
 returns-in-Header-clause-recovered g c = λ told.
     let run = disk_run g.D.Disk.reads g.D.Disk.images g.D.Disk.moment g.D.Disk.since c.args.disk.now c.header.new.disk in
-    subst (λ (command : Asked). LeavesRecovered c.header.result (draws command) (recovers_by command) run) (sym c.in-Header.is) (c.header.ensures.recovered told)
+    subst (λ (command : Asked). LeavesRecovered c.header.result (alters command) (recovers_by command) run) (sym c.in-Header.is) (c.header.ensures.recovered told)
 
 pub returns-in-Verify-clause-recovered : goal.returns-in-Verify-clause-recovered
 returns-in-Verify-clause-recovered g c = λ told.
     let run = disk_run g.D.Disk.reads g.D.Disk.images g.D.Disk.moment g.D.Disk.since c.args.disk.now c.answer_job.new.disk in
-    subst (λ (command : Asked). LeavesRecovered c.answer_job.result (draws command) (recovers_by command) run) (sym c.in-Verify.is) (c.answer_job.ensures.recovered told)
+    subst (λ (command : Asked). LeavesRecovered c.answer_job.result (alters command) (recovers_by command) run) (sym c.in-Verify.is) (c.answer_job.ensures.recovered told)
 
 pub returns-in-Export-clause-recovered : goal.returns-in-Export-clause-recovered
 returns-in-Export-clause-recovered g c = λ told.
     let run = disk_run g.D.Disk.reads g.D.Disk.images g.D.Disk.moment g.D.Disk.since c.args.disk.now c.answer_job-in-Export.new.disk in
-    subst (λ (command : Asked). LeavesRecovered c.answer_job-in-Export.result (draws command) (recovers_by command) run) (sym c.in-Export.is) (c.answer_job-in-Export.ensures.recovered told)
+    subst (λ (command : Asked). LeavesRecovered c.answer_job-in-Export.result (alters command) (recovers_by command) run) (sym c.in-Export.is) (c.answer_job-in-Export.ensures.recovered told)
 
 pub returns-in-Salvage-clause-recovered : goal.returns-in-Salvage-clause-recovered
 returns-in-Salvage-clause-recovered g c = λ told.
     let run = disk_run g.D.Disk.reads g.D.Disk.images g.D.Disk.moment g.D.Disk.since c.args.disk.now c.salvage_file.new.disk in
-    subst (λ (command : Asked). LeavesRecovered c.salvage_file.result (draws command) (recovers_by command) run) (sym c.in-Salvage.is) (c.salvage_file.ensures.recovered told)
+    subst (λ (command : Asked). LeavesRecovered c.salvage_file.result (alters command) (recovers_by command) run) (sym c.in-Salvage.is) (c.salvage_file.ensures.recovered told)
 
 pub returns-in-Find-clause-recovered : goal.returns-in-Find-clause-recovered
 returns-in-Find-clause-recovered g c = λ told.
     let run = disk_run g.D.Disk.reads g.D.Disk.images g.D.Disk.moment g.D.Disk.since c.args.disk.now c.answer_job-in-Find.new.disk in
-    subst (λ (command : Asked). LeavesRecovered c.answer_job-in-Find.result (draws command) (recovers_by command) run) (sym c.in-Find.is) (c.answer_job-in-Find.ensures.recovered told)
+    subst (λ (command : Asked). LeavesRecovered c.answer_job-in-Find.result (alters command) (recovers_by command) run) (sym c.in-Find.is) (c.answer_job-in-Find.ensures.recovered told)
 
 pub returns-in-Stamp-clause-recovered : goal.returns-in-Stamp-clause-recovered
 returns-in-Stamp-clause-recovered g c = λ told.
     let run = disk_run g.D.Disk.reads g.D.Disk.images g.D.Disk.moment g.D.Disk.since c.args.disk.now c.change_file.new.disk in
-    subst (λ (command : Asked). LeavesRecovered c.change_file.result (draws command) (recovers_by command) run) (sym c.in-Stamp.is) (c.change_file.ensures.recovered told)
+    subst (λ (command : Asked). LeavesRecovered c.change_file.result (alters command) (recovers_by command) run) (sym c.in-Stamp.is) (c.change_file.ensures.recovered told)
 
 pub returns-in-Probe-clause-recovered : goal.returns-in-Probe-clause-recovered
 returns-in-Probe-clause-recovered g c = λ told.
     let run = disk_run g.D.Disk.reads g.D.Disk.images g.D.Disk.moment g.D.Disk.since c.args.disk.now c.probe.new.disk in
-    subst (λ (command : Asked). LeavesRecovered c.probe.result (draws command) (recovers_by command) run) (sym c.in-Probe.is) tt
+    subst (λ (command : Asked). LeavesRecovered c.probe.result (alters command) (recovers_by command) run) (sym c.in-Probe.is) tt
 
 pub returns-in-Make-clause-recovered : goal.returns-in-Make-clause-recovered
 returns-in-Make-clause-recovered g c = λ told.
     let run = disk_run g.D.Disk.reads g.D.Disk.images g.D.Disk.moment g.D.Disk.since c.args.disk.now c.make_file.new.disk in
-    subst (λ (command : Asked). LeavesRecovered c.make_file.result (draws command) (recovers_by command) run) (sym c.in-Make.is) tt
+    subst (λ (command : Asked). LeavesRecovered c.make_file.result (alters command) (recovers_by command) run) (sym c.in-Make.is) tt
 
 pub returns-in-Verify-clause-line : goal.returns-in-Verify-clause-line
 returns-in-Verify-clause-line g c = λ printed way. c.answer_job.ensures.line printed (λ is. cc)

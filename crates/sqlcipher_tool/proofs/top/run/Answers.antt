@@ -1,9 +1,9 @@
-use Rattle.std.proofs.Common.{List, ℕ, Option, sym, ◌∙◌, subst}
+use Rattle.std.proofs.Common.{◌≡◌, Bool, true, false, List, ℕ, Option, refl, sym, ◌∙◌, subst}
 use Rattle.sqlcipher_tool.specs.Answer.{Puts, usage}
 use Rattle.sqlcipher_tool.specs.Due.{asked_answers, command_answers, word_refusal}
 use Rattle.sqlcipher_tool.specs.Promises.{AnswersOne}
 use Rattle.sqlcipher_tool.specs.Servable.{IsDoneAlone}
-use Rattle.sqlcipher_tool.specs.Words.{texts}
+use Rattle.sqlcipher_tool.specs.Words.{draws, texts}
 use Rattle.sqlcipher_tool.specs.declared.command.Command.{Command as Asked}
 use Rattle.sqlcipher_tool.proofs.Answered.{printed_one}
 use Rattle.sqlcipher_tool.proofs.Completeness.{complete, done_or_starved}
@@ -46,3 +46,11 @@ returns-in-Some-clause-answer g c = λ keyed told.
 
 pub returns-in-Some-clause-line : goal.returns-in-Some-clause-line
 returns-in-Some-clause-line g c = λ printed way. c.serve.ensures.line printed (λ is. way (c.in-Some.command, sym c.parse_words.ensures.form ∙ c.in-Some.is, is))
+
+not_true : (b : Bool) → (b ≡ true → ⊥) → b ≡ false
+not_true true never = absurd (never refl)
+not_true false never = refl
+
+pub returns-in-Some-clause-draws : goal.returns-in-Some-clause-draws
+returns-in-Some-clause-draws g c = λ none.
+    c.serve.ensures.draws (not_true (draws c.in-Some.command) (λ is. none (c.in-Some.command, sym c.parse_words.ensures.form ∙ c.in-Some.is, is)))

@@ -1,15 +1,15 @@
-use Rattle.std.proofs.Common.{◌≡◌, ℕ, drop, length, refl, Some, sym, ap, subst, rules, false, Option, None}
+use Rattle.std.proofs.Common.{◌≡◌, ◌∙◌, drop, length, refl, Some, sym, ap, subst, rules, false, Option, None}
 use Rattle.pager.specs.File.{main_of}
 use Rattle.sqlcipher_tool.specs.Crash.{GaveKeys, Keeps}
-use Rattle.sqlcipher_tool.specs.Due.{asked_answers, key_lines, keyed_answers, word_refusal}
+use Rattle.sqlcipher_tool.specs.Due.{asked_answers, word_refusal}
 use Rattle.sqlcipher_tool.specs.Holding.{disk_run}
 use Rattle.sqlcipher_tool.specs.Answer.{refused}
-use Rattle.sqlcipher_tool.specs.Promises.{AnswersOne}
+use Rattle.sqlcipher_tool.specs.Promises.{AnswersOne, takes_keys}
 use Rattle.sqlcipher_tool.specs.Recovered.{recovery_answer, recovery_of}
 use Rattle.sqlcipher_tool.specs.Behind.{LeavesRecovered}
-use Rattle.sqlcipher_tool.specs.Words.{draws, keys_taken, layouts_differ}
+use Rattle.sqlcipher_tool.specs.Words.{alters, asked_keys, layouts_differ}
 use Rattle.sqlcipher_tool.specs.declared.command.Command.TheVariants.{Recover, Rekey}
-use Rattle.sqlcipher_tool.proofs.Asked.{changes_as, no_draws, none_beside, none_refused, refusal_not_done, takes_one, takes_some, unchanged_changes, unchanged_keeps}
+use Rattle.sqlcipher_tool.proofs.Asked.{changes_as, no_draws, none_beside, none_refused, refusal_not_done, unchanged_changes, unchanged_keeps}
 use Rattle.sqlcipher_tool.specs.declared.command.Command.{Command as Asked}
 use Rattle.sqlcipher_tool.specs.declared.status.Refusal.{Refusal as Refused}
 use Rattle.sqlcipher_tool.proofs.Answered.{answers_one, keeps_held, printed_one}
@@ -54,11 +54,11 @@ pub returns-in-Recover-clause-changes : goal.returns-in-Recover-clause-changes
 returns-in-Recover-clause-changes g c = λ told.
     let run = disk_run g.D.Disk.reads g.D.Disk.images g.D.Disk.moment g.D.Disk.since c.args.disk.now c.report_recovery.new.disk in
     changes_as c.report_recovery.result c.args.command (Recover c.in-Recover.profile)
-    (λ secrets. GaveKeys g.K.Source.tells (key_lines (keys_taken c.args.command) (g.K.Source.left c.args.input.now)) secrets) g.E.Entropy.tells (drop (length (g.E.Entropy.drawn c.args.entropy.now)) (g.E.Entropy.drawn c.args.entropy.now)) run c.in-Recover.is tt
+    (λ secrets. GaveKeys g.K.Source.tells (asked_keys c.args.command) (g.K.Source.left c.args.input.now) secrets) g.E.Entropy.tells (drop (length (g.E.Entropy.drawn c.args.entropy.now)) (g.E.Entropy.drawn c.args.entropy.now)) run c.in-Recover.is tt
 
 pub returns-in-Recover-clause-own_draws : goal.returns-in-Recover-clause-own_draws
 returns-in-Recover-clause-own_draws g c = λ told drawing done. no_draws c.args.command (Recover c.in-Recover.profile) c.in-Recover.is (λ secrets. refl)
-    (λ secrets. GaveKeys g.K.Source.tells (key_lines (keys_taken c.args.command) (g.K.Source.left c.args.input.now)) secrets)
+    (λ secrets. GaveKeys g.K.Source.tells (asked_keys c.args.command) (g.K.Source.left c.args.input.now) secrets)
     (main_of (g.D.Disk.reads c.report_recovery.new.disk)) (drop (length (g.E.Entropy.drawn c.args.entropy.now)) (g.E.Entropy.drawn c.args.entropy.now))
 
 pub returns-in-Some-clause-keeps : goal.returns-in-Some-clause-keeps
@@ -66,7 +66,7 @@ returns-in-Some-clause-keeps g c = λ told. unchanged_keeps g.D.Disk.reads g.D.D
 
 pub returns-in-Some-clause-changes : goal.returns-in-Some-clause-changes
 returns-in-Some-clause-changes g c = λ told. unchanged_changes g.D.Disk.reads g.D.Disk.images g.D.Disk.moment g.D.Disk.since g.met.D.Disk.only_now c.conclude_refusal.result c.args.command
-    (λ secrets. GaveKeys g.K.Source.tells (key_lines (keys_taken c.args.command) (g.K.Source.left c.args.input.now)) secrets) g.E.Entropy.tells (drop (length (g.E.Entropy.drawn c.args.entropy.now)) (g.E.Entropy.drawn c.args.entropy.now)) c.args.disk.now (refusal_not_done c.in-Some.refusal c.conclude_refusal.result c.conclude_refusal.ensures.status)
+    (λ secrets. GaveKeys g.K.Source.tells (asked_keys c.args.command) (g.K.Source.left c.args.input.now) secrets) g.E.Entropy.tells (drop (length (g.E.Entropy.drawn c.args.entropy.now)) (g.E.Entropy.drawn c.args.entropy.now)) c.args.disk.now (refusal_not_done c.in-Some.refusal c.conclude_refusal.result c.conclude_refusal.ensures.status)
 
 pub returns-in-Some-clause-own_draws : goal.returns-in-Some-clause-own_draws
 returns-in-Some-clause-own_draws g c = λ told drawing done. absurd (refusal_not_done c.in-Some.refusal c.conclude_refusal.result c.conclude_refusal.ensures.status done)
@@ -102,24 +102,14 @@ returns-in-Migrate-clause-untouched g c = λ told.
 pub returns-in-Tags-clause-untouched : goal.returns-in-Tags-clause-untouched
 returns-in-Tags-clause-untouched g c = c.serve_keyed.ensures.untouched
 
-pub returns-in-Tags-clause-takes_none : goal.returns-in-Tags-clause-takes_none
-returns-in-Tags-clause-takes_none g c = λ none.
-    let one : keys_taken c.args.command ≡ 1 = search rules in
-    absurd (takes_some c.args.command one none)
-
 pub returns-in-Tags-clause-answer : goal.returns-in-Tags-clause-answer
 returns-in-Tags-clause-answer g c = λ keyed told.
     let files = g.D.Disk.reads c.args.disk.now in
     let last = g.D.Disk.reads c.serve_keyed.new.disk in
     let left = g.K.Source.left c.args.input.now in
-    let before = g.S.Sink.taken c.args.out.now in
-    let after = g.S.Sink.taken c.serve_keyed.new.out in
-    let status = c.serve_keyed.result in
     let none : word_refusal c.args.command ≡ None = search rules in
-    let one : keys_taken c.args.command ≡ 1 = search rules in
-    let was = c.serve_keyed.ensures.answer (keyed (takes_one c.args.command one)) told in
-    subst (λ (o : Option Refused). AnswersOne (asked_answers o c.args.command left files last) status g.S.Sink.tells before after) (sym none)
-    (subst (λ (n : ℕ). AnswersOne (keyed_answers c.args.command (key_lines n left) files last) status g.S.Sink.tells before after) (sym one) was)
+    subst (λ (o : Option Refused). AnswersOne (asked_answers o c.args.command left files last) c.serve_keyed.result g.S.Sink.tells (g.S.Sink.taken c.args.out.now) (g.S.Sink.taken c.serve_keyed.new.out))
+    (sym none) (c.serve_keyed.ensures.answer keyed told)
 
 pub returns-in-Some-clause-fresh_gone : goal.returns-in-Some-clause-fresh_gone
 returns-in-Some-clause-fresh_gone g c = λ told done. absurd (refusal_not_done c.in-Some.refusal c.conclude_refusal.result c.conclude_refusal.ensures.status done)
@@ -139,23 +129,47 @@ returns-in-Tags-clause-fresh_gone g c = c.serve_keyed.ensures.fresh_gone
 pub returns-in-Some-clause-recovered : goal.returns-in-Some-clause-recovered
 returns-in-Some-clause-recovered g c = λ told.
     let is : word_refusal c.args.command ≡ Some c.in-Some.refusal = search rules in
-    unread c.conclude_refusal.result (draws c.args.command) (recovers_by c.args.command) _
-    (word_last (draws c.args.command) c.args.command c.in-Some.refusal c.conclude_refusal.result is c.conclude_refusal.ensures.status)
+    unread c.conclude_refusal.result (alters c.args.command) (recovers_by c.args.command) _
+    (word_last (alters c.args.command) c.args.command c.in-Some.refusal c.conclude_refusal.result is c.conclude_refusal.ensures.status)
 
 pub returns-in-Recover-clause-recovered : goal.returns-in-Recover-clause-recovered
 returns-in-Recover-clause-recovered g c = λ told.
     let run = disk_run g.D.Disk.reads g.D.Disk.images g.D.Disk.moment g.D.Disk.since c.args.disk.now c.report_recovery.new.disk in
-    subst (λ (command : Asked). LeavesRecovered c.report_recovery.result (draws command) (recovers_by command) run) (sym c.in-Recover.is) (c.report_recovery.ensures.recovered told)
+    subst (λ (command : Asked). LeavesRecovered c.report_recovery.result (alters command) (recovers_by command) run) (sym c.in-Recover.is) (c.report_recovery.ensures.recovered told)
 
 pub returns-in-Rekey-clause-recovered : goal.returns-in-Rekey-clause-recovered
 returns-in-Rekey-clause-recovered g c = λ told.
     let run = disk_run g.D.Disk.reads g.D.Disk.images g.D.Disk.moment g.D.Disk.since c.args.disk.now c.serve_two_keys.new.disk in
-    subst (λ (command : Asked). LeavesRecovered c.serve_two_keys.result (draws command) (recovers_by command) run) (sym c.in-Rekey.is) (c.serve_two_keys.ensures.recovered told)
+    subst (λ (command : Asked). LeavesRecovered c.serve_two_keys.result (alters command) (recovers_by command) run) (sym c.in-Rekey.is) (c.serve_two_keys.ensures.recovered told)
 
 pub returns-in-Migrate-clause-recovered : goal.returns-in-Migrate-clause-recovered
 returns-in-Migrate-clause-recovered g c = λ told.
     let run = disk_run g.D.Disk.reads g.D.Disk.images g.D.Disk.moment g.D.Disk.since c.args.disk.now c.serve_two_keys-in-Migrate.new.disk in
-    subst (λ (command : Asked). LeavesRecovered c.serve_two_keys-in-Migrate.result (draws command) (recovers_by command) run) (sym c.in-Migrate.is) (c.serve_two_keys-in-Migrate.ensures.recovered told)
+    subst (λ (command : Asked). LeavesRecovered c.serve_two_keys-in-Migrate.result (alters command) (recovers_by command) run) (sym c.in-Migrate.is) (c.serve_two_keys-in-Migrate.ensures.recovered told)
 
 pub returns-in-Tags-clause-recovered : goal.returns-in-Tags-clause-recovered
 returns-in-Tags-clause-recovered g c = c.serve_keyed.ensures.recovered
+
+pub returns-in-Rekey-clause-answer : goal.returns-in-Rekey-clause-answer
+returns-in-Rekey-clause-answer g c = λ keyed told.
+    let files = g.D.Disk.reads c.args.disk.now in
+    let last = g.D.Disk.reads c.serve_two_keys.new.disk in
+    let left = g.K.Source.left c.args.input.now in
+    let before = g.S.Sink.taken c.args.out.now in
+    let after = g.S.Sink.taken c.serve_two_keys.new.out in
+    let none : word_refusal c.args.command ≡ None = search rules in
+    subst (λ (o : Option Refused). AnswersOne (asked_answers o c.args.command left files last) c.serve_two_keys.result g.S.Sink.tells before after) (sym none)
+    (subst (λ (command : Asked). AnswersOne (asked_answers None command left files last) c.serve_two_keys.result g.S.Sink.tells before after) (sym c.in-Rekey.is)
+    (c.serve_two_keys.ensures.answer (λ takes. keyed (ap takes_keys c.in-Rekey.is ∙ takes)) told))
+
+pub returns-in-Migrate-clause-answer : goal.returns-in-Migrate-clause-answer
+returns-in-Migrate-clause-answer g c = λ keyed told.
+    let files = g.D.Disk.reads c.args.disk.now in
+    let last = g.D.Disk.reads c.serve_two_keys-in-Migrate.new.disk in
+    let left = g.K.Source.left c.args.input.now in
+    let before = g.S.Sink.taken c.args.out.now in
+    let after = g.S.Sink.taken c.serve_two_keys-in-Migrate.new.out in
+    let none : word_refusal c.args.command ≡ None = search rules in
+    subst (λ (o : Option Refused). AnswersOne (asked_answers o c.args.command left files last) c.serve_two_keys-in-Migrate.result g.S.Sink.tells before after) (sym none)
+    (subst (λ (command : Asked). AnswersOne (asked_answers None command left files last) c.serve_two_keys-in-Migrate.result g.S.Sink.tells before after) (sym c.in-Migrate.is)
+    (c.serve_two_keys-in-Migrate.ensures.answer (λ takes. keyed (ap takes_keys c.in-Migrate.is ∙ takes)) told))

@@ -1,9 +1,9 @@
 use Rattle.std.proofs.Common.{◌≡◌, ◌∙◌, ◌+◌, ◌≤◌, ℕ, true, List, [], ◌∷◌, length, Ok, ap, arith, rules, subst, sym}
-use Rattle.cipher_profile.specs.Profile.{usable}
+use Rattle.cipher_profile.specs.Profile.{is_plain, usable}
 use Rattle.db_format.specs.Header.{header_read}
 use Rattle.db_format.specs.Seen.{marked}
 use Rattle.db_format.specs.Pages.{also}
-use Rattle.page_codec.specs.Page.{FileKeys}
+use Rattle.page_codec.specs.Page.{FileKeys, magic}
 use Rattle.fresh_file.specs.Fresh.{IsFinished, IsWell, contents, sized, with_head}
 use Rattle.fresh_file.specs.Held.{held_or, plain_at}
 use Rattle.fresh_file.specs.Sealed.{plain_page}
@@ -43,6 +43,8 @@ returns-clause-file g c start was =
     all
     (subst (λ (keys : FileKeys). length keys.salt ≡ 16) (sym same.codec) (search rules))
     (subst (λ (keys : FileKeys). 16 ≤ keys.profile.page_size) (sym same.codec) (search arith))
+    (subst (λ (keys : FileKeys). is_plain keys.profile ≡ true → keys.salt ≡ magic) (sym same.codec)
+    (λ plain. sym c.salt-salt.ensures.value ∙ c.salt-salt.ensures.plain plain))
     (c.sync_side.ensures.same was.told)
     c.sync_side.ensures.drawn)
 

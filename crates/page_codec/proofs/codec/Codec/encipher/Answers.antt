@@ -3,12 +3,12 @@ use Rattle.std.proofs.lemmas.List.{length-append}
 use Rattle.std.proofs.lemmas.Grind.{common_steps}
 use Rattle.cipher_profile.specs.Profile.{IsLaidOut, usable}
 use Rattle.cbc_mode.specs.Cbc.{cbc_decrypted}
-use Rattle.page_codec.specs.Page.{FileKeys, ciphertext, cipher_start, magic, opened, stored_iv}
+use Rattle.page_codec.specs.Page.{FileKeys, ciphertext, cipher_start, deciphered, magic, stored_iv}
 use Rattle.page_codec.proofs.Parts.{part_after, part_between}
 use Rattle.page_codec.proofs.codec.Codec.encipher.Goals as goal
 
 pub returns-clause-opens_to : goal.returns-clause-opens_to
-unfolding opened
+unfolding deciphered
 returns-clause-opens_to c =
     let file = c.args.self.now in
     let n = c.args.n in

@@ -4,8 +4,8 @@ use Rattle.aes_block.specs.Aes.{AreBytes, IsBlock, IsKey}
 use Rattle.aes_block.proofs.ByteFacts.{AreBytes-drop, AreBytes-take}
 use Rattle.cbc_mode.specs.Cbc.{IsText}
 use Rattle.cbc_mode.specs.Records.{encrypted_record}
-use Rattle.cipher_profile.specs.Profile.{IsLaidOut, usable}
-use Rattle.page_codec.specs.Page.{FileKeys, opened}
+use Rattle.cipher_profile.specs.Profile.{IsLaidOut, is_plain, usable}
+use Rattle.page_codec.specs.Page.{FileKeys, deciphered}
 use Rattle.page_codec.specs.Pages.{page_at}
 use Rattle.page_codec.proofs.PageFacts.{encrypted_page, ends_by, length-page, opened_untagged, page_is_record, size_blocks, whole_blocks}
 use Rattle.page_codec.proofs.codec.Codec.encipher_pages.Goals as goal
@@ -16,7 +16,7 @@ cbc_encrypt_records-requires c =
     let layout = c.usable-text.ensures.laid_out in
     let size : c.self.inside.profile.page_size ≡ file.profile.page_size = ap (λ (f : FileKeys). f.profile.page_size) c.self.view_is in
     record {
-      iv = omega (arith, layout.room, layout.blocks, c.usable-text.ensures.value, size_blocks c.self.inside.profile layout);
+      iv = omega (arith, layout.room (ap is_plain (ap (λ (f : FileKeys). f.profile) c.self.view_is) ∙ c.requires.ciphered), layout.blocks, c.usable-text.ensures.value, size_blocks c.self.inside.profile layout);
       most = c.requires.most;
       size = c.requires.size ∙ ap (λ (s : ℕ). s * c.args.count) (sym size)
           ∙ whole_blocks c.self.inside.profile.page_size (c.self.inside.profile.page_size / 16) c.args.count (size_blocks c.self.inside.profile layout);
@@ -53,12 +53,12 @@ returns-clause-opens_to c i n hi le =
     let page_bytes : AreBytes page = AreBytes-take size (drop (size * i) old) (AreBytes-drop (size * i) old bytes) in
     let plain : List ℕ = take u page in
     let draw : List ℕ = drop u page in
-    let plain_long : length plain ≡ u = length-take-le u page (omega (arith, long, layout.room)) in
+    let plain_long : length plain ≡ u = length-take-le u page (omega (arith, long, layout.room c.requires.ciphered)) in
     let key : IsKey file.keys.enc = subst IsKey (ap (λ (f : FileKeys). f.keys.enc) c.self.view_is) c.key_law.ensures in
     let iv : IsBlock (take 16 draw) = (
-      length-take-le 16 draw (omega (arith, long, layout.room, length-drop u page)),
+      length-take-le 16 draw (omega (arith, long, layout.room c.requires.ciphered, length-drop u page)),
       AreBytes-take 16 draw (AreBytes-drop u page page_bytes),
     ) in
     let text : IsText plain = record { whole = omega (arith, plain_long, layout.blocks); bytes = AreBytes-take u page page_bytes } in
-    ap (opened file n) (returns-clause-value c i n hi le)
+    ap (deciphered file n) (returns-clause-value c i n hi le)
     ∙ opened_untagged file n plain draw le plain_long (c.cbc_round_trip_law.ensures file.keys.enc (take 16 draw) plain key iv text)

@@ -2,8 +2,8 @@ use Rattle.std.proofs.Common.{◌≡◌, List, ℕ, length, arith, ap, ◌∙◌
 use Rattle.std.proofs.lemmas.Grind.{common_steps}
 use Rattle.std.proofs.lemmas.List.{length-take-le}
 use Rattle.cipher_profile.specs.Profile.{IsLaidOut}
-use Rattle.page_codec.specs.Page.{FileKeys, accepts, opened, tag}
-use Rattle.page_codec.proofs.TagPlace.{accepts-with_tag, length-digest, opened-with_tag}
+use Rattle.page_codec.specs.Page.{FileKeys, accepts, deciphered, tag}
+use Rattle.page_codec.proofs.TagPlace.{accepts-with_tag, length-digest, deciphered-with_tag}
 use Rattle.page_codec.proofs.codec.Codec.place_tag.Goals as goal
 
 pub returns-clause-value : goal.returns-clause-value
@@ -20,7 +20,7 @@ returns-clause-accepted c =
     ap length (sym c.requires.tag)
     ∙ length-take-le file.profile.tag_len c.args.mac.now (omega (arith, laid_out, length-digest file.profile.hash, c.requires.mac_size)) in
     subst (λ (page : List ℕ). IsTrue (accepts file n page)) (sym (returns-clause-value c))
-    (accepts-with_tag file n stored (omega (arith, laid_out, c.requires.size)) long)
+    (accepts-with_tag file n stored (omega (arith, laid_out.room c.requires.ciphered, c.requires.size)) long)
 
 pub returns-clause-opens_as_before : goal.returns-clause-opens_as_before
 returns-clause-opens_as_before c =
@@ -29,5 +29,5 @@ returns-clause-opens_as_before c =
     let stored : List ℕ = c.args.stored.now in
     let laid_out : IsLaidOut file.profile =
     subst IsLaidOut (ap (λ (f : FileKeys). f.profile) c.self.view_is) c.usable-tag_at.ensures.laid_out in
-    ap (opened file n) (returns-clause-value c)
-    ∙ opened-with_tag file n (tag file n stored) stored (omega (arith, laid_out, c.requires.size))
+    ap (deciphered file n) (returns-clause-value c)
+    ∙ deciphered-with_tag file n (tag file n stored) stored (omega (arith, laid_out.room c.requires.ciphered, c.requires.size))

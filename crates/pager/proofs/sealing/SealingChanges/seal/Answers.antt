@@ -7,7 +7,7 @@ use Rattle.pager.proofs.ChangedLemmas.{listed_at}
 use Rattle.pager.proofs.sealing.SealingChanges.seal.Goals as goal
 
 pub seal_page-requires-clause-magic : goal.seal_page-requires-clause-magic
-seal_page-requires-clause-magic c = λ one.
+seal_page-requires-clause-magic c = λ one ciphered.
     let changed = c.args.self.now.changed.now in
     let is : slice_index changed.numbers c.args.k ≡ 1 = sym c.number-n.ensures.value ∙ one in
     let held : is_held 1 changed.held ≡ true =
@@ -15,4 +15,4 @@ seal_page-requires-clause-magic c = λ one.
     ∙ subst (λ (m : ℕ). is_listed m changed.numbers ≡ true) is (listed_at c.args.k changed.numbers c.requires.index) in
     ap (take 16) c.page.ensures.value
     ∙ ap (λ (m : ℕ). take 16 (bytes_of_page m changed.held)) is
-    ∙ c.args.self.now.begins held
+    ∙ c.args.self.now.begins ciphered held

@@ -18,7 +18,7 @@ pub returns-then-has-clause-any_moment : goal.returns-then-has-clause-any_moment
 returns-then-has-clause-any_moment g c told = started g.met.D.Disk.only_now c.args.self.now.disk.now (HoldsOld g.start.base) (λ d here. batches_hold_old g.start.base _ _ _ _ _ _ _ (c.requires.1.1.1.1.1 told).batches d here)
 
 pub invariant_of-self-2-clause-begins : goal.invariant_of-self-2-clause-begins
-invariant_of-self-2-clause-begins g c = magic_other c.args.n _ c.make_room.new.self.changed.held c.add.new.self.held c.requires.1.1.0 c.add.ensures.bytes c.make_room.new.self.begins
+invariant_of-self-2-clause-begins g c = λ ciphered. magic_other c.args.n _ c.make_room.new.self.changed.held c.add.new.self.held c.requires.1.1.0 c.add.ensures.bytes (c.make_room.new.self.begins ciphered)
 
 pub returns-clause-zeros : goal.returns-clause-zeros
 returns-clause-zeros g c told m =

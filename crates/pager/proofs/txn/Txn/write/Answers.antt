@@ -17,7 +17,7 @@ pub returns-then-has-clause-any_moment : goal.returns-then-has-clause-any_moment
 returns-then-has-clause-any_moment g c told = started g.met.D.Disk.only_now c.args.self.now.disk.now (HoldsOld g.start.base) (λ d here. batches_hold_old g.start.base _ _ _ _ _ _ _ (c.requires.1.1.1.1.1.1 told).batches d here)
 
 pub invariant_of-self-clause-begins : goal.invariant_of-self-clause-begins
-invariant_of-self-clause-begins g c = magic_put c.args.n c.args.at c.args.bytes.now c.args.self.now.changed.held c.put.new.self.held c.requires.1.1.1.0 (sym c.has.ensures.value ∙ c.if-has.true) c.put.ensures.bytes c.args.self.now.begins
+invariant_of-self-clause-begins g c = λ ciphered. magic_put c.args.n c.args.at c.args.bytes.now c.args.self.now.changed.held c.put.new.self.held c.requires.1.1.1.0 (sym c.has.ensures.value ∙ c.if-has.true) c.put.ensures.bytes (c.args.self.now.begins ciphered)
 
 pub returns-then-has-clause-changed : goal.returns-then-has-clause-changed
 returns-then-has-clause-changed g c told m =
@@ -27,7 +27,7 @@ returns-then-has-clause-changed g c told m =
     ∙ put_same m c.args.n _ _ _ _ (ap (λ (l : List ℕ). with_bytes c.args.at c.args.bytes.now l) (seen_held s.read s.write (main_of (g.D.Disk.reads s.disk.now)) s.count s.written s.changed.held c.args.n held)) refl
 
 pub invariant_of-self-2-clause-begins : goal.invariant_of-self-2-clause-begins
-invariant_of-self-2-clause-begins g c = magic_put c.args.n c.args.at c.args.bytes.now c.take_in.new.self.changed.held c.put-2.new.self.held c.requires.1.1.1.0 c.in_ok-take_in.ensures.held c.put-2.ensures.bytes c.take_in.new.self.begins
+invariant_of-self-2-clause-begins g c = λ ciphered. magic_put c.args.n c.args.at c.args.bytes.now c.take_in.new.self.changed.held c.put-2.new.self.held c.requires.1.1.1.0 c.in_ok-take_in.ensures.held c.put-2.ensures.bytes (c.take_in.new.self.begins ciphered)
 
 pub returns-clause-changed : goal.returns-clause-changed
 returns-clause-changed g c told m =

@@ -1,0 +1,224 @@
+// Plain SQLite files: which words name them, and what is said where one is refused, or takes the place of an encrypted file.
+ghost use Rattle.std.specs.Prelude.{◌≡◌};
+ghost use Rattle.sqlcipher_cli.specs.Plain.{decrypts, encrypts, names_plain};
+ghost use Rattle.sqlcipher_tool.specs.Words.{texts};
+
+use crate::advice::say;
+use crate::failure::Shown;
+use cipher_profile::{Profile, profile_of};
+use std::fmt::Display;
+
+/// The first bytes of a plain file, and of no encrypted one whose salt is random.
+pub const MAGIC: [u8; 16] = *b"SQLite format 3\0";
+
+/// Why the words of a plain file fit no file that does not begin with them.
+pub const NO_MAGIC: &str =
+    "the file does not begin with `SQLite format 3`, as every plain file does: it is encrypted, and `probe` finds the version by its \
+    key, or it is no database";
+
+/// Why a plain file has nothing to re-key.
+pub const NO_KEY: &str =
+    "a plain file has no key to change: `migrate` with the same words writes the database anew, encrypted or plain";
+
+/// What encrypting a plain file leaves behind.
+pub const OLD_ROWS: &str =
+    "the old file's rows in the clear are gone from this name, but not from the device";
+
+/// What to do about a log with newer pages.
+pub const LOG: &str =
+    "close the programs that use the database, and `sqlite3 FILE 'PRAGMA journal_mode = DELETE'` takes the log into the file; a log that is \
+    another file's has to be moved away";
+
+/// Why a plain file has no tags.
+pub const NO_TAGS: &str = "a plain file has no tags: `verify` checks its structure";
+
+const RESERVED: &str =
+    "where SQLite wrote it, `sqlite3 FILE .dump | sqlite3 NEW` gives a file without them (VACUUM keeps them, and the user version has to be \
+    set anew); where SQLCipher wrote it with its first bytes in the clear (`cipher_plaintext_header_size`), it is not served";
+
+/// What a file that begins as plain ones do says of its pages.
+#[derive(Clone, Copy)]
+pub struct PlainHead {
+    /// The field of their size, in bytes; 1 means 65,536.
+    pub field: u32,
+    /// How many bytes at the end of each hold no content.
+    pub reserve: u8,
+}
+
+impl PlainHead {
+    /// The profile of such a file, where its pages have a size of SQLite's.
+    fn profile(&self) -> Option<Profile> {
+        sized(self.field)
+    }
+}
+
+/// Whether a word names plain files.
+pub fn is_plain_word(word: &str) -> bool
+    ensures { result ≡ names_plain word.now }
+{
+    match profile_of(word) {
+        Some(profile) => profile.is_plain(),
+        None => false,
+    }
+}
+
+/// Whether the words write the rows of an encrypted file in the clear.
+pub fn decrypts(words: &[&str]) -> bool
+    ensures { result ≡ decrypts (texts words.now) }
+{
+    match words {
+        [name, old, new] => *name == "migrate" && !is_plain_word(old) && is_plain_word(new),
+        _ => false,
+    }
+}
+
+/// Whether the words write the rows of a plain file under a key.
+pub fn encrypts(words: &[&str]) -> bool
+    ensures { result ≡ encrypts (texts words.now) }
+{
+    match words {
+        [name, old, new] => *name == "migrate" && is_plain_word(old) && !is_plain_word(new),
+        _ => false,
+    }
+}
+
+// The profile of plain files whose header has this number as the size of a page.
+fn sized(field: u32) -> Option<Profile> {
+    of_size(if field == 1 { 65_536 } else { field })
+}
+
+// The profile of plain files with pages of this size, in bytes.
+fn of_size(size: u32) -> Option<Profile> {
+    match size {
+        512 => profile_of("plain:512"),
+        1024 => profile_of("plain:1024"),
+        2048 => profile_of("plain:2048"),
+        4096 => profile_of("plain:4096"),
+        8192 => profile_of("plain:8192"),
+        16384 => profile_of("plain:16384"),
+        32768 => profile_of("plain:32768"),
+        65536 => profile_of("plain:65536"),
+        _ => None,
+    }
+}
+
+/// Says how a plain file is served, under which the key of an encrypted one was refused.
+pub fn explain_unencrypted(rt: &HostRuntime, head: PlainHead) {
+    let begins = "the file begins with `SQLite format 3`";
+    let reserve = head.reserve;
+    match head.profile() {
+        Some(profile) if reserve == 0 => {
+            let size = profile.page_size;
+            say(
+                rt,
+                format_args!(
+                    "{begins}: it is not encrypted. Give plain:{size} in the place of the version, and no key; `migrate plain:{size} 4` \
+                    encrypts it"
+                ),
+            );
+        }
+        Some(_) => say(
+            rt,
+            format_args!("{begins}, and its pages have {reserve} reserved bytes: {RESERVED}"),
+        ),
+        None => say(
+            rt,
+            format_args!(
+                "{begins}: it is not encrypted, but its header names no size of pages that SQLite has"
+            ),
+        ),
+    }
+}
+
+/// Says what a field of a plain file's header means for its owner.
+pub fn explain_header(rt: &HostRuntime, offset: u32, found: u32) {
+    match (offset, sized(found)) {
+        (16, Some(profile)) => explain_size(rt, profile.page_size),
+        (16, None) => say(
+            rt,
+            "its header names no size of pages that SQLite has: the file is damaged",
+        ),
+        (20, _) => say(
+            rt,
+            format_args!("its pages have {found} reserved bytes: {RESERVED}"),
+        ),
+        _ => {}
+    }
+}
+
+/// Says which word the file has where another one was given. Answers whether there is something to say.
+pub fn explain_other_size(rt: &HostRuntime, word: &str, head: Option<PlainHead>) -> bool {
+    let found = match head {
+        Some(head) => head.profile(),
+        None => None,
+    };
+    match (profile_of(word), found) {
+        (Some(given), Some(profile)) if given.page_size != profile.page_size => {
+            explain_size(rt, profile.page_size);
+            true
+        }
+        _ => false,
+    }
+}
+
+fn explain_size(rt: &HostRuntime, size: u32) {
+    say(
+        rt,
+        format_args!("the pages of this file have {size} bytes: give plain:{size}"),
+    );
+}
+
+/// Says which word has pages of the size that the journal beside a plain file has.
+pub fn explain_journal(rt: &HostRuntime, found: u32) {
+    let beside = "the journal beside the file has pages of another size";
+    let unwritten = "nothing was written";
+    match of_size(found) {
+        Some(_) => say(
+            rt,
+            format_args!("{beside}: give plain:{found}; {unwritten}"),
+        ),
+        None => say(
+            rt,
+            format_args!("{beside}, and no file has such pages; {unwritten}"),
+        ),
+    }
+}
+
+/// Says how a file gets out of WAL mode.
+pub fn explain_log_mode(rt: &HostRuntime) {
+    say(
+        rt,
+        "the file is in WAL mode, and stays so until it is told otherwise: close the programs that use it, and give \
+        `sqlite3 FILE 'PRAGMA journal_mode = DELETE'`; of a copy, FILE-wal has to lie beside it",
+    );
+}
+
+/// Says how a file gets rid of its pages for auto-vacuum.
+pub fn explain_vacuum(rt: &HostRuntime) {
+    say(
+        rt,
+        "a file with auto-vacuum is not served: on a copy of FILE give `sqlite3 FILE 'PRAGMA auto_vacuum = 0; VACUUM'`",
+    );
+}
+
+/// Says what a plain file is that takes the place of an encrypted one.
+pub fn warn_of_clear_rows(rt: &HostRuntime, path: &str) {
+    say(
+        rt,
+        format_args!(
+            "{}: the new file holds every row in the clear; the old encrypted pages will be gone from this name, but not from the device",
+            Shown(path)
+        ),
+    );
+}
+
+/// Says how to tell which of two files it is after `migrate`, where one of them is plain.
+pub fn explain_which<O: Display + Drop, N: Display + Drop>(rt: &HostRuntime, old: O, new: N) {
+    say(
+        rt,
+        format_args!(
+            "unless another program changed it meanwhile, the file is whole, the old one or the new one: `recover {old}`, then `verify {old}` \
+            and `verify {new}`, each with its own key"
+        ),
+    );
+}

@@ -1,0 +1,94 @@
+-- The first 16 bytes of a file, where its salt stands, and those of page 1, sealed and with other fields.
+use Rattle.std.proofs.Common.{◌≡◌, ◌≤◌, ◌+◌, ◌-◌, ◌*◌, ◌++◌, ℕ, Bool, true, false, List, length, take, drop, refl, sym, ap, ◌∙◌, arith, length-take, if◌then◌else◌}
+use Rattle.std.proofs.lemmas.List.{take-append-le, take-take}
+use Rattle.std.proofs.lemmas.Slice.Eq.{bytes_eq-Decides}
+use Rattle.std.specs.Int.{w32, to_be_bytes}
+use Rattle.std.specs.Str.{bytes_eq}
+use Rattle.cipher_profile.proofs.Layouts.{IsListed-laid_out}
+use Rattle.cipher_profile.specs.declared.keys.Secret.{Secret}
+use Rattle.cipher_profile.specs.declared.profile.Profile.{Profile}
+use Rattle.cipher_profile.specs.Profile.{IsListed, is_plain}
+use Rattle.page_codec.specs.Page.{FileKeys, codec_salt, enciphered, fits, keys_of, magic, salt_of, sealed}
+use Rattle.pager.specs.File.{first_page}
+use Rattle.sqlcipher_tool.specs.Stamp.{field_at, next_change, stamped_page, with_field}
+use Rattle.sqlcipher_tool.specs.declared.command.Field.{Field}
+use Rattle.sqlcipher_tool.proofs.OpenedParts.{plain_fits}
+use Rattle.sqlcipher_tool.proofs.StampedFields.{field_length}
+
+-- ---- the salt
+
+-- of an encrypted file
+pub ciphered_salt : (profile : Profile) (file : List ℕ) → is_plain profile ≡ false → salt_of file ≡ codec_salt profile file
+ciphered_salt profile file ciphered = sym (ap (λ (b : Bool). if b then magic else salt_of file) ciphered)
+
+-- the first 16 bytes of a file are the salt of its codec, where they are the magic of a plain one
+pub kept_salt : (profile : Profile) (salt file : List ℕ) → salt ≡ salt_of file → (is_plain profile ≡ true → salt ≡ magic) → salt ≡ codec_salt profile file
+kept_salt profile salt file same plain = by_plain (is_plain profile) refl
+  where
+    by_plain : (b : Bool) → is_plain profile ≡ b → salt ≡ codec_salt profile file
+    by_plain true is = plain is ∙ sym (ap (λ (b : Bool). if b then magic else salt_of file) is)
+    by_plain false is = same ∙ ciphered_salt profile file is
+
+-- page 1 begins as the file
+pub first_of_page : (size : ℕ) (file : List ℕ) → 16 ≤ size → take 16 (take size (drop ((1 - 1) * size) file)) ≡ take 16 file
+first_of_page size file large =
+    ap (λ (at : ℕ). take 16 (take size (drop at file))) {x = (1 - 1) * size} {y = 0} (omega arith) ∙ take-take 16 size file large
+
+-- a file whose key fits begins with the salt of its codec, also where it is plain
+pub fitting_salt : (profile : Profile) (secret : Secret) (file : List ℕ) → IsListed profile → fits (keys_of profile secret file) (first_page profile file) ≡ true
+    → codec_salt profile file ≡ salt_of file
+fitting_salt profile secret file listed fit = by_plain (is_plain profile) refl
+  where
+    keys : FileKeys
+    keys = keys_of profile secret file
+
+    first : List ℕ
+    first = first_page profile file
+
+    large : 16 ≤ profile.page_size
+    large = let least = (IsListed-laid_out profile listed).least in omega (arith, least)
+
+    by_plain : (b : Bool) → is_plain profile ≡ b → codec_salt profile file ≡ salt_of file
+    by_plain false ciphered = sym (ciphered_salt profile file ciphered)
+    by_plain true plain =
+        let begins : bytes_eq (take 16 first) magic ≡ true = sym (plain_fits keys first plain) ∙ fit in
+        ap (λ (b : Bool). if b then magic else salt_of file) plain
+        ∙ sym ((bytes_eq-Decides (take 16 first) magic).0 begins)
+        ∙ first_of_page profile.page_size file large
+
+-- ---- a sealed page of a plain file
+
+pub sealed_plain_file : (keys : FileKeys) (n : ℕ) (plain draw : List ℕ) → is_plain keys.profile ≡ true → sealed keys n plain draw ≡ plain
+unfolding sealed
+sealed_plain_file keys n plain draw is = ap (λ (b : Bool). if b then plain else enciphered keys n plain draw) is
+
+-- ---- page 1 with other fields
+
+field_first : (at value : ℕ) (page : List ℕ) → 16 ≤ at → at + 4 ≤ length page → take 16 (with_field at value page) ≡ take 16 page
+field_first at value page from long =
+    take-append-le 16 (take at page) (to_be_bytes w32 value ++ drop (at + 4) page) (omega (arith, from, long, length-take at page))
+    ∙ take-take 16 at page from
+
+pub stamped_first : (field : Field) (value count : ℕ) (plain : List ℕ) → (60 ≤ field_at field) × (field_at field ≤ 68) → 100 ≤ length plain
+    → take 16 (stamped_page field value count plain) ≡ take 16 plain
+stamped_first field value count plain place long = by_change (next_change _)
+  where
+    at : ℕ
+    at = field_at field
+
+    one : List ℕ
+    one = with_field at value plain
+
+    one_long : length one ≡ length plain
+    one_long = field_length at value plain (omega (arith, place.1, long))
+
+    by_change : (change : ℕ) → take 16 (with_field 92 change (with_field 28 count (with_field 24 change one))) ≡ take 16 plain
+    by_change change =
+        let two = with_field 24 change one in
+        let two_long : length two ≡ length one = field_length 24 change one (omega (arith, one_long, long)) in
+        let three = with_field 28 count two in
+        let three_long : length three ≡ length two = field_length 28 count two (omega (arith, two_long, one_long, long)) in
+        field_first 92 change three (omega arith) (omega (arith, three_long, two_long, one_long, long))
+        ∙ (field_first 28 count two (omega arith) (omega (arith, two_long, one_long, long))
+        ∙ (field_first 24 change one (omega arith) (omega (arith, one_long, long))
+        ∙ field_first at value plain (omega (arith, place.0)) (omega (arith, place.1, long))))

@@ -1,0 +1,147 @@
+-- Of a command that draws nothing the new file is plain, and nothing is asked of the bytes that were drawn.
+use Rattle.std.proofs.Common.{◌≡◌, ⊎_elim, inl, inr, ℕ, Bool, true, false, not, List, [], ◌∷◌, length, Some, sym, ◌∙◌, arith}
+use Rattle.cipher_profile.specs.declared.keys.Secret.{Secret}
+use Rattle.cipher_profile.specs.declared.profile.Profile.{Profile}
+use Rattle.cipher_profile.specs.Profile.{is_plain}
+use Rattle.disk_side.specs.Published.{IsNew as IsAlone}
+use Rattle.edge_model.specs.Files.{Files}
+use Rattle.make_job.specs.Made.{IsMade}
+use Rattle.sqlcipher_tool.specs.Answer.{HasDrawnCauses}
+use Rattle.sqlcipher_tool.specs.Change.{command_of}
+use Rattle.sqlcipher_tool.specs.Crash.{Changes, HasNoMain, HasOwnDraws, IsDrawnFor, IsSafely, MakesWith, Renews, StaysOrRenews}
+use Rattle.sqlcipher_tool.specs.Holding.{DiskRun}
+use Rattle.sqlcipher_tool.specs.Renewal.{AreDrawn, Renewal, WithDraws, from_to, renewal}
+use Rattle.sqlcipher_tool.specs.Words.{asked_keys, draws}
+use Rattle.sqlcipher_tool.specs.declared.change.Change.{Change}
+use Rattle.sqlcipher_tool.specs.declared.change.Change.TheVariants.{Stamp as StampOf, Rekey as RekeyOf, Migrate as MigrateOf}
+use Rattle.sqlcipher_tool.specs.declared.command.Command.{Command}
+use Rattle.sqlcipher_tool.specs.declared.command.Command.TheVariants.{Tags, Header, Verify, Export, Salvage, Find, Probe, Recover, Stamp, Rekey, Migrate, Make}
+use Rattle.sqlcipher_tool.specs.declared.status.Status.{Status}
+
+-- ---- the new file
+
+never_both : (b : Bool) → not b ≡ false → b ≡ false → ⊥
+never_both true one two = cc
+never_both false one two = cc
+
+plain_drawn : (command : Command) (secrets : List Secret) (file drawn : List ℕ) → draws command ≡ false → IsDrawnFor command (renewal command secrets) file drawn
+plain_drawn (Tags profile) secrets file drawn none = tt
+plain_drawn (Header profile) secrets file drawn none = tt
+plain_drawn (Verify profile) secrets file drawn none = tt
+plain_drawn (Export profile) secrets file drawn none = tt
+plain_drawn (Salvage profile) secrets file drawn none = tt
+plain_drawn (Find profile name low high) secrets file drawn none = tt
+plain_drawn Probe secrets file drawn none = tt
+plain_drawn (Recover profile) secrets file drawn none = tt
+plain_drawn (Stamp profile field value) [] file drawn none = tt
+plain_drawn (Stamp profile field value) (secret ∷ rest) file drawn none =
+    λ ciphered. absurd (never_both (is_plain profile) none ciphered)
+plain_drawn (Rekey old new) [] file drawn none = tt
+plain_drawn (Rekey old new) (first ∷ []) file drawn none = tt
+plain_drawn (Rekey old new) (first ∷ second ∷ rest) file drawn none =
+    λ ciphered. absurd (never_both (is_plain new) none ciphered)
+plain_drawn (Migrate old new) [] file drawn none = tt
+plain_drawn (Migrate old new) (first ∷ []) file drawn none = tt
+plain_drawn (Migrate old new) (first ∷ second ∷ rest) file drawn none = λ ciphered. absurd (never_both (is_plain new) none ciphered)
+plain_drawn (Make profile rows) [] file drawn none = tt
+plain_drawn (Make profile rows) (secret ∷ rest) file drawn none = λ ciphered. absurd (never_both (is_plain profile) none ciphered)
+
+pub plain_own : (command : Command) (gave : List Secret → Type 0) (file drawn : List ℕ) → draws command ≡ false → HasOwnDraws command gave file drawn
+plain_own command gave file drawn none = λ secrets has. plain_drawn command secrets file drawn none
+
+-- and so of a change into a plain file
+pub plain_renewed : (change : Change) (old new : Profile) (first second : Secret) (file drawn : List ℕ) → is_plain new ≡ true
+    → length (asked_keys (command_of change old new)) ≡ 2 → AreDrawn (command_of change old new) (from_to old first new second) file drawn
+plain_renewed (StampOf field value) old new first second file drawn plain two = cc
+plain_renewed RekeyOf old new first second file drawn plain two = λ ciphered. let never : true ≡ false = sym plain ∙ ciphered in cc
+plain_renewed MigrateOf old new first second file drawn plain two = λ ciphered. let never : true ≡ false = sym plain ∙ ciphered in cc
+
+-- ---- every moment of the run
+
+-- one new file, of which all that is said of its draws holds
+renews_as : (status : Status) (is_new own_was own : List ℕ → Type 0) (old : Files → Type 0) (new : List ℕ → Files → Type 0) (tells : Bool) (run : DiskRun) → ((file : List ℕ) → own file)
+    → StaysOrRenews status (WithDraws is_new false own_was) old new run → StaysOrRenews status (WithDraws is_new tells own) old new run
+renews_as status is_new own_was own old new tells run all was = ⊎_elim (λ stays. inl stays) (λ renews. inr (other renews)) was
+  where
+    other : Renews status (WithDraws is_new false own_was) old new run → Renews status (WithDraws is_new tells own) old new run
+    other renews = record {
+      file = renews.file;
+      is_new = (renews.is_new.0, λ told. all renews.file);
+      goes_over = renews.goes_over;
+      is_main = renews.is_main;
+      no_journal = renews.no_journal;
+    }
+
+pub safely_as : (status : Status) (command : Command) (tells : Bool) (was drawn : List ℕ) (run : DiskRun) (renewal : Renewal) → ((file : List ℕ) → AreDrawn command renewal file drawn)
+    → IsSafely status command false was run (Some renewal) → IsSafely status command tells drawn run (Some renewal)
+safely_as status command tells was drawn run renewal all safe = λ start. renews_as status _ _ _ _ _ tells run all (safe start)
+
+pub plain_changes : (status : Status) (command : Command) (gave : List Secret → Type 0) (tells : Bool) (was drawn : List ℕ) (run : DiskRun) → draws command ≡ false
+    → Changes status command gave false was run → Changes status command gave tells drawn run
+plain_changes status (Tags profile) gave tells was drawn run none change = tt
+plain_changes status (Header profile) gave tells was drawn run none change = tt
+plain_changes status (Verify profile) gave tells was drawn run none change = tt
+plain_changes status (Export profile) gave tells was drawn run none change = tt
+plain_changes status (Salvage profile) gave tells was drawn run none change = tt
+plain_changes status (Find profile name low high) gave tells was drawn run none change = tt
+plain_changes status Probe gave tells was drawn run none change = tt
+plain_changes status (Recover profile) gave tells was drawn run none change = tt
+plain_changes status (Stamp profile field value) gave tells was drawn run none change = λ secrets has. by_secrets secrets (change secrets has)
+  where
+    by_secrets : (secrets : List Secret) → IsSafely status (Stamp profile field value) false was run (renewal (Stamp profile field value) secrets) → IsSafely status (Stamp profile field value) tells drawn run (renewal (Stamp profile field value) secrets)
+    by_secrets [] safe = tt
+    by_secrets (secret ∷ rest) safe =
+        safely_as status (Stamp profile field value) tells was drawn run (from_to profile secret profile secret) (λ file. plain_drawn (Stamp profile field value) (secret ∷ rest) file drawn none) safe
+plain_changes status (Rekey old new) gave tells was drawn run none change = λ secrets has. by_secrets secrets (change secrets has)
+  where
+    by_secrets : (secrets : List Secret) → IsSafely status (Rekey old new) false was run (renewal (Rekey old new) secrets) → IsSafely status (Rekey old new) tells drawn run (renewal (Rekey old new) secrets)
+    by_secrets [] safe = tt
+    by_secrets (first ∷ []) safe = tt
+    by_secrets (first ∷ second ∷ rest) safe =
+        safely_as status (Rekey old new) tells was drawn run (from_to old first new second) (λ file. plain_drawn (Rekey old new) (first ∷ second ∷ rest) file drawn none) safe
+plain_changes status (Migrate old new) gave tells was drawn run none change = λ secrets has. by_secrets secrets (change secrets has)
+  where
+    by_secrets : (secrets : List Secret) → IsSafely status (Migrate old new) false was run (renewal (Migrate old new) secrets) → IsSafely status (Migrate old new) tells drawn run (renewal (Migrate old new) secrets)
+    by_secrets [] safe = tt
+    by_secrets (first ∷ []) safe = tt
+    by_secrets (first ∷ second ∷ rest) safe =
+        safely_as status (Migrate old new) tells was drawn run (from_to old first new second) (λ file. plain_drawn (Migrate old new) (first ∷ second ∷ rest) file drawn none) safe
+plain_changes status (Make profile rows) gave tells was drawn run none change = λ secrets has. by_secrets secrets (change secrets has)
+  where
+    by_secrets : (secrets : List Secret) → MakesWith status profile rows false was run secrets → MakesWith status profile rows tells drawn run secrets
+    by_secrets [] makes = tt
+    by_secrets (secret ∷ rest) makes = record {
+      made = makes.made;
+      safely = λ free. renews_as status (IsMade profile secret rows) _ _ HasNoMain IsAlone tells run
+          (λ file ciphered. absurd (never_both (is_plain profile) none ciphered)) (makes.safely free);
+    }
+
+-- ---- the faults
+
+-- a command that draws, of what it may answer as one that changes the file
+pub drawing_causes : (status : Status) (alters drawing : Bool) (a b d e f g : ℕ) → drawing ≡ true → HasDrawnCauses status alters a b d e f g → HasDrawnCauses status drawing a b d e f g
+drawing_causes status alters drawing a b d e f g is causes = record {
+  disk = causes.disk;
+  output = causes.output;
+  entropy = λ failed. ((causes.entropy failed).0, is);
+  input = causes.input;
+  usage = causes.usage;
+  late = causes.late;
+  disk_later = causes.disk_later;
+  output_later = causes.output_later;
+  entropy_later = causes.entropy_later;
+}
+
+-- and one that has no entropy: its count of faults cannot rise
+pub undrawing_causes : (status : Status) (alters drawing : Bool) (a b d e f : ℕ) → HasDrawnCauses status alters a b d e 0 0 → HasDrawnCauses status drawing a b d e f f
+undrawing_causes status alters drawing a b d e f causes = record {
+  disk = causes.disk;
+  output = causes.output;
+  entropy = λ failed. absurd (omega (arith, (causes.entropy failed).0));
+  input = causes.input;
+  usage = causes.usage;
+  late = causes.late;
+  disk_later = causes.disk_later;
+  output_later = causes.output_later;
+  entropy_later = omega arith;
+}
