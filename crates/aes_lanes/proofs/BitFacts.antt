@@ -49,12 +49,6 @@ pub number-lt : (b0 b1 b2 b3 b4 b5 b6 b7 : ℕ) → b0 < 2 → b1 < 2 → b2 < 2
     → number (b0 ∷ b1 ∷ b2 ∷ b3 ∷ b4 ∷ b5 ∷ b6 ∷ b7 ∷ []) < 256
 number-lt b0 b1 b2 b3 b4 b5 b6 b7 h0 h1 h2 h3 h4 h5 h6 h7 = omega arith
 
--- two functions to lists that agree at each byte
-pub tested_lists : (f g : ℕ → List ℕ) → map f (range_with_len 0 256) ≡ map g (range_with_len 0 256) → (x : ℕ) → x < 256 → f x ≡ g x
-tested_lists f g e x lt =
-    sym (get_or-map-range_with_len f 0 256 x x [] lt (omega arith)) ∙ ap (λ (t : List (List ℕ)). get_or t x []) e
-    ∙ get_or-map-range_with_len g 0 256 x x [] lt (omega arith)
-
 pub tested : (f g : ℕ → ℕ) → map f (range_with_len 0 256) ≡ map g (range_with_len 0 256) → (x : ℕ) → x < 256 → f x ≡ g x
 tested f g e x lt =
     sym (get_or-map-range_with_len f 0 256 x x 0 lt (omega arith)) ∙ ap (λ (t : List ℕ). get_or t x 0) e

@@ -9,7 +9,7 @@ use Rattle.std.proofs.lemmas.Nat.{pow-add}
 use Rattle.std.proofs.Math.Nat.{div-div-eq-div-mul}
 use Rattle.aes_block.specs.Blocks.{block_at}
 use Rattle.aes_lanes.specs.Bits.{bit_in, number}
-use Rattle.aes_lanes.specs.Blocks.{four_bytes, word_bits}
+use Rattle.aes_lanes.specs.Blocks.{word_bytes, word_bits}
 use Rattle.aes_lanes.specs.Planes.{byte_in}
 use Rattle.aes_lanes.specs.Transposed.{bits, row_vectors, transposed, vector_at}
 use Rattle.aes_lanes.specs.declared.lanes.Row.{Row}
@@ -148,7 +148,7 @@ halves_7 x y = omega arith
 shift_more : (x s k : ℕ) → x / 2 ^ s / 2 ^ k ≡ x / 2 ^ (s + k)
 shift_more x s k = div-div-eq-div-mul x (2 ^ s) (2 ^ k) ∙ ap (λ (p : ℕ). x / p) (sym (pow-add 2 s k))
 
-pub four_joined : (a b s : ℕ) → to_le_bytes w64 (a / 2 ^ s % 2 ^ 32 + b / 2 ^ s % 2 ^ 32 * 4294967296) ≡ four_bytes a s ++ four_bytes b s
+pub four_joined : (a b s : ℕ) → to_le_bytes w64 (a / 2 ^ s % 2 ^ 32 + b / 2 ^ s % 2 ^ 32 * 4294967296) ≡ word_bytes a s ++ word_bytes b s
 four_joined a b s =
     let x : ℕ = a / 2 ^ s in
     let y : ℕ = b / 2 ^ s in

@@ -1,6 +1,6 @@
 -- The rounds of the cipher that are done, and those of the inverse cipher that are left.
 use Rattle.std.proofs.Common.{◌≡◌, ℕ, suc, ◌+◌, ◌-◌, ◌<◌, List, ap, ◌∙◌, arith}
-use Rattle.aes_block.specs.Aes.{aes256, cipher, inv_aes256, inv_mix_columns, inv_rounds, inv_start, key_expansion, last_round, round, round_key, rounds, xor_bytes}
+use Rattle.aes_block.specs.Aes.{aes256, inv_aes256, inv_mix_columns, inv_rounds, inv_start, key_expansion, last_round, round, round_key, rounds, xor_bytes}
 use Rattle.aes_block.specs.Blocks.{block_at}
 use Rattle.aes_lanes.specs.States.{IsState, state_in}
 use Rattle.aes_lanes.specs.declared.lanes.State.{State}

@@ -8,7 +8,7 @@ use Rattle.std.proofs.lemmas.Bool.{cases_lt}
 use Rattle.std.proofs.lemmas.List.FromFn.{get_or-map-range_with_len}
 use Rattle.std.proofs.lemmas.Nat.Bits.{bit_at-lt, bit_at-zero, bit_at_and, bit_at_xor, bit_at_cat_high, bit_at_cat_low}
 use Rattle.aes_lanes.specs.Bits.{sum2}
-use Rattle.aes_lanes.specs.Transposed.{AreSwapped, first_of, second_of}
+use Rattle.aes_lanes.specs.Transposed.{AreSwapped, first_lane_of, second_of}
 use Rattle.aes_lanes.proofs.KeyFacts.{bit_at-mod, bit_at-shr}
 
 -- two functions that agree below 64
@@ -111,12 +111,12 @@ even_choice : (t p q : ℕ) → t ≡ 0 → p ≡ (if t == 0 then p else q)
 even_choice t p q e = sym (ap (λ (n : ℕ). if n == 0 then p else q) e)
 
 pub first_bit : (d m x y k : ℕ) → IsMask d m → k < 64
-    → bit_at (first_word d m x y) k ≡ first_of d (λ n. bit_at x (n % 64)) (λ n. bit_at y (n % 64)) k
+    → bit_at (first_word d m x y) k ≡ first_lane_of d (λ n. bit_at x (n % 64)) (λ n. bit_at y (n % 64)) k
 first_bit d m x y k h lt =
     let e1 : k ≡ k % 64 = omega arith in
     let t : ℕ = part d m x y in
     bit_at_xor x (t * 2 ^ d % 2 ^ 64) k ∙ ap (sum2 (bit_at x k)) (bit_at-mod (t * 2 ^ d) 64 k lt ∙ ap (λ (n : ℕ). bit_at n k) (plus_zero (t * 2 ^ d)))
-    ∙ (elim (cases_lt k d) as (λ _. sum2 (bit_at x k) (bit_at (t * 2 ^ d + 0) k) ≡ first_of d (λ n. bit_at x (n % 64)) (λ n. bit_at y (n % 64)) k) [
+    ∙ (elim (cases_lt k d) as (λ _. sum2 (bit_at x k) (bit_at (t * 2 ^ d + 0) k) ≡ first_lane_of d (λ n. bit_at x (n % 64)) (λ n. bit_at y (n % 64)) k) [
       | inl a ↦
           ap (sum2 (bit_at x k)) (bit_at_cat_low t d 0 k a ∙ bit_at-zero k) ∙ kept (bit_at x k) (bit_at-lt x k) ∙ ap (bit_at x) e1
           ∙ even_choice (k / d % 2) (bit_at x (k % 64)) (bit_at y ((k - d) % 64)) (h.low k a)

@@ -7,11 +7,11 @@ abbrev pub word_bits : List ℕ → ℕ → ℕ → ℕ → ℕ
 word_bits text c i k = bit_at (slice_index text (512 * (k % 64 / 8 / 4) + (16 * i + 4 * c) + k % 64 / 8 % 4)) (k % 64 % 8)
 
 -- the four bytes from bit s on
-abbrev pub four_bytes : ℕ → ℕ → List ℕ
-four_bytes x s = x / 2 ^ s % 256 ∷ x / 2 ^ (s + 8) % 256 ∷ x / 2 ^ (s + 16) % 256 ∷ x / 2 ^ (s + 24) % 256 ∷ []
+abbrev pub word_bytes : ℕ → ℕ → List ℕ
+word_bytes x s = x / 2 ^ s % 256 ∷ x / 2 ^ (s + 8) % 256 ∷ x / 2 ^ (s + 16) % 256 ∷ x / 2 ^ (s + 24) % 256 ∷ []
 
 -- block j of 32 vectors: blocks from 32 on are in the upper halves of the lanes
 abbrev pub block_in : List (List ℕ) → ℕ → List ℕ
 block_in vs j =
-    four_bytes (slice_index (slice_index_or vs (j % 32) []) 0) (j / 32 * 32) ++ four_bytes (slice_index (slice_index_or vs (j % 32) []) 1) (j / 32 * 32)
-    ++ four_bytes (slice_index (slice_index_or vs (j % 32) []) 2) (j / 32 * 32) ++ four_bytes (slice_index (slice_index_or vs (j % 32) []) 3) (j / 32 * 32)
+    word_bytes (slice_index (slice_index_or vs (j % 32) []) 0) (j / 32 * 32) ++ word_bytes (slice_index (slice_index_or vs (j % 32) []) 1) (j / 32 * 32)
+    ++ word_bytes (slice_index (slice_index_or vs (j % 32) []) 2) (j / 32 * 32) ++ word_bytes (slice_index (slice_index_or vs (j % 32) []) 3) (j / 32 * 32)

@@ -11,8 +11,8 @@ abbrev pub bits : List ℕ → ℕ → ℕ → ℕ
 bits v c k = bit_in v c (k % 64)
 
 -- bit k of two vectors f and g after each bit k + d of the first, where k / d is even, changed places with bit k of the second
-abbrev pub first_of : ℕ → (ℕ → ℕ) → (ℕ → ℕ) → ℕ → ℕ
-first_of d f g k = if k / d % 2 == 0 then f k else g (k - d)
+abbrev pub first_lane_of : ℕ → (ℕ → ℕ) → (ℕ → ℕ) → ℕ → ℕ
+first_lane_of d f g k = if k / d % 2 == 0 then f k else g (k - d)
 
 abbrev pub second_of : ℕ → (ℕ → ℕ) → (ℕ → ℕ) → ℕ → ℕ
 second_of d f g k = if k / d % 2 == 0 then f (k + d) else g k
@@ -20,7 +20,7 @@ second_of d f g k = if k / d % 2 == 0 then f (k + d) else g k
 pub record AreSwapped (d : ℕ) (a b x y : List ℕ) : Type 0 where
   pub first_lanes : length x ≡ 4
   pub second_lanes : length y ≡ 4
-  pub first : (c k : ℕ) → c < 4 → bits x c k ≡ first_of d (bits a c) (bits b c) (k % 64)
+  pub first : (c k : ℕ) → c < 4 → bits x c k ≡ first_lane_of d (bits a c) (bits b c) (k % 64)
   pub second : (c k : ℕ) → c < 4 → bits y c k ≡ second_of d (bits a c) (bits b c) (k % 64)
 
 -- entry i of vectors of bits

@@ -5,7 +5,7 @@ ghost use Rattle.std.specs.Int.{w64, to_le_bytes};
 ghost use Rattle.std.specs.List.{range_with_len};
 ghost use Rattle.aes_block.specs.Aes.{aes256, inv_aes256};
 ghost use Rattle.aes_block.specs.Blocks.{block_at};
-ghost use Rattle.aes_lanes.specs.Blocks.{block_in, four_bytes, word_bits};
+ghost use Rattle.aes_lanes.specs.Blocks.{block_in, word_bytes, word_bits};
 ghost use Rattle.aes_lanes.specs.States.{IsState, state_in};
 ghost use Rattle.aes_lanes.specs.Transposed.{bits, state_vectors};
 
@@ -167,7 +167,7 @@ fn half(x: u64, s: u64) -> u64
 #[inline(always)]
 fn joined(a: u64, b: u64, s: u64) -> u64
     requires { s < 64 }
-    ensures { to_le_bytes w64 result ≡ four_bytes a s ++ four_bytes b s }
+    ensures { to_le_bytes w64 result ≡ word_bytes a s ++ word_bytes b s }
 {
     half(a, s) + half(b, s) * 0x1_0000_0000
 }

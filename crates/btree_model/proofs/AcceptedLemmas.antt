@@ -14,7 +14,7 @@ use Rattle.db_format.specs.Bytes.{u32_at}
 use Rattle.db_format.specs.Pages.{Pages, Test, nothing, also}
 use Rattle.db_format.specs.Value.{Datum}
 use Rattle.db_format.specs.Record.{columns}
-use Rattle.btree_page.specs.Cell.{Stored}
+use Rattle.btree_page.specs.Cell.{StoredCell}
 use Rattle.btree_page.specs.Page.{Node, read_node}
 use Rattle.btree_page.specs.Step.{Step, child, divider, entry as cell, steps}
 use Rattle.btree_page.specs.declared.page.PageFault.{PageFault}
@@ -101,7 +101,7 @@ module _ (free : Bool) (pages : Pages) (taken : Test) where
       (link_accepted n (is_met taken met n) (pages.accepts n) _ refl (chain_accepted (met ++ place n ∷ []) more n (u32_at (pages.page n) 0)))
       (λ sound. refl))
 
-  chain_of_accepted : (met : List Finding) (n : ℕ) (stored : Stored) → Accepted free pages.accepts (chain_of pages taken met n stored)
+  chain_of_accepted : (met : List Finding) (n : ℕ) (stored : StoredCell) → Accepted free pages.accepts (chain_of pages taken met n stored)
   chain_of_accepted met n stored =
       if_accepted free pages.accepts (links_needed pages.usable stored == 0) _ _ (λ sound. refl)
       (if_accepted free pages.accepts (stored.first == 0) _ _ (λ sound. refl) (chain_accepted met (links_needed pages.usable stored) n stored.first))

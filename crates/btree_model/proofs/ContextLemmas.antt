@@ -10,7 +10,7 @@ use Rattle.std.proofs.lemmas.List.Folds.{list_any-append}
 use Rattle.btree_page.specs.declared.kind.Family.{Family}
 use Rattle.db_format.specs.declared.defect.Defect.TheVariants.{RowidOrder}
 use Rattle.db_format.specs.Bytes.{u32_at}
-use Rattle.btree_page.specs.Cell.{Stored}
+use Rattle.btree_page.specs.Cell.{StoredCell}
 use Rattle.btree_page.specs.Page.{Node, read_node}
 use Rattle.btree_page.specs.declared.page.PageFault.{PageFault}
 use Rattle.db_format.specs.Pages.{Pages, Test}
@@ -113,7 +113,7 @@ module _ (pages : Pages) (taken : Test) (pre : List Finding) where
       (link_stays in_pre n (in_pre n) (is_met taken met n) (pages.accepts n) _ _ refl (chain_shifts (met ++ place n ∷ []) more n (u32_at (pages.page n) 0))))
       (stays_same in_pre _))
 
-  chain_of_shifts : (met : List Finding) (n : ℕ) (stored : Stored) → Stays in_pre (chain_of pages taken met n stored) (chain_of pages taken (pre ++ met) n stored)
+  chain_of_shifts : (met : List Finding) (n : ℕ) (stored : StoredCell) → Stays in_pre (chain_of pages taken met n stored) (chain_of pages taken (pre ++ met) n stored)
   chain_of_shifts met n stored =
       if_stays in_pre (links_needed pages.usable stored == 0) _ _ _ _ (stays_same in_pre _)
       (if_stays in_pre (stored.first == 0) _ _ _ _ (stays_same in_pre _) (chain_shifts met (links_needed pages.usable stored) n stored.first))
@@ -123,7 +123,7 @@ module _ (pages : Pages) (taken : Test) (pre : List Finding) where
   rowid_fits row true is h = and_left _ _ h
   rowid_fits row false is h = cc
 
-  given_shifts : (met : List Finding) (n : ℕ) (rowid : Option ℤ) (stored : Stored) → Shifts (given pages taken met n rowid stored) (given pages taken (pre ++ met) n rowid stored)
+  given_shifts : (met : List Finding) (n : ℕ) (rowid : Option ℤ) (stored : StoredCell) → Shifts (given pages taken met n rowid stored) (given pages taken (pre ++ met) n rowid stored)
   given_shifts met n rowid stored sound unmarked fit =
       let first : List Finding = order_faults met n rowid in
       let found : List Finding = chain_of pages taken met n stored in

@@ -5,7 +5,7 @@ use Rattle.btree_page.specs.declared.kind.Family.{Family}
 use Rattle.db_format.specs.declared.defect.Defect.{Defect}
 use Rattle.db_format.specs.declared.defect.Defect.TheVariants.{ChildOutOfRange}
 use Rattle.db_format.specs.Bytes.{u32_at}
-use Rattle.btree_page.specs.Cell.{Stored}
+use Rattle.btree_page.specs.Cell.{StoredCell}
 use Rattle.btree_page.specs.Page.{Node, read_node}
 use Rattle.btree_page.specs.declared.page.PageFault.{PageFault}
 use Rattle.db_format.specs.Pages.{Pages, Test}
@@ -94,10 +94,10 @@ module _ (old new : Pages) (usable : new.usable ≡ old.usable)
       (link_bytes more n (is_met taken met n) (old.accepts n) _ (λ page. chain_bytes_kept taken (met ++ place n ∷ []) more n (u32_at (old.page n) 0)))
       (λ sound same. cc))
 
-  links_same : (stored : Stored) → links_needed new.usable stored ≡ links_needed old.usable stored
+  links_same : (stored : StoredCell) → links_needed new.usable stored ≡ links_needed old.usable stored
   links_same stored = ap (λ u. links_needed u stored) usable
 
-  chain_of_kept : (taken : Test) (met : List Finding) (n : ℕ) (stored : Stored) → Kept (chain_of old taken met n stored) (chain_of new taken met n stored)
+  chain_of_kept : (taken : Test) (met : List Finding) (n : ℕ) (stored : StoredCell) → Kept (chain_of old taken met n stored) (chain_of new taken met n stored)
   chain_of_kept taken met n stored =
       subst
       (λ k. Kept (chain_of old taken met n stored)
@@ -112,14 +112,14 @@ module _ (old new : Pages) (usable : new.usable ≡ old.usable)
   no_links (suc links) first n one p =
       let some : (suc links == 0) ≡ false = eqb-suc-zero links in rw some (if_bytes (suc links) first (first == 0) _ _ (λ sound same. cc) p)
 
-  payload_kept : (taken : Test) (met : List Finding) (n : ℕ) (stored : Stored) → is_sound (chain_of old taken met n stored) ≡ true
+  payload_kept : (taken : Test) (met : List Finding) (n : ℕ) (stored : StoredCell) → is_sound (chain_of old taken met n stored) ≡ true
       → AreSame old new (places (chain_of old taken met n stored)) → payload_of new stored ≡ payload_of old stored
   payload_kept taken met n stored sound same =
       ap (λ k. take stored.size (stored.local ++ chain_bytes new k stored.first)) (links_same stored)
       ∙ ap (λ l. take stored.size (stored.local ++ l))
       (no_links (links_needed old.usable stored) stored.first n _ (chain_bytes_kept taken met (links_needed old.usable stored) n stored.first) sound same)
 
-  given_kept : (taken : Test) (met : List Finding) (n : ℕ) (rowid : Option ℤ) (stored : Stored)
+  given_kept : (taken : Test) (met : List Finding) (n : ℕ) (rowid : Option ℤ) (stored : StoredCell)
       → Kept (given old taken met n rowid stored) (given new taken met n rowid stored)
   given_kept taken met n rowid stored sound same =
       let first : List Finding = order_faults met n rowid in

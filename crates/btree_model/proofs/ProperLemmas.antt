@@ -7,7 +7,7 @@ use Rattle.std.proofs.lemmas.List.{append_assoc, append-nil}
 use Rattle.btree_page.specs.declared.kind.Family.{Family}
 use Rattle.db_format.specs.declared.defect.Defect.TheVariants.{RowidOrder}
 use Rattle.db_format.specs.Bytes.{u32_at}
-use Rattle.btree_page.specs.Cell.{Stored}
+use Rattle.btree_page.specs.Cell.{StoredCell}
 use Rattle.btree_page.specs.Page.{Node, read_node}
 use Rattle.btree_page.specs.declared.page.PageFault.{PageFault}
 use Rattle.db_format.specs.Pages.{Pages, Test}
@@ -111,7 +111,7 @@ module _ (pages : Pages) (taken : Test) where
       (if_no_keys (is_in_range pages n) _ _
       (link_no_keys n (is_met taken met n) (pages.accepts n) _ (chain_no_keys (met ++ place n ∷ []) more n (u32_at (pages.page n) 0))) refl)
 
-  chain_of_no_keys : (met : List Finding) (n : ℕ) (stored : Stored) → keys (chain_of pages taken met n stored) ≡ []
+  chain_of_no_keys : (met : List Finding) (n : ℕ) (stored : StoredCell) → keys (chain_of pages taken met n stored) ≡ []
   chain_of_no_keys met n stored =
       if_no_keys (links_needed pages.usable stored == 0) _ _ refl
       (if_no_keys (stored.first == 0) _ _ refl (chain_no_keys met (links_needed pages.usable stored) n stored.first))
@@ -130,7 +130,7 @@ module _ (pages : Pages) (taken : Test) where
       (link_proper met n (is_met taken met n) (pages.accepts n) _ refl (chain_proper (met ++ place n ∷ []) more n (u32_at (pages.page n) 0)))
       (λ sound. refl))
 
-  chain_of_proper : (met : List Finding) (n : ℕ) (stored : Stored) → Proper taken met (chain_of pages taken met n stored)
+  chain_of_proper : (met : List Finding) (n : ℕ) (stored : StoredCell) → Proper taken met (chain_of pages taken met n stored)
   chain_of_proper met n stored =
       if_proper taken met (links_needed pages.usable stored == 0) _ _ (λ sound. refl)
       (if_proper taken met (stored.first == 0) _ _ (λ sound. refl) (chain_proper met (links_needed pages.usable stored) n stored.first))
@@ -142,7 +142,7 @@ module _ (pages : Pages) (taken : Test) where
       let same : keys (met ++ found) ≡ keys met = keys-append met found ∙ ap (λ l. keys met ++ l) none ∙ append-nil (keys met) in
       ap (λ ks. is_above ks row.rowid && true) same ∙ ap (λ b. b && true) above
 
-  given_proper : (met : List Finding) (n : ℕ) (rowid : Option ℤ) (stored : Stored) → Proper taken met (given pages taken met n rowid stored)
+  given_proper : (met : List Finding) (n : ℕ) (rowid : Option ℤ) (stored : StoredCell) → Proper taken met (given pages taken met n rowid stored)
   given_proper met n rowid stored sound =
       let found : List Finding = chain_of pages taken met n stored in
       let row : Row = record { rowid = rowid; payload = payload_of pages stored; page = n } in

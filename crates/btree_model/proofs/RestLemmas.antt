@@ -13,7 +13,7 @@ use Rattle.btree_model.specs.Finding.{Finding, place, places, entries, faults, r
 use Rattle.btree_page.specs.Step.{Step, child, steps}
 use Rattle.btree_model.specs.Walk.{is_met, step, steps_of, walk}
 use Rattle.btree_model.specs.Tree.{tree, tree_walk}
-use Rattle.btree_model.specs.Rest.{Frame, rest, AreUnmarked, Stands}
+use Rattle.btree_model.specs.Rest.{Frame, rest, AreUnmarked, RestStands}
 use Rattle.btree_model.proofs.FindingLemmas.{places-append, faults-append, refusals-append, sound_both}
 
 or_left : (a b : Bool) → (a || b) ≡ false → a ≡ false
@@ -63,10 +63,10 @@ module _ (pages : Pages) (family : Family) (taken : Test) where
 
 module _ (pages : Pages) (family : Family) (root : ℕ) where
   -- the walk comes on by these findings, at each test of earlier parts that holds for none of the places
-  pub Stands-on : (met found : List Finding) (path after : List Frame) → Stands pages family root met path → is_sound found ≡ true
+  pub Stands-on : (met found : List Finding) (path after : List Frame) → RestStands pages family root met path → is_sound found ≡ true
       → ((taken : Test) → AreUnmarked taken (places met) → AreUnmarked taken (places found)
       → rest pages family taken met path ≡ found ++ rest pages family taken (met ++ found) after)
-      → Stands pages family root (met ++ found) after
+      → RestStands pages family root (met ++ found) after
   Stands-on met found path after stands good comes =
       record {
         sound = sound_both met found stands.sound good;
@@ -79,32 +79,32 @@ module _ (pages : Pages) (family : Family) (root : ℕ) where
       }
 
   -- nothing is left: the tree is the list of what was given
-  pub Stands-end : (met : List Finding) → Stands pages family root met [] → tree pages family root ≡ Some (entries met)
+  pub Stands-end : (met : List Finding) → RestStands pages family root met [] → tree pages family root ≡ Some (entries met)
   Stands-end met stands =
       let all : tree_walk pages family nothing root ≡ met = stands.whole nothing (none_marked (places met)) ∙ append-nil met in
       ap (λ found. if is_sound found then Some (entries found) else None) all ∙ ap (λ b. if b then Some (entries met) else None) stands.sound
 
   -- and the walk has met each place of the tree
-  pub Stands-places : (met : List Finding) (taken : Test) → Stands pages family root met [] → AreUnmarked taken (places met)
+  pub Stands-places : (met : List Finding) (taken : Test) → RestStands pages family root met [] → AreUnmarked taken (places met)
       → tree_walk pages family taken root ≡ met
   Stands-places met taken stands unmarked = stands.whole taken unmarked ∙ append-nil met
 
   -- a defect that is still met is one of the tree
-  pub Stands-fault : (met : List Finding) (path : List Frame) (taken : Test) (d : Defect) → Stands pages family root met path
+  pub Stands-fault : (met : List Finding) (path : List Frame) (taken : Test) (d : Defect) → RestStands pages family root met path
       → AreUnmarked taken (places met) → Contains (faults (rest pages family taken met path)) d → Contains (faults (tree_walk pages family taken root)) d
   Stands-fault met path taken d stands unmarked among =
       subst (λ l. Contains l d) (sym (ap faults (stands.whole taken unmarked) ∙ faults-append met (rest pages family taken met path)))
       (Contains-append_right (faults met) _ d among)
 
   -- a page that is still refused is one that the tree has refused
-  pub Stands-refused : (met : List Finding) (path : List Frame) (taken : Test) (n : ℕ) → Stands pages family root met path
+  pub Stands-refused : (met : List Finding) (path : List Frame) (taken : Test) (n : ℕ) → RestStands pages family root met path
       → AreUnmarked taken (places met) → Contains (refusals (rest pages family taken met path)) n → Contains (refusals (tree_walk pages family taken root)) n
   Stands-refused met path taken n stands unmarked among =
       subst (λ l. Contains l n) (sym (ap refusals (stands.whole taken unmarked) ∙ refusals-append met (rest pages family taken met path)))
       (Contains-append_right (refusals met) _ n among)
 
   -- a place that is still met is a sound place of the tree
-  pub Stands-place : (met : List Finding) (path : List Frame) (taken : Test) (n : ℕ) → Stands pages family root met path
+  pub Stands-place : (met : List Finding) (path : List Frame) (taken : Test) (n : ℕ) → RestStands pages family root met path
       → AreUnmarked taken (places met) → Contains (places (rest pages family taken met path)) n → Contains (places (tree_walk pages family taken root)) n
   Stands-place met path taken n stands unmarked among =
       subst (λ l. Contains l n) (sym (ap places (stands.whole taken unmarked) ∙ places-append met (rest pages family taken met path)))

@@ -6,7 +6,7 @@ use Rattle.std.specs.List.{list_any}
 use Rattle.std.proofs.lemmas.List.Folds.{list_any-append}
 use Rattle.btree_page.specs.declared.kind.Family.{Family}
 use Rattle.db_format.specs.Bytes.{u32_at}
-use Rattle.btree_page.specs.Cell.{Stored}
+use Rattle.btree_page.specs.Cell.{StoredCell}
 use Rattle.btree_page.specs.Page.{Node, read_node}
 use Rattle.btree_page.specs.declared.page.PageFault.{PageFault}
 use Rattle.db_format.specs.Pages.{Pages, Test, nothing}
@@ -99,7 +99,7 @@ module _ (pages : Pages) (extra taken : Test) where
       (link_stays extra n (extra n) (is_met taken met n) (pages.accepts n) _ _ refl (chain_stays (met ++ place n ∷ []) more n (u32_at (pages.page n) 0))))
       (stays_same extra _))
 
-  chain_of_stays : (met : List Finding) (n : ℕ) (stored : Stored) → Stays extra (chain_of pages taken met n stored) (chain_of pages (both extra taken) met n stored)
+  chain_of_stays : (met : List Finding) (n : ℕ) (stored : StoredCell) → Stays extra (chain_of pages taken met n stored) (chain_of pages (both extra taken) met n stored)
   chain_of_stays met n stored =
       if_stays extra (links_needed pages.usable stored == 0) _ _ _ _ (stays_same extra _)
       (if_stays extra (stored.first == 0) _ _ _ _ (stays_same extra _) (chain_stays met (links_needed pages.usable stored) n stored.first))

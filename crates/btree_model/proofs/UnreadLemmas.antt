@@ -5,7 +5,7 @@ use Rattle.std.proofs.Math.Dec.{eqb-suc-zero}
 use Rattle.btree_page.specs.declared.kind.Family.{Family}
 use Rattle.db_format.specs.declared.defect.Defect.TheVariants.{ChildOutOfRange, ChainShort}
 use Rattle.db_format.specs.Bytes.{u32_at}
-use Rattle.btree_page.specs.Cell.{Stored}
+use Rattle.btree_page.specs.Cell.{StoredCell}
 use Rattle.btree_page.specs.Page.{Node, read_node}
 use Rattle.btree_page.specs.declared.page.PageFault.{PageFault}
 use Rattle.db_format.specs.Pages.{Pages, Test}
@@ -78,10 +78,10 @@ module _ (taken : Test) (old new : Pages) (all : AreAlikeBut taken old new) wher
       (chain_bytes_same (met ++ place n ∷ []) more n (u32_at (old.page n) 0)))
       (λ sound. cc))
 
-  links_same : (stored : Stored) → links_needed new.usable stored ≡ links_needed old.usable stored
+  links_same : (stored : StoredCell) → links_needed new.usable stored ≡ links_needed old.usable stored
   links_same stored = ap (λ u. links_needed u stored) all.usable
 
-  chain_of_same : (met : List Finding) (n : ℕ) (stored : Stored) → chain_of new taken met n stored ≡ chain_of old taken met n stored
+  chain_of_same : (met : List Finding) (n : ℕ) (stored : StoredCell) → chain_of new taken met n stored ≡ chain_of old taken met n stored
   chain_of_same met n stored =
       rw (links_same stored)
       (ap (λ l. if links_needed old.usable stored == 0 then [] else (if stored.first == 0 then fault (ChildOutOfRange n) ∷ [] else l))
@@ -93,14 +93,14 @@ module _ (taken : Test) (old new : Pages) (all : AreAlikeBut taken old new) wher
   no_links (suc links) first n one p =
       let some : (suc links == 0) ≡ false = eqb-suc-zero links in rw some (if_bytes (suc links) first (first == 0) _ _ (λ sound. cc) p)
 
-  payload_same : (met : List Finding) (n : ℕ) (stored : Stored) → is_sound (chain_of old taken met n stored) ≡ true
+  payload_same : (met : List Finding) (n : ℕ) (stored : StoredCell) → is_sound (chain_of old taken met n stored) ≡ true
       → payload_of new stored ≡ payload_of old stored
   payload_same met n stored sound =
       ap (λ k. take stored.size (stored.local ++ chain_bytes new k stored.first)) (links_same stored)
       ∙ ap (λ l. take stored.size (stored.local ++ l))
       (no_links (links_needed old.usable stored) stored.first n _ (chain_bytes_same met (links_needed old.usable stored) n stored.first) sound)
 
-  given_same : (met : List Finding) (n : ℕ) (rowid : Option ℤ) (stored : Stored) → given new taken met n rowid stored ≡ given old taken met n rowid stored
+  given_same : (met : List Finding) (n : ℕ) (rowid : Option ℤ) (stored : StoredCell) → given new taken met n rowid stored ≡ given old taken met n rowid stored
   given_same met n rowid stored =
       let found = chain_of old taken met n stored in
       rw (chain_of_same met n stored)

@@ -27,6 +27,6 @@ AreUnmarked taken ns = list_any taken ns ≡ false
 
 -- the walk of the tree from this root met all this, no defect among it, and has this path: so for every test of
 -- earlier parts that holds for none of the pages that it met
-pub record Stands (pages : Pages) (family : Family) (root : ℕ) (met : List Finding) (path : List Frame) : Type 0 where
+pub record RestStands (pages : Pages) (family : Family) (root : ℕ) (met : List Finding) (path : List Frame) : Type 0 where
   pub sound : is_sound met ≡ true
   pub whole : (taken : Test) → AreUnmarked taken (places met) → tree_walk pages family taken root ≡ met ++ rest pages family taken met path

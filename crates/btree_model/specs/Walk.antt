@@ -13,7 +13,7 @@ use Rattle.db_format.specs.Pages.{Pages, Test, also}
 use Rattle.btree_page.specs.declared.kind.Family.{Family}
 use Rattle.btree_page.specs.declared.page.PageFault.{PageFault}
 use Rattle.btree_page.specs.declared.page.PageFault.TheVariants.{BadKind as NoKind, BadCell as NoCell}
-use Rattle.btree_page.specs.Cell.{Stored}
+use Rattle.btree_page.specs.Cell.{StoredCell}
 use Rattle.btree_page.specs.Page.{Node, read_node}
 use Rattle.btree_page.specs.Step.{Step, child, divider, entry as cell, steps}
 use Rattle.btree_model.specs.Range.{is_in_range}
@@ -24,7 +24,7 @@ abbrev pub is_met : Test → List Finding → ℕ → Bool
 is_met taken met n = also (places met) taken n
 
 -- how many overflow pages a payload needs
-abbrev pub links_needed : ℕ → Stored → ℕ
+abbrev pub links_needed : ℕ → StoredCell → ℕ
 links_needed usable stored = (stored.size - length stored.local + (usable - 5)) / (usable - 4)
 
 -- the bytes of `more` overflow pages from page n on
@@ -33,7 +33,7 @@ chain_bytes pages zero n = []
 chain_bytes pages (suc more) n = drop 4 (pages.page n) ++ chain_bytes pages more (u32_at (pages.page n) 0)
 
 -- the payload: its local bytes and those of its chain, cut to its length
-abbrev pub payload_of : Pages → Stored → List ℕ
+abbrev pub payload_of : Pages → StoredCell → List ℕ
 payload_of pages stored = take stored.size (stored.local ++ chain_bytes pages (links_needed pages.usable stored) stored.first)
 
 -- page n of a chain: has it an earlier place, is it accepted, and what follows
@@ -52,7 +52,7 @@ chain pages taken met (suc more) holder n =
     else fault (ChildOutOfRange holder) ∷ [])
 
 -- the chain of a payload whose cell is on page n
-abbrev pub chain_of : Pages → Test → List Finding → ℕ → Stored → List Finding
+abbrev pub chain_of : Pages → Test → List Finding → ℕ → StoredCell → List Finding
 chain_of pages taken met n stored =
     if links_needed pages.usable stored == 0 then []
     else (if stored.first == 0 then fault (ChildOutOfRange n) ∷ []
@@ -70,7 +70,7 @@ late_faults k (row ∷ rows) =
     (if option_map_or (λ rowid. int_lt k rowid) row.rowid false then fault (RowidOrder row.page) ∷ [] else []) ++ late_faults k rows
 
 -- an entry of page n: its rowid's defect, its chain, and the entry where its chain is whole
-abbrev pub given : Pages → Test → List Finding → ℕ → Option ℤ → Stored → List Finding
+abbrev pub given : Pages → Test → List Finding → ℕ → Option ℤ → StoredCell → List Finding
 given pages taken met n rowid stored =
     let found = chain_of pages taken met n stored in
     order_faults met n rowid ++ (found

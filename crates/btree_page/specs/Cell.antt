@@ -19,16 +19,16 @@ use Rattle.btree_page.specs.declared.kind.Kind.TheVariants.{IndexInterior, Table
 use Rattle.btree_page.specs.Payload.{local_len, max_payload}
 
 -- a payload as its cell has it: its length, the bytes in the cell, and the overflow page in which it goes on, or 0
-pub record Stored : Type 0 where
+pub record StoredCell : Type 0 where
   pub size : ℕ
   pub local : List ℕ
   pub first : ℕ
 
 pub data Cell : Type 0 where
-  table_leaf : ℤ → Stored → Cell
+  table_leaf : ℤ → StoredCell → Cell
   table_interior : ℕ → ℤ → Cell
-  index_leaf : Stored → Cell
-  index_interior : ℕ → Stored → Cell
+  index_leaf : StoredCell → Cell
+  index_interior : ℕ → StoredCell → Cell
 
 -- the length of the whole payload, 0 where there is none
 abbrev pub payload_len : Cell → ℕ
@@ -38,7 +38,7 @@ payload_len (index_leaf stored) = stored.size
 payload_len (index_interior left stored) = stored.size
 
 -- the payload of this length whose local bytes begin here; none where they, or the overflow page's number, pass the end
-abbrev pub stored_of : Family → ℕ → ℕ → List ℕ → Option Stored
+abbrev pub stored_of : Family → ℕ → ℕ → List ℕ → Option StoredCell
 stored_of family usable size bytes =
     let local = local_len family usable size in
     if nat_le size local

@@ -5,11 +5,11 @@ use Rattle.btree_page.specs.declared.cell.Cell.TheVariants.{TableLeaf, TableInte
 use Rattle.btree_page.specs.declared.payload.Payload.{Payload}
 use Rattle.btree_page.specs.declared.step.Step.{Step as CodeStep}
 use Rattle.btree_page.specs.declared.step.Step.TheVariants.{Child, Key, Entry, End}
-use Rattle.btree_page.specs.Cell.{Cell, Stored, table_leaf, table_interior, index_leaf, index_interior}
+use Rattle.btree_page.specs.Cell.{Cell, StoredCell, table_leaf, table_interior, index_leaf, index_interior}
 use Rattle.btree_page.specs.Step.{Step, child, divider, entry}
 
 -- a payload in code
-abbrev pub payload_shown : Payload → Stored
+abbrev pub payload_shown : Payload → StoredCell
 payload_shown payload = record { size = payload.length; local = payload.local.now; first = payload.first }
 
 -- a cell in code

@@ -1,6 +1,6 @@
 -- What a page of a tree leads to, in the order of a walk (Database File Format, section 1.6).
 use Rattle.std.specs.Prelude.{ℕ, ℤ, ◌/◌, ◌%◌, ◌==◌, ◌&&◌, Bool, List, [], ◌∷◌, Option, Some, None, if◌then◌else◌}
-use Rattle.btree_page.specs.Cell.{Cell, Stored, table_leaf, table_interior, index_leaf, index_interior}
+use Rattle.btree_page.specs.Cell.{Cell, StoredCell, table_leaf, table_interior, index_leaf, index_interior}
 
 pub data Step : Type 0 where
   -- the pages below this one
@@ -8,7 +8,7 @@ pub data Step : Type 0 where
   -- the key between two children of a table's page
   divider : ℤ → Step
   -- an entry of the tree, with its rowid in a table
-  entry : Option ℤ → Stored → Step
+  entry : Option ℤ → StoredCell → Step
 
 -- A leaf gives its cells. An interior page of a table gives its children, left to right, with the keys between them; one of
 -- an index gives child, cell, child and so on. The right child comes last.

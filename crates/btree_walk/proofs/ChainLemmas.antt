@@ -17,7 +17,7 @@ use Rattle.btree_model.specs.Walk.{is_met, chain, chain_of, links_needed, link, 
 use Rattle.btree_model.proofs.FindingLemmas.{faults-append, refusals-append, places-append, entries-append, sound_both, also-append}
 use Rattle.btree_model.proofs.ProperLemmas.{keys-append}
 use Rattle.btree_model.proofs.UnmarkedLemmas.{or_left, or_right, unmarked_left, unmarked_right}
-use Rattle.btree_page.specs.Cell.{Stored}
+use Rattle.btree_page.specs.Cell.{StoredCell}
 use Rattle.btree_walk.specs.declared.error.WalkError.{WalkError}
 use Rattle.btree_walk.specs.Causes.{IsMarked}
 use Rattle.btree_walk.specs.Chain.{IsLinked, IsRead, IsCut, IsPaid}
@@ -208,7 +208,7 @@ some_needed missing usable least some none =
     omega arith
 
 -- a payload, of which this many pages are missing
-module _ (pages : Pages) (taken : Test) (met : List Finding) (n : ℕ) (stored : Stored) (needed : ℕ) (links : links_needed pages.usable stored ≡ needed) where
+module _ (pages : Pages) (taken : Test) (met : List Finding) (n : ℕ) (stored : StoredCell) (needed : ℕ) (links : links_needed pages.usable stored ≡ needed) where
   pub paid_local : (seen : Test) → needed ≡ 0 → IsPaid pages taken met n stored (take stored.size stored.local) seen seen
   paid_local seen none =
       let named : (links_needed pages.usable stored == 0) ≡ true = eq-eqb _ 0 (links ∙ none) in

@@ -7,7 +7,7 @@ use Rattle.db_format.specs.Seen.{open_count}
 use Rattle.db_format.specs.Source.{no_pins}
 use Rattle.btree_page.specs.declared.kind.Family.{Family}
 use Rattle.btree_model.specs.Finding.{Row, Finding, places, entries, is_sound}
-use Rattle.btree_model.specs.Rest.{rest, Stands}
+use Rattle.btree_model.specs.Rest.{rest, RestStands}
 use Rattle.btree_model.specs.Tree.{root_family, tree, tree_walk}
 use Rattle.btree_model.proofs.FindingLemmas.{entries-append}
 use Rattle.btree_model.proofs.RestLemmas.{Stands-end, Stands-places}
@@ -16,7 +16,7 @@ use Rattle.btree_walk.specs.declared.cursor.Stage.TheVariants.{Inside}
 use Rattle.btree_walk.specs.declared.error.WalkError.{WalkError}
 use Rattle.btree_walk.specs.declared.path.Frame.{Frame}
 use Rattle.btree_walk.specs.Causes.{IsAmong}
-use Rattle.btree_walk.specs.Cursor.{IsAdvanced, IsAt, IsAtStage, IsBegun, IsEnd, IsMade, IsNext, IsReady, IsSameTree, IsSameWalk, IsWalking, family_or, given_then, row_of, walked, walked_family}
+use Rattle.btree_walk.specs.Cursor.{IsAdvanced, IsCursorAt, IsAtStage, IsCursorBegun, IsEnd, IsCursorMade, IsNext, IsCursorReady, IsSameTree, IsSameWalk, IsWalking, family_or, given_then, row_of, walked, walked_family}
 use Rattle.std.proofs.lemmas.List.Elements.{All-nil}
 use Rattle.std.proofs.lemmas.List.Sums.{sum_by-le}
 use Rattle.btree_walk.specs.Pins.{path_pins}
@@ -24,10 +24,10 @@ use Rattle.btree_walk.specs.Turn.{path_of, work}
 
 -- ---- a cursor that was made
 
-module _ (root : ℕ) (asked : Option Family) (cursor : Cursor) (made : IsMade root asked cursor) where
+module _ (root : ℕ) (asked : Option Family) (cursor : Cursor) (made : IsCursorMade root asked cursor) where
   -- it is ready for a source without pins that has its root
   pub ready_made : (count : ℕ) (pins : ℕ → ℕ) (seen : List Bool) → 1 ≤ root → root ≤ count → length seen ≡ count + 1 → pins ≡ no_pins
-      → IsReady count pins seen cursor
+      → IsCursorReady count pins seen cursor
   ready_made count pins seen low high marks unpinned =
       record {
         low = rw made.root_is low;
@@ -41,14 +41,14 @@ module _ (root : ℕ) (asked : Option Family) (cursor : Cursor) (made : IsMade r
       }
 
   -- and before the first entry, whichever pages are marked
-  pub at_made : (pages : Pages) (taken : Test) → IsAt pages taken [] cursor taken
+  pub at_made : (pages : Pages) (taken : Test) → IsCursorAt pages taken [] cursor taken
   at_made pages taken =
       subst (λ s. IsAtStage s pages taken [] cursor taken) (sym made.stage)
       (record { path = made.path; floor = made.floor; last = made.last; gave = refl; marks = refl })
 
 -- ---- the walk goes on
 
-module _ (pages : Pages) (taken : Test) (given : List Row) (cursor : Cursor) (seen : Test) (begun : IsBegun pages taken given cursor seen) where
+module _ (pages : Pages) (taken : Test) (given : List Row) (cursor : Cursor) (seen : Test) (begun : IsCursorBegun pages taken given cursor seen) where
   pub of_family : walked pages taken cursor ≡ tree_walk pages cursor.family taken cursor.root
   of_family = ap (λ f. tree_walk pages f taken cursor.root) (sym begun.family)
 
@@ -61,14 +61,14 @@ module _ (pages : Pages) (taken : Test) (given : List Row) (cursor : Cursor) (se
             ∙ ap (λ l. l ++ entries left) begun.walking.gave,
       )
 
-  pub at_inside : cursor.stage ≡ Inside → IsAt pages taken given cursor seen
+  pub at_inside : cursor.stage ≡ Inside → IsCursorAt pages taken given cursor seen
   at_inside inside = subst (λ s. IsAtStage s pages taken given cursor seen) (sym inside) begun
 
   -- nothing is left
   pub at_end : cursor.stage ≡ Inside → cursor.path ≡ [] → IsEnd pages taken given cursor seen
   at_end inside done =
-      let stands : Stands pages cursor.family cursor.root begun.walking.met [] =
-      subst (λ p. Stands pages cursor.family cursor.root begun.walking.met (path_of pages cursor.family 20 [] p)) done begun.walking.stands
+      let stands : RestStands pages cursor.family cursor.root begun.walking.met [] =
+      subst (λ p. RestStands pages cursor.family cursor.root begun.walking.met (path_of pages cursor.family 20 [] p)) done begun.walking.stands
       in
       let all : walked pages taken cursor ≡ begun.walking.met =
       of_family ∙ Stands-places pages cursor.family cursor.root begun.walking.met taken stands begun.walking.unmarked
@@ -85,7 +85,7 @@ module _ (pages : Pages) (taken : Test) (given : List Row) (cursor : Cursor) (se
 
 -- the next entry was given
 pub at_next : (pages : Pages) (taken : Test) (given : List Row) (cursor : Cursor) (seen : Test) (row : Row)
-    → IsBegun pages taken (given ++ row ∷ []) cursor seen → cursor.stage ≡ Inside → IsNext pages taken given cursor seen row
+    → IsCursorBegun pages taken (given ++ row ∷ []) cursor seen → cursor.stage ≡ Inside → IsNext pages taken given cursor seen row
 at_next pages taken given cursor seen row begun inside =
     let first : (more : List Row) × (entries (walked pages taken cursor) ≡ (given ++ row ∷ []) ++ more) = given_first pages taken (given ++ row ∷ []) cursor seen begun in
     record {
@@ -101,14 +101,14 @@ walked_same pages taken old new same =
 
 -- what a walk came to is what its cursor came to
 module _ {R : Type 0} (refuses : Pages → ℕ → R → Type 0) (pages : Pages) (taken : Test) (given : List Row) (old new : Cursor) (seen later : Test)
-    (same : IsSameWalk old new) (inside : old.stage ≡ Inside) (begun : IsBegun pages taken given old seen) where
+    (same : IsSameWalk old new) (inside : old.stage ≡ Inside) (begun : IsCursorBegun pages taken given old seen) where
   still_inside : new.stage ≡ Inside
   still_inside = same.stage ∙ inside
 
   same_tree : walked_family pages new ≡ walked_family pages old
   same_tree = ap (λ r. family_or new.asked (root_family r (pages.page r))) same.root ∙ ap (λ a. family_or a (root_family old.root (pages.page old.root))) same.asked
 
-  still_begun : (rows : List Row) → IsWalking pages taken rows new later → IsBegun pages taken rows new later
+  still_begun : (rows : List Row) → IsWalking pages taken rows new later → IsCursorBegun pages taken rows new later
   still_begun rows walking = record { family = same.family ∙ begun.family ∙ sym same_tree; walking = walking }
 
   same_walk : tree_walk pages old.family taken old.root ≡ walked pages taken new

@@ -9,7 +9,7 @@ use Rattle.std.proofs.lemmas.List.{take-append-drop, append_assoc, append-nil, l
 use Rattle.std.proofs.Math.Seq.{drop-cons, drop-length, set-append_seam, take-append_seam, get_or-append_seam}
 use Rattle.std.proofs.lemmas.List.Folds.{list_any-append}
 use Rattle.std.proofs.lemmas.List.Elements.{Contains-append_left, Contains-append_right, All-append, All-cons, All-nil, All-take}
-use Rattle.btree_page.specs.Cell.{Stored}
+use Rattle.btree_page.specs.Cell.{StoredCell}
 use Rattle.btree_page.specs.declared.page.PageFault.{PageFault}
 use Rattle.btree_page.specs.Page.{Node, read_node}
 use Rattle.db_format.specs.Pages.{Pages, Test, is_page, also}
@@ -18,7 +18,7 @@ use Rattle.btree_model.specs.Finding.{Row, Finding, place, entry, key, places, e
 use Rattle.btree_page.specs.Step.{Step, child, divider, entry as cell, steps}
 use Rattle.btree_model.specs.Walk.{step, walk, payload_of, is_met, visit, chain_of}
 use Rattle.btree_model.specs.Tree.{tree_walk}
-use Rattle.btree_model.specs.Rest.{Frame as Place, rest, AreUnmarked, Stands}
+use Rattle.btree_model.specs.Rest.{Frame as Place, rest, AreUnmarked, RestStands}
 use Rattle.btree_model.proofs.FindingLemmas.{entries-append, places-append, also-append, faults-append, refusals-append, sound_both}
 use Rattle.btree_model.proofs.ProperLemmas.{keys-append}
 use Rattle.btree_model.proofs.RestLemmas.{rest-step, rest-down, Stands-on, Stands-fault, Stands-place, Stands-refused, Stands-start}
@@ -29,7 +29,7 @@ use Rattle.btree_walk.specs.declared.error.WalkError.TheVariants.{Defect as Foun
 use Rattle.btree_walk.specs.Chain.{IsCut, IsPaid}
 use Rattle.btree_walk.specs.Order.{IsOrdered, late_of, low_of, raised_of, last_after, page_after}
 use Rattle.btree_walk.specs.declared.path.Frame.{Frame}
-use Rattle.btree_walk.specs.Turn.{IsOpen, steps_of_reading, todo_of, path_of, IsInside, IsNode, IsEntered, IsEnterStop, IsUnread, IsOpened, defect_of, visit_defect, reading_defect}
+use Rattle.btree_walk.specs.Turn.{IsOpen, steps_of_reading, todo_of, path_of, IsInside, IsNode, IsEntered, IsEnterStop, IsUnread, IsNodeOpened, defect_of, visit_defect, reading_defect}
 use Rattle.btree_walk.proofs.CauseLemmas.{named_is_page}
 use Rattle.btree_walk.proofs.OrderSteps.{ordered_none, ordered_plain, ordered_key, ordered_entry, order_none, order_some}
 
@@ -123,7 +123,7 @@ step_refused pages family taken left holder c met range fresh refused = rw range
 
 -- the walk with the last page done
 popped : (pages : Pages) (family : Family) (root : ℕ) (met : List Finding) (n left : ℕ) (path : List Place)
-    → Stands pages family root met (record { page = n; left = left; todo = [] } ∷ path) → Stands pages family root met path
+    → RestStands pages family root met (record { page = n; left = left; todo = [] } ∷ path) → RestStands pages family root met path
 popped pages family root met n left path s =
     record { sound = s.sound; whole = λ b free. s.whole b free ∙ ap (λ m. met ++ rest pages family b m path) (append-nil met) }
 
@@ -142,9 +142,9 @@ module _ (pages : Pages) (family : Family) (root : ℕ) (taken : Test) (given : 
 
   -- the walk with the steps of its last page
   last_todo : (todo : List Step) → drop top.done (todo_of pages family top.page) ≡ todo
-      → Stands pages family root at.met (record { page = top.page; left = left_of; todo = todo } ∷ path_of pages family 20 [] fs)
+      → RestStands pages family root at.met (record { page = top.page; left = left_of; todo = todo } ∷ path_of pages family 20 [] fs)
   last_todo todo is =
-      subst (λ p. Stands pages family root at.met p)
+      subst (λ p. RestStands pages family root at.met p)
       (path-push pages family 20 [] fs top ∙ ap (λ t. record { page = top.page; left = left_of; todo = t } ∷ path_of pages family 20 [] fs) is)
       at.stands
 
@@ -217,7 +217,7 @@ module _ (pages : Pages) (family : Family) (root : ℕ) (taken : Test) (given : 
       (step_on (divider k) (key k ∷ []) (raised_of floor k) last last_page seen is refl refl
       (λ b free. ap (λ l. key k ∷ l) (at.ordered.timely k timely)) refl (ordered_key floor last last_page at.met k at.ordered) placed)
 
-  pub cell_on : (rowid : Option ℤ) (stored : Stored) (got : List ℕ) (later : Test) → slice_get (todo_of pages family top.page) top.done ≡ Some (cell rowid stored)
+  pub cell_on : (rowid : Option ℤ) (stored : StoredCell) (got : List ℕ) (later : Test) → slice_get (todo_of pages family top.page) top.done ≡ Some (cell rowid stored)
       → low_of floor rowid ≡ false → IsPaid pages taken at.met top.page stored got seen later
       → All (λ (f : Frame). IsOpen pages family at.met f.page) (fs ++ next_top ∷ [])
       → IsInside pages family root taken (given ++ record { rowid = rowid; payload = got; page = top.page } ∷ []) (fs ++ next_top ∷ []) (last_after floor rowid) (last_after last rowid) (page_after last_page rowid top.page) later
@@ -328,7 +328,7 @@ module _ (pages : Pages) (family : Family) (root : ℕ) (taken : Test) (given : 
       let path : List Place = path_of pages family 20 [] fs in
       let first : List Finding = step pages taken (walk pages family taken left_of) at.met top.page s in
       let behind : List Finding = rest pages family taken (at.met ++ first) (record { page = top.page; left = left_of; todo = todo } ∷ path) in
-      let now : Stands pages family root at.met (record { page = top.page; left = left_of; todo = s ∷ todo } ∷ path) = last_todo (s ∷ todo) (drop-some (todo_of pages family top.page) top.done s is) in
+      let now : RestStands pages family root at.met (record { page = top.page; left = left_of; todo = s ∷ todo } ∷ path) = last_todo (s ∷ todo) (drop-some (todo_of pages family top.page) top.done s is) in
       record {
         found = at.met ++ found;
         more = more ++ behind;
@@ -349,13 +349,13 @@ module _ (pages : Pages) (family : Family) (root : ℕ) (taken : Test) (given : 
       → Contains (faults (tree_walk pages family taken root)) (RowidOrder last_page)
   key_late k is late = stop_on (divider k) (RowidOrder last_page) is (at.ordered.late k late)
 
-  pub cell_low : (rowid : Option ℤ) (stored : Stored) → slice_get (todo_of pages family top.page) top.done ≡ Some (cell rowid stored) → low_of floor rowid ≡ true
+  pub cell_low : (rowid : Option ℤ) (stored : StoredCell) → slice_get (todo_of pages family top.page) top.done ≡ Some (cell rowid stored) → low_of floor rowid ≡ true
       → Contains (faults (tree_walk pages family taken root)) (RowidOrder top.page)
   cell_low rowid stored is low =
       stop_on (cell rowid stored) (RowidOrder top.page) is
       (rw (order_some floor last last_page top.page at.met rowid at.ordered low) (0, omega arith, refl))
 
-  pub cell_cut : {R : Type 0} (refuses : Pages → ℕ → R → Type 0) (rowid : Option ℤ) (stored : Stored) (stop : WalkError R) → slice_get (todo_of pages family top.page) top.done ≡ Some (cell rowid stored)
+  pub cell_cut : {R : Type 0} (refuses : Pages → ℕ → R → Type 0) (rowid : Option ℤ) (stored : StoredCell) (stop : WalkError R) → slice_get (todo_of pages family top.page) top.done ≡ Some (cell rowid stored)
       → low_of floor rowid ≡ false → IsCut refuses pages (chain_of pages taken at.met top.page stored) stop → IsAmong refuses pages (tree_walk pages family taken root) stop
   cell_cut refuses rowid stored (Found d) is above cut =
       let only : Contains (faults (chain_of pages taken at.met top.page stored)) d = subst (λ l. Contains l d) (sym cut) (0, omega arith, refl) in
@@ -436,16 +436,16 @@ module _ (pages : Pages) (family : Family) (root : ℕ) (taken : Test) (given : 
   pub turn_late : (k : ℤ) → next_step ≡ Some (divider k) → late_of last k ≡ true → Contains (faults (tree_walk pages family taken root)) (RowidOrder last_page)
   turn_late k is late = key_late pages family root taken given first_frames top floor last last_page seen at_last k is late
 
-  pub turn_low : (rowid : Option ℤ) (stored : Stored) → next_step ≡ Some (cell rowid stored) → low_of floor rowid ≡ true → Contains (faults (tree_walk pages family taken root)) (RowidOrder top.page)
+  pub turn_low : (rowid : Option ℤ) (stored : StoredCell) → next_step ≡ Some (cell rowid stored) → low_of floor rowid ≡ true → Contains (faults (tree_walk pages family taken root)) (RowidOrder top.page)
   turn_low rowid stored is low = cell_low pages family root taken given first_frames top floor last last_page seen at_last rowid stored is low
 
-  pub turn_cell : (rowid : Option ℤ) (stored : Stored) (got : List ℕ) (later : Test) → next_step ≡ Some (cell rowid stored) → low_of floor rowid ≡ false
+  pub turn_cell : (rowid : Option ℤ) (stored : StoredCell) (got : List ℕ) (later : Test) → next_step ≡ Some (cell rowid stored) → low_of floor rowid ≡ false
       → ((met : List Finding) → seen ≡ also (places met) taken → IsPaid pages taken met top.page stored got seen later)
       → IsInside pages family root taken (given ++ record { rowid = rowid; payload = got; page = top.page } ∷ []) (slice_set frames (size - 1) after_top) (last_after floor rowid) (last_after last rowid) (page_after last_page rowid top.page) later
   turn_cell rowid stored got later is above pays =
       rw set_top (cell_on pages family root taken given first_frames top floor last last_page seen at_last rowid stored got later is above (pays at_last.met at_last.marks) kept)
 
-  pub turn_cut : {R : Type 0} (refuses : Pages → ℕ → R → Type 0) (rowid : Option ℤ) (stored : Stored) (stop : WalkError R) → next_step ≡ Some (cell rowid stored) → low_of floor rowid ≡ false
+  pub turn_cut : {R : Type 0} (refuses : Pages → ℕ → R → Type 0) (rowid : Option ℤ) (stored : StoredCell) (stop : WalkError R) → next_step ≡ Some (cell rowid stored) → low_of floor rowid ≡ false
       → ((met : List Finding) → seen ≡ also (places met) taken → IsCut refuses pages (chain_of pages taken met top.page stored) stop)
       → IsAmong refuses pages (tree_walk pages family taken root) stop
   turn_cut refuses rowid stored stop is above cuts =
@@ -506,7 +506,7 @@ module _ (pages : Pages) (family : Family) (root : ℕ) (taken : Test) (given : 
       step_marked pages family root taken given first_frames top floor last last_page seen at_last (child c) (place c ∷ []) first_is.0 later is
       (let here : step pages taken (walk pages family taken left) at_last.met top.page (child c) ≡ walk pages family taken left at_last.met c = rw range refl in here ∙ first_is.1) marks
 
-  pub turn_cut_marked : (rowid : Option ℤ) (stored : Stored) (later : Test) → next_step ≡ Some (cell rowid stored) → low_of floor rowid ≡ false
+  pub turn_cut_marked : (rowid : Option ℤ) (stored : StoredCell) (later : Test) → next_step ≡ Some (cell rowid stored) → low_of floor rowid ≡ false
       → ((met : List Finding) → seen ≡ also (places met) taken → IsMarked (chain_of pages taken met top.page stored) seen later)
       → IsMarked (tree_walk pages family taken root) taken later
   turn_cut_marked rowid stored later is above cuts =
@@ -549,7 +549,7 @@ module _ (pages : Pages) (family : Family) (root : ℕ) (seen : Test) where
 
   -- the root was not read
   pub start_shut : {R : Type 0} (refuses : Pages → ℕ → R → Type 0) (error : WalkError R) → seen root ≡ false → is_page pages root ≡ true
-      → IsOpened refuses pages family root (Err error) → IsAmong refuses pages (tree_walk pages family seen root) error
+      → IsNodeOpened refuses pages family root (Err error) → IsAmong refuses pages (tree_walk pages family seen root) error
   start_shut refuses (Found d) fresh range shut =
       start_stop d false fresh (rw shut.0 shut.1)
   start_shut refuses (Source r) fresh range shut =

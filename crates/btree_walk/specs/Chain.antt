@@ -1,6 +1,6 @@
 -- The chain of one payload.
 use Rattle.std.specs.Prelude.{◌≡◌, ℕ, true, List, [], ◌∷◌, ◌++◌, Result, Ok, Err, ⊤}
-use Rattle.btree_page.specs.Cell.{Stored}
+use Rattle.btree_page.specs.Cell.{StoredCell}
 use Rattle.db_format.specs.Pages.{Pages, Test, also}
 use Rattle.btree_model.specs.Finding.{Finding, places, entries, keys, faults, is_sound}
 use Rattle.btree_model.specs.Rest.{AreUnmarked}
@@ -43,11 +43,11 @@ IsChained refuses pages taken met needed start first local got seen later (Ok do
 IsChained refuses pages taken met needed start first local got seen later (Err error) = IsCut refuses pages (chain pages taken met needed start first) error
 
 -- the chain of this payload, whose cell is on page n, was met whole
-pub record IsPaid (pages : Pages) (taken : Test) (met : List Finding) (n : ℕ) (stored : Stored) (got : List ℕ) (seen later : Test) : Type 0 where
+pub record IsPaid (pages : Pages) (taken : Test) (met : List Finding) (n : ℕ) (stored : StoredCell) (got : List ℕ) (seen later : Test) : Type 0 where
   pub passed : IsPassed taken seen later
   pub whole : (b : Test) → AreUnmarked b (places passed.found) → chain_of pages b met n stored ≡ passed.found
   pub payload : got ≡ payload_of pages stored
 
-abbrev pub IsCellRead : {R : Type 0} → (Pages → ℕ → R → Type 0) → Pages → Test → List Finding → ℕ → Stored → List ℕ → Test → Test → Result Unit (WalkError R) → Type 0
+abbrev pub IsCellRead : {R : Type 0} → (Pages → ℕ → R → Type 0) → Pages → Test → List Finding → ℕ → StoredCell → List ℕ → Test → Test → Result Unit (WalkError R) → Type 0
 IsCellRead refuses pages taken met n stored got seen later (Ok done) = IsPaid pages taken met n stored got seen later
 IsCellRead refuses pages taken met n stored got seen later (Err error) = IsCut refuses pages (chain_of pages taken met n stored) error

@@ -57,7 +57,7 @@ abbrev pub row_shown : Entry → Row
 row_shown entry = record { rowid = entry.rowid; payload = entry.payload.now; page = entry.page }
 
 -- nothing of the tree was met
-pub record IsNew (taken : Test) (given : List Row) (cursor : Cursor) (seen : Test) : Type 0 where
+pub record IsUnmoved (taken : Test) (given : List Row) (cursor : Cursor) (seen : Test) : Type 0 where
   pub path : cursor.path ≡ []
   pub floor : cursor.floor ≡ None
   pub last : cursor.last ≡ None
@@ -70,23 +70,23 @@ IsWalking pages taken given cursor seen =
     IsInside pages cursor.family cursor.root taken given cursor.path cursor.floor cursor.last cursor.last_page seen
 
 -- and that is the family that is to be walked
-pub record IsBegun (pages : Pages) (taken : Test) (given : List Row) (cursor : Cursor) (seen : Test) : Type 0 where
+pub record IsCursorBegun (pages : Pages) (taken : Test) (given : List Row) (cursor : Cursor) (seen : Test) : Type 0 where
   pub family : cursor.family ≡ walked_family pages cursor
   pub walking : IsWalking pages taken given cursor seen
 
 abbrev pub IsAtStage : Stage → Pages → Test → List Row → Cursor → Test → Type 0
-IsAtStage New pages taken given cursor seen = IsNew taken given cursor seen
-IsAtStage Inside pages taken given cursor seen = IsBegun pages taken given cursor seen
+IsAtStage New pages taken given cursor seen = IsUnmoved taken given cursor seen
+IsAtStage Inside pages taken given cursor seen = IsCursorBegun pages taken given cursor seen
 IsAtStage (Stopped defect) pages taken given cursor seen =
     Contains (faults (walked pages taken cursor)) defect × IsMarked (walked pages taken cursor) taken seen
 
 -- The cursor gave these entries of its tree, where `taken` holds for the pages with a place in an earlier part, and these
 -- pages are marked: those, and the tree's places that were met.
-abbrev pub IsAt : Pages → Test → List Row → Cursor → Test → Type 0
-IsAt pages taken given cursor seen = IsAtStage cursor.stage pages taken given cursor seen
+abbrev pub IsCursorAt : Pages → Test → List Row → Cursor → Test → Type 0
+IsCursorAt pages taken given cursor seen = IsAtStage cursor.stage pages taken given cursor seen
 
 -- a cursor as it is made
-pub record IsMade (root : ℕ) (asked : Option Family) (cursor : Cursor) : Type 0 where
+pub record IsCursorMade (root : ℕ) (asked : Option Family) (cursor : Cursor) : Type 0 where
   pub root_is : cursor.root ≡ root
   pub asked_is : cursor.asked ≡ asked
   pub stage : cursor.stage ≡ New
@@ -98,7 +98,7 @@ pub record IsMade (root : ℕ) (asked : Option Family) (cursor : Cursor) : Type 
 -- ---- what a caller sees to
 
 -- the cursor fits a source with so many pages and these pins, and these marks
-pub record IsReady (count : ℕ) (pins : ℕ → ℕ) (seen : List Bool) (cursor : Cursor) : Type 0 where
+pub record IsCursorReady (count : ℕ) (pins : ℕ → ℕ) (seen : List Bool) (cursor : Cursor) : Type 0 where
   -- its root is a page
   pub low : 1 ≤ cursor.root
   pub high : cursor.root ≤ count
@@ -115,13 +115,13 @@ pub record IsReady (count : ℕ) (pins : ℕ → ℕ) (seen : List Bool) (cursor
 
 -- the next entry of the walk was given
 pub record IsNext (pages : Pages) (taken : Test) (given : List Row) (cursor : Cursor) (seen : Test) (row : Row) : Type 0 where
-  pub at : IsAt pages taken (given ++ row ∷ []) cursor seen
+  pub at : IsCursorAt pages taken (given ++ row ∷ []) cursor seen
   pub more : List Row
   pub order : entries (walked pages taken cursor) ≡ given ++ row ∷ more
 
 -- the walk is at its end: what was given is the tree, and the places of its walk are marked
 pub record IsEnd (pages : Pages) (taken : Test) (given : List Row) (cursor : Cursor) (seen : Test) : Type 0 where
-  pub at : IsAt pages taken given cursor seen
+  pub at : IsCursorAt pages taken given cursor seen
   pub sound : is_sound (walked pages taken cursor) ≡ true
   pub whole : entries (walked pages taken cursor) ≡ given
   pub list : tree pages (walked_family pages cursor) cursor.root ≡ Some given

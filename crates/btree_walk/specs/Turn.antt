@@ -13,7 +13,7 @@ use Rattle.btree_page.specs.Step.{Step, child, divider, entry as cell, steps}
 use Rattle.btree_model.specs.Range.{is_in_range}
 use Rattle.btree_model.specs.Finding.{Row, Finding, places, entries}
 use Rattle.btree_model.specs.Walk.{page_defect}
-use Rattle.btree_model.specs.Rest.{Frame as Place, AreUnmarked, Stands}
+use Rattle.btree_model.specs.Rest.{Frame as Place, AreUnmarked, RestStands}
 use Rattle.btree_walk.specs.Order.{IsOrdered}
 use Rattle.btree_walk.specs.declared.error.WalkError.{WalkError}
 use Rattle.btree_walk.specs.declared.error.WalkError.TheVariants.{Defect as Found, Source, OutOfMemory}
@@ -72,7 +72,7 @@ pub record IsOpen (pages : Pages) (family : Family) (met : List Finding) (n : �
 -- and keeps these two numbers of the rule of rowids.
 pub record IsInside (pages : Pages) (family : Family) (root : ℕ) (taken : Test) (given : List Row) (frames : List Frame) (floor last : Option ℤ) (page : ℕ) (seen : Test) : Type 0 where
   pub met : List Finding
-  pub stands : Stands pages family root met (path_of pages family 20 [] frames)
+  pub stands : RestStands pages family root met (path_of pages family 20 [] frames)
   pub unmarked : AreUnmarked taken (places met)
   pub marks : seen ≡ also (places met) taken
   pub gave : entries met ≡ given
@@ -88,12 +88,12 @@ reading_defect c (Err fault) = Some (page_defect c fault)
 reading_defect c (Ok page) = None
 
 -- why it is none, or why it was not read
-abbrev pub IsOpened : {R : Type 0} → (Pages → ℕ → R → Type 0) → Pages → Family → ℕ → Result Unit (WalkError R) → Type 0
-IsOpened refuses pages family n (Ok done) = IsNode pages family n
-IsOpened refuses pages family n (Err (Found defect)) =
+abbrev pub IsNodeOpened : {R : Type 0} → (Pages → ℕ → R → Type 0) → Pages → Family → ℕ → Result Unit (WalkError R) → Type 0
+IsNodeOpened refuses pages family n (Ok done) = IsNode pages family n
+IsNodeOpened refuses pages family n (Err (Found defect)) =
     (pages.accepts n ≡ true) × (reading_defect n (read_node family n (pages.page n)) ≡ Some defect)
-IsOpened refuses pages family n (Err (Source refusal)) = refuses pages n refusal
-IsOpened refuses pages family n (Err OutOfMemory) = ⊤
+IsNodeOpened refuses pages family n (Err (Source refusal)) = refuses pages n refusal
+IsNodeOpened refuses pages family n (Err OutOfMemory) = ⊤
 
 abbrev pub visit_defect : Pages → Family → ℕ → Bool → ℕ → Option Defect
 visit_defect pages family c true left = Some (PageTwice c)

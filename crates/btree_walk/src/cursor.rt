@@ -5,7 +5,7 @@ ghost use Rattle.db_format.specs.Seen.{marked};
 ghost use Rattle.db_format.specs.Source.{Rose, no_pins};
 ghost use Rattle.btree_model.specs.Finding.{Row};
 ghost use Rattle.btree_walk.specs.Causes.{IsGivenBy, IsMarked, is_failure};
-ghost use Rattle.btree_walk.specs.Cursor.{IsReady, GivesNext, IsAdvanced, IsAt, IsGivenAfter, IsMade, IsSameTree, KeepsDefect, gives, row_of, row_shown, walked};
+ghost use Rattle.btree_walk.specs.Cursor.{IsCursorReady, GivesNext, IsAdvanced, IsCursorAt, IsGivenAfter, IsCursorMade, IsSameTree, KeepsDefect, gives, row_of, row_shown, walked};
 ghost use Rattle.btree_walk.specs.Order.{IsAfter};
 ghost use Rattle.btree_walk.specs.Turn.{work};
 ghost use Rattle.btree_walk.specs.Marks.{KeepsMarks};
@@ -64,20 +64,20 @@ pub struct Cursor {
 impl Cursor {
     /// A cursor before the first entry of the tree with this root, which is of its root's family.
     pub fn new(alloc: Global, root: u32) -> Result<Cursor, OutOfMemory>
-        ensures { IfOk result (IsMade root None) }
+        ensures { IfOk result (IsCursorMade root None) }
     {
         Cursor::made(alloc, root, None)
     }
 
     /// A cursor before the first entry of the tree with this root, which is to be of this family.
     pub fn of_family(alloc: Global, root: u32, family: Family) -> Result<Cursor, OutOfMemory>
-        ensures { IfOk result (IsMade root (Some family)) }
+        ensures { IfOk result (IsCursorMade root (Some family)) }
     {
         Cursor::made(alloc, root, Some(family))
     }
 
     fn made(alloc: Global, root: u32, asked: Option<Family>) -> Result<Cursor, OutOfMemory>
-        ensures { IfOk result (IsMade root asked) }
+        ensures { IfOk result (IsCursorMade root asked) }
     {
         let path = Path::new(alloc)?;
         Ok(Cursor {
@@ -130,8 +130,8 @@ impl Cursor {
         source: &mut S,
         seen: &mut Seen,
     ) -> Result<bool, WalkError<S::Refusal>>
-        requires ready { IsReady (S.plain source.old).count (S.pins source.old) seen.old self.old }
-        ensures ready { IsReady (S.plain source.new).count (S.pins source.new) seen.new self.new }
+        requires ready { IsCursorReady (S.plain source.old).count (S.pins source.old) seen.old self.old }
+        ensures ready { IsCursorReady (S.plain source.new).count (S.pins source.new) seen.new self.new }
         ensures same { IsSameTree self.old self.new }
         ensures reads { S.only_read source.old source.new }
         ensures kept { KeepsMarks (marked seen.old) (marked seen.new) }
@@ -146,9 +146,9 @@ impl Cursor {
         ensures given { IfErr result (IsGivenBy S.only_read S.plain S.refuses source.old) }
         ensures fault { IfErr result (λ error. IsTrue (is_failure S.is_fault error) → Rose (S.faults source.old) (S.faults source.new)) }
         // the walk, where pages are told
-        ensures marks { IfErr result (λ error. IsTrue S.tells → (taken : Test) (given : List Row) → IsAt (S.plain source.old) taken given self.old (marked seen.old)
+        ensures marks { IfErr result (λ error. IsTrue S.tells → (taken : Test) (given : List Row) → IsCursorAt (S.plain source.old) taken given self.old (marked seen.old)
             → IsMarked (walked (S.plain source.old) taken self.old) taken (marked seen.new)) }
-        ensures on { IsTrue S.tells → (taken : Test) (given : List Row) → IsAt (S.plain source.old) taken given self.old (marked seen.old)
+        ensures on { IsTrue S.tells → (taken : Test) (given : List Row) → IsCursorAt (S.plain source.old) taken given self.old (marked seen.old)
             → IsAdvanced S.refuses (S.plain source.old) taken given self.new (marked seen.new) result }
     {
         let result = self.go_on(source, seen);
@@ -167,8 +167,8 @@ impl Cursor {
         source: &mut S,
         seen: &mut Seen,
     ) -> Result<bool, WalkError<S::Refusal>>
-        requires ready { IsReady (S.plain source.old).count (S.pins source.old) seen.old self.old }
-        ensures ready { IsReady (S.plain source.old).count (S.pins source.new) seen.new self.new }
+        requires ready { IsCursorReady (S.plain source.old).count (S.pins source.old) seen.old self.old }
+        ensures ready { IsCursorReady (S.plain source.old).count (S.pins source.new) seen.new self.new }
         ensures same { IsSameTree self.old self.new }
         ensures reads { S.only_read source.old source.new }
         ensures kept { KeepsMarks (marked seen.old) (marked seen.new) }
@@ -179,9 +179,9 @@ impl Cursor {
         ensures again { (defect : Defect) → self.old.stage ≡ Stage.Stopped defect → result ≡ Err (WalkError.Defect defect) }
         ensures given { IfErr result (IsGivenBy S.only_read S.plain S.refuses source.old) }
         ensures fault { IfErr result (λ error. IsTrue (is_failure S.is_fault error) → Rose (S.faults source.old) (S.faults source.new)) }
-        ensures marks { IfErr result (λ error. IsTrue S.tells → (taken : Test) (given : List Row) → IsAt (S.plain source.old) taken given self.old (marked seen.old)
+        ensures marks { IfErr result (λ error. IsTrue S.tells → (taken : Test) (given : List Row) → IsCursorAt (S.plain source.old) taken given self.old (marked seen.old)
             → IsMarked (walked (S.plain source.old) taken self.old) taken (marked seen.new)) }
-        ensures on { IsTrue S.tells → (taken : Test) (given : List Row) → IsAt (S.plain source.old) taken given self.old (marked seen.old)
+        ensures on { IsTrue S.tells → (taken : Test) (given : List Row) → IsCursorAt (S.plain source.old) taken given self.old (marked seen.old)
             → IsAdvanced S.refuses (S.plain source.old) taken given self.new (marked seen.new) result }
     {
         match self.stage {
@@ -200,10 +200,10 @@ impl Cursor {
         source: &mut S,
         seen: &mut Seen,
     ) -> Result<Option<Entry<'_>>, WalkError<S::Refusal>>
-        requires ready { IsReady (S.plain source.old).count (S.pins source.old) seen.old self.old }
+        requires ready { IsCursorReady (S.plain source.old).count (S.pins source.old) seen.old self.old }
         ensures limit { IfOk result (λ found. IfSome found (λ entry. length entry.payload.now ≤ max_payload)) }
         ensures rising { IfOk result (λ found. IfSome found (λ entry. IsAfter self.old.last entry.rowid)) }
-        ensures on { IsTrue S.tells → (taken : Test) (given : List Row) → IsAt (S.plain source.old) taken given self.old (marked seen.old)
+        ensures on { IsTrue S.tells → (taken : Test) (given : List Row) → IsCursorAt (S.plain source.old) taken given self.old (marked seen.old)
             → GivesNext S.refuses (S.plain source.old) (walked (S.plain source.old) taken self.old) given result }
     {
         if self.advance(source, seen)? {

@@ -7,7 +7,7 @@ ghost use Rattle.btree_model.specs.Tree.{root_family};
 ghost use Rattle.btree_model.specs.Walk.{page_defect};
 ghost use Rattle.btree_walk.specs.Causes.{IsGivenBy, is_failure};
 ghost use Rattle.btree_walk.specs.Cursor.{family_or};
-ghost use Rattle.btree_walk.specs.Turn.{IsOpened, IsReadable, IsTurn, IsUnread, todo_of};
+ghost use Rattle.btree_walk.specs.Turn.{IsNodeOpened, IsReadable, IsTurn, IsUnread, todo_of};
 
 use crate::WalkError;
 use btree_page::{Family, PageFault, PageView, Step, page_kind, read_step};
@@ -77,7 +77,7 @@ pub(crate) fn open_page<S: PageSource>(
 ) -> Result<(), WalkError<S::Refusal>>
     requires room { S.pins source.old n < 2 ^ 32 - 1 }
     requires range { is_page (S.plain source.old) n ≡ true }
-    ensures opened { IsTrue S.tells → IsOpened S.refuses (S.plain source.old) family n result }
+    ensures opened { IsTrue S.tells → IsNodeOpened S.refuses (S.plain source.old) family n result }
     ensures pins { S.pins source.new ≡ (if is_ok result then one_more n (S.pins source.old) else S.pins source.old) }
     ensures reads { S.only_read source.old source.new }
     ensures given { IfErr result (IsGivenBy S.only_read S.plain S.refuses source.old) }

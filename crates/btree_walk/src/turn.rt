@@ -7,7 +7,7 @@ ghost use Rattle.btree_model.specs.Finding.{Row};
 ghost use Rattle.btree_model.specs.Range.{is_in_range};
 ghost use Rattle.btree_model.specs.Tree.{tree_walk};
 ghost use Rattle.btree_walk.specs.Causes.{IsAmong, IsGivenBy, IsMarked, is_failure};
-ghost use Rattle.btree_walk.specs.Cursor.{IsReady, IsBegun, IsGivenAfter, IsNew, IsRising, IsSameTree, IsSameWalk, IsWalking, given_then, row_of, walked};
+ghost use Rattle.btree_walk.specs.Cursor.{IsCursorReady, IsCursorBegun, IsGivenAfter, IsUnmoved, IsRising, IsSameTree, IsSameWalk, IsWalking, given_then, row_of, walked};
 ghost use Rattle.btree_walk.specs.Turn.{IsEntered, IsEnterStop, given_by, work};
 ghost use Rattle.btree_walk.specs.Marks.{KeepsMarks};
 
@@ -75,8 +75,8 @@ fn take_turn<S: PageSource>(
     seen: &mut Seen,
 ) -> Result<Moved, WalkError<S::Refusal>>
     requires begun { 0 < length cursor.old.path }
-    requires ready { IsReady (S.plain source.old).count (S.pins source.old) seen.old cursor.old }
-    ensures ready { IsReady (S.plain source.old).count (S.pins source.new) seen.new cursor.new }
+    requires ready { IsCursorReady (S.plain source.old).count (S.pins source.old) seen.old cursor.old }
+    ensures ready { IsCursorReady (S.plain source.old).count (S.pins source.new) seen.new cursor.new }
     ensures same { IsSameWalk cursor.old cursor.new }
     ensures reads { S.only_read source.old source.new }
     ensures kept { KeepsMarks (marked seen.old) (marked seen.new) }
@@ -151,8 +151,8 @@ pub(crate) fn walk_on<S: PageSource>(
     source: &mut S,
     seen: &mut Seen,
 ) -> Result<bool, WalkError<S::Refusal>>
-    requires ready { IsReady (S.plain source.old).count (S.pins source.old) seen.old cursor.old }
-    ensures ready { IsReady (S.plain source.old).count (S.pins source.new) seen.new cursor.new }
+    requires ready { IsCursorReady (S.plain source.old).count (S.pins source.old) seen.old cursor.old }
+    ensures ready { IsCursorReady (S.plain source.old).count (S.pins source.new) seen.new cursor.new }
     ensures same { IsSameWalk cursor.old cursor.new }
     ensures reads { S.only_read source.old source.new }
     ensures kept { KeepsMarks (marked seen.old) (marked seen.new) }
@@ -186,8 +186,8 @@ pub(crate) fn begin<S: PageSource>(
     seen: &mut Seen,
 ) -> Result<(), WalkError<S::Refusal>>
     requires new { cursor.old.stage ≡ Stage.New }
-    requires ready { IsReady (S.plain source.old).count (S.pins source.old) seen.old cursor.old }
-    ensures ready { IsReady (S.plain source.old).count (S.pins source.new) seen.new cursor.new }
+    requires ready { IsCursorReady (S.plain source.old).count (S.pins source.old) seen.old cursor.old }
+    ensures ready { IsCursorReady (S.plain source.old).count (S.pins source.new) seen.new cursor.new }
     ensures same { IsSameTree cursor.old cursor.new }
     ensures begun { OnOk result (cursor.new.stage ≡ Stage.Inside) }
     ensures last { cursor.new.last ≡ cursor.old.last }
@@ -197,10 +197,10 @@ pub(crate) fn begin<S: PageSource>(
     ensures less { OnOk result (work seen.new cursor.new.path < work seen.old cursor.old.path) }
     ensures given { IfErr result (IsGivenBy S.only_read S.plain S.refuses source.old) }
     ensures fault { IfErr result (λ error. IsTrue (is_failure S.is_fault error) → Rose (S.faults source.old) (S.faults source.new)) }
-    ensures marks { IfErr result (λ error. IsTrue S.tells → (taken : Test) (given : List Row) → IsNew taken given cursor.old (marked seen.old)
+    ensures marks { IfErr result (λ error. IsTrue S.tells → (taken : Test) (given : List Row) → IsUnmoved taken given cursor.old (marked seen.old)
         → IsMarked (walked (S.plain source.old) taken cursor.old) taken (marked seen.new)) }
-    ensures on { IsTrue S.tells → (taken : Test) (given : List Row) → IsNew taken given cursor.old (marked seen.old)
-        → MatchResult result (λ done. IsBegun (S.plain source.old) taken given cursor.new (marked seen.new))
+    ensures on { IsTrue S.tells → (taken : Test) (given : List Row) → IsUnmoved taken given cursor.old (marked seen.old)
+        → MatchResult result (λ done. IsCursorBegun (S.plain source.old) taken given cursor.new (marked seen.new))
         (IsAmong S.refuses (S.plain source.old) (walked (S.plain source.old) taken cursor.old)) }
 {
     if !seen.mark(cursor.root) {

@@ -9,11 +9,11 @@ use Rattle.db_format.proofs.VarintLemmas.{length-varint_bytes, varint_size-short
 use Rattle.btree_page.specs.declared.kind.Family.{Family}
 use Rattle.btree_page.specs.declared.kind.Family.TheVariants.{Table, Index}
 use Rattle.btree_page.specs.declared.kind.Kind.TheVariants.{IndexInterior, IndexLeaf, TableInterior, TableLeaf}
-use Rattle.btree_page.specs.Cell.{Stored, table_leaf, table_interior, index_leaf, index_interior}
+use Rattle.btree_page.specs.Cell.{StoredCell, table_leaf, table_interior, index_leaf, index_interior}
 use Rattle.btree_page.specs.Payload.{local_len, max_payload, most_local}
 use Rattle.btree_page.specs.Step.{divider, entry as cell}
 use Rattle.page_build.specs.CellBytes.{IsStoredOn, cell_bytes, stored_bytes}
-use Rattle.page_build.specs.Written.{IsWritten, four_bytes}
+use Rattle.page_build.specs.Written.{IsCellWritten, four_bytes}
 use Rattle.page_build.proofs.CellBack.{IsWritten-cell_bytes}
 use Rattle.bulk_load.specs.declared.pair.Pair.{Pair}
 use Rattle.bulk_load.specs.Bound.{cell_len}
@@ -55,16 +55,16 @@ module _ (family : Family) (usable : ℕ) (payload : List ℕ) (k n : ℕ) (loca
       by_case false part = ap (λ b. (if b then 0 else n) == 0) part ∙ not_zero n (some (not_le (length payload) k part)) ∙ sym part
 
 -- an entry on its way to a leaf
-pub entry_is : (usable : ℕ) (stored : Stored) (pair : Pair) → IsStoredOn Index usable stored → pair.child ≡ 0
+pub entry_is : (usable : ℕ) (stored : StoredCell) (pair : Pair) → IsStoredOn Index usable stored → pair.child ≡ 0
     → pair.cell.items ≡ cell_bytes (index_interior 0 stored) → IsPair pair IndexLeaf usable (cell None stored)
 entry_is usable stored pair on none is =
     let rest : drop 4 pair.cell.items ≡ varint_bytes stored.size ++ stored_bytes stored = ap (drop 4) is in
     record {
       may = refl;
       names = is ∙ ap (λ l. four_bytes 0 ++ l) (sym rest) ∙ ap (λ m. four_bytes m ++ drop 4 pair.cell.items) (sym none);
-      here = λ n. subst (λ l. IsWritten IndexLeaf usable l (index_leaf stored)) (sym rest) (IsWritten-cell_bytes usable (index_leaf stored) on tt);
+      here = λ n. subst (λ l. IsCellWritten IndexLeaf usable l (index_leaf stored)) (sym rest) (IsWritten-cell_bytes usable (index_leaf stored) on tt);
       up = λ n.
-          subst (λ l. IsWritten IndexInterior usable (four_bytes n ++ l) (index_interior n stored)) (sym rest)
+          subst (λ l. IsCellWritten IndexInterior usable (four_bytes n ++ l) (index_interior n stored)) (sym rest)
           (IsWritten-cell_bytes usable (index_interior n stored) on tt);
     }
 
@@ -73,8 +73,8 @@ pub key_is : (usable child : ℕ) (key : ℤ) (pair : Pair) → FitsSigned w64 k
     → pair.cell.items ≡ cell_bytes (table_interior child key) → IsPair pair TableInterior usable (divider key)
 key_is usable child key pair fits named is =
     let rest : drop 4 pair.cell.items ≡ varint_bytes (cast_unsigned w64 key) = ap (drop 4) is in
-    let written : (n : ℕ) → IsWritten TableInterior usable (four_bytes n ++ drop 4 pair.cell.items) (table_interior n key) =
-    λ n. subst (λ l. IsWritten TableInterior usable (four_bytes n ++ l) (table_interior n key)) (sym rest)
+    let written : (n : ℕ) → IsCellWritten TableInterior usable (four_bytes n ++ drop 4 pair.cell.items) (table_interior n key) =
+    λ n. subst (λ l. IsCellWritten TableInterior usable (four_bytes n ++ l) (table_interior n key)) (sym rest)
     (IsWritten-cell_bytes usable (table_interior n key) tt fits) in
     record {
       may = refl;
@@ -93,7 +93,7 @@ size_len n few =
       | inr most ↦ most
     ]
 
-length-stored : (stored : Stored) → length (stored_bytes stored) ≤ length stored.local + 4
+length-stored : (stored : StoredCell) → length (stored_bytes stored) ≤ length stored.local + 4
 length-stored stored = by_case (stored.first == 0)
   where
     by_case : (b : Bool) → length (stored.local ++ (if b then [] else four_bytes stored.first)) ≤ length stored.local + 4
@@ -101,7 +101,7 @@ length-stored stored = by_case (stored.first == 0)
     by_case false = let e : length (stored.local ++ four_bytes stored.first) ≡ length stored.local + 4 = length-append stored.local (four_bytes stored.first) in omega arith
 
 -- an entry of an index
-pub entry_named : (usable : ℕ) (pair : Pair) (stored : Stored) → 480 ≤ usable → stored.size ≤ max_payload → length stored.local ≤ most_local Index usable
+pub entry_named : (usable : ℕ) (pair : Pair) (stored : StoredCell) → 480 ≤ usable → stored.size ≤ max_payload → length stored.local ≤ most_local Index usable
     → pair.cell.items ≡ cell_bytes (index_interior 0 stored) → IsNamed usable pair
 entry_named usable pair stored large few most is =
     let whole : length pair.cell.items ≡ 4 + length (varint_bytes stored.size ++ stored_bytes stored) = ap length is ∙ length-append (four_bytes 0) (varint_bytes stored.size ++ stored_bytes stored) in
@@ -121,7 +121,7 @@ key_named usable child key pair large is =
 
 -- ---- how long the cell of a row is
 
-pub length-row : (usable : ℕ) (rowid : ℤ) (stored : Stored) → IsStoredOn Table usable stored
+pub length-row : (usable : ℕ) (rowid : ℤ) (stored : StoredCell) → IsStoredOn Table usable stored
     → length (cell_bytes (table_leaf rowid stored)) ≡ row_len stored.size rowid (length stored.local)
 length-row usable rowid stored on =
     length-append (varint_bytes stored.size) (varint_bytes (cast_unsigned w64 rowid) ++ stored_bytes stored)
@@ -152,14 +152,14 @@ row_len-most usable length local rowid least few most =
 -- the cell of a row, whose chain begins at n
 pub record IsRow (usable : ℕ) (payload raw : List ℕ) (k n : ℕ) (r : ℤ) : Type 0 where
   pub long : length raw ≡ row_len (length payload) r k
-  pub written : IsWritten TableLeaf usable raw (table_leaf r (stored_as Table usable payload n))
+  pub written : IsCellWritten TableLeaf usable raw (table_leaf r (stored_as Table usable payload n))
 
 pub row_is : (usable : ℕ) (payload raw rest : List ℕ) (k n : ℕ) (r q : ℤ) → k ≡ local_len Table usable (length payload) → k ≤ length payload
     → length payload ≤ max_payload → FitsSigned w64 r → q ≡ r → rest ≡ drop k payload → (length rest ≡ 0 → n ≡ 0) → (1 ≤ length rest → 2 ≤ n)
     → raw ≡ cell_bytes (table_leaf q (record { size = length payload; local = take k payload; first = n })) → IsRow usable payload raw k n r
 row_is usable payload raw rest k n r q local most few fits same all none some is =
     let left : length rest ≡ length payload - k = ap length all ∙ length-drop k payload in
-    let stored : Stored = stored_as Table usable payload n in
+    let stored : StoredCell = stored_as Table usable payload n in
     let shown : record { size = length payload; local = take k payload; first = n } ≡ stored =
     stored_is Table usable payload k n local (λ whole. none (omega arith)) in
     let on : IsStoredOn Table usable stored = stored_on Table usable payload k n local most few (λ part. some (omega arith)) in
@@ -167,7 +167,7 @@ row_is usable payload raw rest k n r q local most few fits same all none some is
     ∙ ap (λ s. cell_bytes (table_leaf r s)) shown in
     record {
       long = ap length bytes ∙ length-row usable r stored on ∙ ap (row_len (length payload) r) (on.local ∙ sym local);
-      written = subst (λ l. IsWritten TableLeaf usable l (table_leaf r stored)) (sym bytes) (IsWritten-cell_bytes usable (table_leaf r stored) on fits);
+      written = subst (λ l. IsCellWritten TableLeaf usable l (table_leaf r stored)) (sym bytes) (IsWritten-cell_bytes usable (table_leaf r stored) on fits);
     }
 
 -- and the pair of an entry
@@ -177,7 +177,7 @@ pub pair_is : (usable : ℕ) (payload rest : List ℕ) (k n : ℕ) (pair : Pair)
     → IsPair pair IndexLeaf usable (cell None (stored_as Index usable payload n))
 pair_is usable payload rest k n pair local most few all none some child is =
     let left : length rest ≡ length payload - k = ap length all ∙ length-drop k payload in
-    let stored : Stored = stored_as Index usable payload n in
+    let stored : StoredCell = stored_as Index usable payload n in
     let shown : record { size = length payload; local = take k payload; first = n } ≡ stored =
     stored_is Index usable payload k n local (λ whole. none (omega arith)) in
     let on : IsStoredOn Index usable stored = stored_on Index usable payload k n local most few (λ part. some (omega arith)) in
@@ -191,7 +191,7 @@ key_most child key pair is =
     omega arith
 
 -- how long the pair of an entry is
-length-entry : (usable : ℕ) (stored : Stored) → IsStoredOn Index usable stored
+length-entry : (usable : ℕ) (stored : StoredCell) → IsStoredOn Index usable stored
     → length (cell_bytes (index_interior 0 stored)) ≡ 4 + (varint_size stored.size + (length stored.local + (if nat_le stored.size (length stored.local) then 0 else 4)))
 length-entry usable stored on =
     length-append (four_bytes 0) (varint_bytes stored.size ++ stored_bytes stored)
@@ -212,7 +212,7 @@ pub pair_len : (usable : ℕ) (payload rest : List ℕ) (k n : ℕ) (pair : Pair
     → length pair.cell.items ≡ 4 + cell_len Index usable (record { rowid = None; payload = payload })
 pair_len usable payload rest k n pair local most few all none some is =
     let left : length rest ≡ length payload - k = ap length all ∙ length-drop k payload in
-    let stored : Stored = stored_as Index usable payload n in
+    let stored : StoredCell = stored_as Index usable payload n in
     let shown : record { size = length payload; local = take k payload; first = n } ≡ stored =
     stored_is Index usable payload k n local (λ whole. none (omega arith)) in
     let on : IsStoredOn Index usable stored = stored_on Index usable payload k n local most few (λ part. some (omega arith)) in

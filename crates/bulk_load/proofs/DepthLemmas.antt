@@ -3,7 +3,7 @@ use Rattle.std.proofs.Common.{◌≡◌, ◌≤◌, ◌<◌, ◌+◌, ◌-◌, �
 use Rattle.std.proofs.Math.Nat.{pow-succ'}
 use Rattle.std.proofs.lemmas.List.{length-replicate}
 use Rattle.page_build.specs.Draft.{Draft, with_cell}
-use Rattle.page_build.specs.Written.{content, padded}
+use Rattle.page_build.specs.Written.{joined_cells, padded}
 use Rattle.bulk_load.specs.declared.loader.Loader.{Loader}
 use Rattle.bulk_load.specs.Count.{KeepsBack}
 use Rattle.bulk_load.specs.Depth.{AreShort, IsShallow, KeepsShort, closed_below}
@@ -25,7 +25,7 @@ short_pair usable page new cell len skip short is size least one =
 pub wide_page : (usable : ℕ) (page : Draft) → 12 ≤ usable → AreShort usable page.cells → usable < 3 * filled page + 12 → 2 ≤ length page.cells
 wide_page usable page large short full = go page.cells short full
   where
-    go : (cells : List (List ℕ)) → AreShort usable cells → usable < 3 * (2 * length cells + length (content cells)) + 12 → 2 ≤ length cells
+    go : (cells : List (List ℕ)) → AreShort usable cells → usable < 3 * (2 * length cells + length (joined_cells cells)) + 12 → 2 ≤ length cells
     go [] short full = absurd (omega arith)
     go (c ∷ []) short full = let one : 3 * (length c + 2) + 12 ≤ usable = short.0 in absurd (omega arith)
     go (c ∷ (d ∷ cells)) short full = omega arith

@@ -6,12 +6,12 @@ use Rattle.db_format.specs.Pages.{Pages}
 use Rattle.btree_page.specs.Step.{Step, steps}
 use Rattle.btree_model.specs.Content.{Entry}
 use Rattle.load_model.specs.Open.{Open, at_height}
-use Rattle.load_model.specs.Stands.{Stands}
+use Rattle.load_model.specs.Stands.{OpenPagesStand}
 use Rattle.btree_page.specs.Kind.{family_of, is_interior}
 use Rattle.bulk_load.specs.declared.pair.Pair.{Pair}
 use Rattle.bulk_load.specs.declared.level.Level.{Level}
 use Rattle.bulk_load.specs.Close.{HasCells}
-use Rattle.bulk_load.specs.Settle.{IsPair, IsSettled, up_kind, cell_on, two}
+use Rattle.bulk_load.specs.Settle.{IsPair, IsLevelSettled, up_kind, cell_on, two}
 use Rattle.bulk_load.specs.Level.{ArePairs, waiting_steps, HoldsLevel}
 use Rattle.bulk_load.specs.Levels.{opened, HoldLevels, AreOpen, IsDrained}
 use Rattle.bulk_load.proofs.SettleLemmas.{family_up, up_interior}
@@ -23,7 +23,7 @@ abbrev pub Drains : {E : Type 0} → Pages → Pages → Level → Level → Lis
 Drains old new level after above above' kind result =
     (todo : List Step) (todos : List (List Step)) (h : ℕ) (back : List Open) (last : Option ℤ) (pushed : List Entry) → up_kind level.page.kind ≡ kind
     → HoldsLevel level old.usable todo → HoldLevels above old.usable kind todos
-    → Stands old (family_of kind) last (opened (suc h) todos ++ (at_height h todo ++ back)) pushed
+    → OpenPagesStand old (family_of kind) last (opened (suc h) todos ++ (at_height h todo ++ back)) pushed
     → OnOk result (IsDrained new after above' old.usable kind h back last pushed)
 
 module _ {E : Type 0} (mid new : Pages) (level after : Level) (above above' : List Level) (usable : ℕ) (kind : Kind) (result : Result (Unit {0}) E)
@@ -31,7 +31,7 @@ module _ {E : Type 0} (mid new : Pages) (level after : Level) (above above' : Li
     (drains : Drains mid new level after above above' kind result) (size : mid.usable ≡ usable) (up : up_kind level.page.kind ≡ kind) (hold : HoldLevels above usable kind todos) where
   -- the page has these cells, and these pairs still wait
   pub drain_more : (cells : List Cell) (between : List Step) → HasCells level.page usable cells → ArePairs level.waiting.items level.page.kind usable between
-      → Stands mid (family_of kind) last (opened (suc h) todos ++ (at_height h (steps cells None ++ waiting_steps level.page.kind level.waiting.items between) ++ back)) pushed
+      → OpenPagesStand mid (family_of kind) last (opened (suc h) todos ++ (at_height h (steps cells None ++ waiting_steps level.page.kind level.waiting.items between) ++ back)) pushed
       → OnOk result (IsDrained new after above' usable kind h back last pushed)
   drain_more cells between has pairs st =
       let todo : List Step = steps cells None ++ waiting_steps level.page.kind level.waiting.items between in
@@ -47,15 +47,15 @@ pub drain_false : {E : Type 0} (mid new : Pages) (level after : Level) (above ab
     → OnOk result (IsDrained new after above' usable kind h back last pushed)
 drain_false mid new level after above above' named usable kind own result todos h back last pushed answer drains size same up hold is next =
     let waits : List Step = waiting_steps own level.waiting.items next.between in
-    let settled : IsSettled mid level.page named usable own next.n next.cells next.s h (opened (suc h) todos) (at_height h waits ++ back) last pushed false =
-    subst (λ b. IsSettled mid level.page named usable own next.n next.cells next.s h (opened (suc h) todos) (at_height h waits ++ back) last pushed b) is next.is
+    let settled : IsLevelSettled mid level.page named usable own next.n next.cells next.s h (opened (suc h) todos) (at_height h waits ++ back) last pushed false =
+    subst (λ b. IsLevelSettled mid level.page named usable own next.n next.cells next.s h (opened (suc h) todos) (at_height h waits ++ back) last pushed b) is next.is
     in
     let cells : List Cell = next.cells ++ cell_on own next.n next.s ∷ [] in
     drain_more mid new level after above above' usable kind result todos h back last pushed drains size (ap up_kind same ∙ up) hold cells next.between settled.0
     (subst (λ k. ArePairs level.waiting.items k usable next.between) (sym same) next.pairs)
-    (subst (λ f. Stands mid f last (opened (suc h) todos ++ (at_height h (steps cells None ++ waiting_steps level.page.kind level.waiting.items next.between) ++ back)) pushed)
+    (subst (λ f. OpenPagesStand mid f last (opened (suc h) todos ++ (at_height h (steps cells None ++ waiting_steps level.page.kind level.waiting.items next.between) ++ back)) pushed)
     (sym (family_up own) ∙ ap family_of up)
-    (subst (λ l. Stands mid (family_of own) last l pushed)
+    (subst (λ l. OpenPagesStand mid (family_of own) last l pushed)
     (wait_list (steps cells None) waits h (opened (suc h) todos) back
     ∙ ap (λ k. opened (suc h) todos ++ (at_height h (steps cells None ++ waiting_steps k level.waiting.items next.between) ++ back)) (sym same))
     settled.1))
@@ -69,16 +69,16 @@ pub drain_true : {E : Type 0} (mid top new : Pages) (level after : Level) (above
     → OnOk result (IsDrained new after above'' usable kind h back last pushed)
 drain_true mid top new level after above above' above'' named usable kind own result todos h back last pushed answer climbs drains size size' same up hold is next =
     let waits : List Step = waiting_steps own level.waiting.items next.between in
-    let settled : IsSettled mid level.page named usable own next.n next.cells next.s h (opened (suc h) todos) (at_height h waits ++ back) last pushed true =
-    subst (λ b. IsSettled mid level.page named usable own next.n next.cells next.s h (opened (suc h) todos) (at_height h waits ++ back) last pushed b) is next.is
+    let settled : IsLevelSettled mid level.page named usable own next.n next.cells next.s h (opened (suc h) todos) (at_height h waits ++ back) last pushed true =
+    subst (λ b. IsLevelSettled mid level.page named usable own next.n next.cells next.s h (opened (suc h) todos) (at_height h waits ++ back) last pushed b) is next.is
     in
     let pair : IsPair named kind usable next.s = subst (λ k. IsPair named k usable next.s) up settled.1 in
     let risen : AreOpen top above' usable kind (suc h) (at_height h waits ++ back) last pushed =
     subst (λ u. AreOpen top above' u kind (suc h) (at_height h waits ++ back) last pushed) size
     (climbs todos next.s (suc h) (at_height h waits ++ back) last pushed (subst (λ k. is_interior k ≡ true) up (up_interior own))
     (subst (λ u. HoldLevels above u kind todos) (sym size) hold) (subst (λ u. IsPair named kind u next.s) (sym size) pair)
-    (subst (λ f. Stands mid f last (opened (suc h) todos ++ (two (suc h) named.child next.s ++ (at_height h waits ++ back))) pushed) (sym (family_up own) ∙ ap family_of up) settled.2))
+    (subst (λ f. OpenPagesStand mid f last (opened (suc h) todos ++ (two (suc h) named.child next.s ++ (at_height h waits ++ back))) pushed) (sym (family_up own) ∙ ap family_of up) settled.2))
     in
     drain_more top new level after above' above'' usable kind result risen.todos h back last pushed drains size' (ap up_kind same ∙ up) risen.hold [] next.between settled.0
     (subst (λ k. ArePairs level.waiting.items k usable next.between) (sym same) next.pairs)
-    (subst (λ k. Stands top (family_of kind) last (opened (suc h) risen.todos ++ (at_height h (waiting_steps k level.waiting.items next.between) ++ back)) pushed) (sym same) risen.stands)
+    (subst (λ k. OpenPagesStand top (family_of kind) last (opened (suc h) risen.todos ++ (at_height h (waiting_steps k level.waiting.items next.between) ++ back)) pushed) (sym same) risen.stands)

@@ -16,7 +16,7 @@ use Rattle.btree_model.proofs.ContextLemmas.{and_left, and_right}
 use Rattle.btree_model.proofs.KeptLemmas.{AreSame, IsSamePage, walk_kept}
 use Rattle.bulk_load.specs.Found.{HasTree, Within}
 use Rattle.bulk_load.specs.Headed.{IsHeaded}
-use Rattle.bulk_load.specs.Out.{Faults, Keeps}
+use Rattle.bulk_load.specs.Out.{Faults, KeepsPages}
 use Rattle.bulk_load.specs.Own.{only}
 use Rattle.bulk_load.proofs.HeadedLemmas.{tree_headed}
 
@@ -132,7 +132,7 @@ module _ (head : List ℕ) (pages whole : Pages) (headed : IsHeaded head pages w
 
 -- a tree stays, whatever is put beside it: no number of its own was taken in between
 module _ {S : Type 0} (pages : S → Pages) (limit : S → ℕ) (faults : S → Faults) (well : ℕ → S → Type 0) where
-  pub tree_kept : (own : Test) (first : Bool) (a b : S) (start : ℕ) → well start a → Keeps pages limit faults well first a b
+  pub tree_kept : (own : Test) (first : Bool) (a b : S) (start : ℕ) → well start a → KeepsPages pages limit faults well first a b
       → ((n : ℕ) → own n ≡ true → (pages b).accepts n ≡ (pages a).accepts n)
       → (family : Family) (root : ℕ) (listed : List Entry) → HasTree (only own (pages a)) family root listed → HasTree (only own (pages b)) family root listed
   tree_kept own first a b start told kept others family root listed has =

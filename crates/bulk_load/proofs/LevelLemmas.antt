@@ -6,13 +6,13 @@ use Rattle.db_format.specs.Pages.{Pages}
 use Rattle.btree_page.specs.Cell.{Cell}
 use Rattle.btree_page.specs.Step.{Step, steps}
 use Rattle.btree_model.specs.Content.{Entry}
-use Rattle.load_model.specs.Stands.{Stands}
+use Rattle.load_model.specs.Stands.{OpenPagesStand}
 use Rattle.btree_page.specs.Kind.{family_of}
 use Rattle.page_build.specs.Draft.{Draft}
 use Rattle.load_model.specs.Open.{Open, at_height}
 use Rattle.bulk_load.specs.declared.pair.Pair.{Pair}
 use Rattle.page_build.specs.Written.{four_bytes}
-use Rattle.bulk_load.specs.Settle.{IsNamed, IsPair, IsSettled, on}
+use Rattle.bulk_load.specs.Settle.{IsNamed, IsPair, IsLevelSettled, on}
 use Rattle.bulk_load.specs.Close.{HasCells}
 use Rattle.bulk_load.specs.Level.{AreNamed, ArePairs, waiting_steps}
 use Rattle.bulk_load.proofs.SettleLemmas.{at_height-append}
@@ -78,8 +78,8 @@ abbrev pub Settles : Pages → Pages → Draft → Draft → Pair → Pair → B
 Settles old new page after pair named answer =
     (cells : List Cell) (s : Step) (h : ℕ) (front back : List Open) (last : Option ℤ) (pushed : List Entry)
     → HasCells page old.usable cells → IsPair pair page.kind old.usable s
-    → Stands old (family_of page.kind) last (front ++ (at_height h (steps cells None) ++ (at_height h (on page.kind pair.child s) ++ back))) pushed
-    → IsSettled new after named old.usable page.kind pair.child cells s h front back last pushed answer
+    → OpenPagesStand old (family_of page.kind) last (front ++ (at_height h (steps cells None) ++ (at_height h (on page.kind pair.child s) ++ back))) pushed
+    → IsLevelSettled new after named old.usable page.kind pair.child cells s h front back last pushed answer
 
 -- the oldest pair was settled: the page has it, and the others wait
 pub record IsNext (new : Pages) (after : Draft) (named : Pair) (rest : List Pair) (usable : ℕ) (kind : Kind) (h : ℕ) (front back : List Open) (last : Option ℤ) (pushed : List Entry) (answer : Bool) : Type 0 where
@@ -88,12 +88,12 @@ pub record IsNext (new : Pages) (after : Draft) (named : Pair) (rest : List Pair
   pub s : Step
   pub n : ℕ
   pub pairs : ArePairs rest kind usable between
-  pub is : IsSettled new after named usable kind n cells s h front (at_height h (waiting_steps kind rest between) ++ back) last pushed answer
+  pub is : IsLevelSettled new after named usable kind n cells s h front (at_height h (waiting_steps kind rest between) ++ back) last pushed answer
 
 pub next_is : (old new : Pages) (page after : Draft) (items rest : List Pair) (first named : Pair) (answer : Bool) (cells : List Cell) (between todo : List Step) (h : ℕ)
     (front back : List Open) (last : Option ℤ) (pushed : List Entry) → Settles old new page after first named answer → items ≡ first ∷ rest → HasCells page old.usable cells
     → ArePairs items page.kind old.usable between → todo ≡ steps cells None ++ waiting_steps page.kind items between
-    → Stands old (family_of page.kind) last (front ++ (at_height h todo ++ back)) pushed
+    → OpenPagesStand old (family_of page.kind) last (front ++ (at_height h todo ++ back)) pushed
     → IsNext new after named rest old.usable page.kind h front back last pushed answer
 next_is old new page after items rest first named answer cells between todo h front back last pushed settles parts has pairs is st =
     let kind = page.kind in
@@ -110,6 +110,6 @@ next_is old new page after items rest first named answer cells between todo h fr
       pairs = f.4;
       is =
           settles cells f.0 h front (at_height h waits ++ back) last pushed has f.3
-          (subst (λ l. Stands old (family_of kind) last l pushed)
+          (subst (λ l. OpenPagesStand old (family_of kind) last l pushed)
           (ap (λ l. front ++ (at_height h l ++ back)) whole ∙ next_list (steps cells None) (on kind first.child f.0) waits h front back) st);
     }

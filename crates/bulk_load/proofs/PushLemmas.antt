@@ -9,7 +9,7 @@ use Rattle.btree_page.specs.declared.kind.Family.{Family}
 use Rattle.btree_page.specs.declared.kind.Family.TheVariants.{Index}
 use Rattle.btree_page.specs.declared.kind.Kind.{Kind}
 use Rattle.btree_page.specs.declared.kind.Kind.TheVariants.{IndexLeaf, IndexInterior}
-use Rattle.btree_page.specs.Cell.{Stored}
+use Rattle.btree_page.specs.Cell.{StoredCell}
 use Rattle.btree_page.specs.Payload.{local_len}
 use Rattle.db_format.specs.Pages.{Pages, Test, nothing}
 use Rattle.btree_model.specs.Range.{is_in_range}
@@ -19,7 +19,7 @@ use Rattle.btree_model.specs.Walk.{is_met, links_needed}
 use Rattle.btree_model.specs.Content.{Entry}
 use Rattle.btree_model.proofs.UnmarkedLemmas.{or_left, or_right}
 use Rattle.load_model.specs.Open.{Open, at_height, open_found}
-use Rattle.load_model.specs.Stands.{Stands, StandsBut, IsChain, IsLinks}
+use Rattle.load_model.specs.Stands.{OpenPagesStand, StandsBut, IsChain, IsLinks}
 use Rattle.btree_page.specs.Kind.{family_of}
 use Rattle.load_model.proofs.EntryLemmas.{cell_stands, chain_is, no_chain, whole_is}
 use Rattle.load_model.proofs.StandsLemmas.{not_met}
@@ -27,7 +27,7 @@ use Rattle.bulk_load.specs.declared.pair.Pair.{Pair}
 use Rattle.bulk_load.specs.declared.level.Level.{Level}
 use Rattle.bulk_load.specs.Chain.{IsPutChain}
 use Rattle.bulk_load.specs.Settle.{IsPair, on}
-use Rattle.bulk_load.specs.Level.{HoldsLevel, IsEntered}
+use Rattle.bulk_load.specs.Level.{HoldsLevel, IsEntryIn}
 use Rattle.bulk_load.specs.Levels.{opened, HoldLevels, AreOpen}
 use Rattle.bulk_load.specs.Loader.{LoadedAs, stored_as}
 use Rattle.bulk_load.proofs.LevelsLemmas.{Enters, Climbs}
@@ -60,7 +60,7 @@ module _ (old new : Pages) (family : Family) (payload : List ℕ) (n : ℕ) (lar
   abbrev local : ℕ
   local = local_len family old.usable (length payload)
 
-  abbrev stored : Stored
+  abbrev stored : StoredCell
   stored = stored_as family old.usable payload n
 
   long_local : length (take local payload) ≡ local
@@ -148,15 +148,15 @@ module _ (old new : Pages) (family : Family) (payload : List ℕ) (n : ℕ) (lar
 pub entry_stands : (old mid : Pages) (leaf : Level) (levels : List Level) (last : Option ℤ) (pushed : List Entry) (payload : List ℕ) (n : ℕ) → 480 ≤ old.usable
     → IsPutChain old mid n (drop (local_len Index old.usable (length payload)) payload) → local_len Index old.usable (length payload) ≤ length payload
     → (l : LoadedAs old leaf levels IndexLeaf last pushed)
-    → Stands mid Index last (opened 1 l.todos ++ (at_height 0 l.todo ++ (record { height = 0; leads = cell None (stored_as Index old.usable payload n) } ∷ [])))
+    → OpenPagesStand mid Index last (opened 1 l.todos ++ (at_height 0 l.todo ++ (record { height = 0; leads = cell None (stored_as Index old.usable payload n) } ∷ [])))
     (pushed ++ record { rowid = None; payload = payload } ∷ [])
 entry_stands old mid leaf levels last pushed payload n large is most l =
-    let stored : Stored = stored_as Index old.usable payload n in
+    let stored : StoredCell = stored_as Index old.usable payload n in
     let todo : List Open = opened 1 l.todos ++ (at_height 0 l.todo ++ []) in
     let one : List Open = record { height = 0; leads = cell None stored } ∷ [] in
     let c = chain_put old mid Index payload n large is most in
     let now : StandsBut c.0 mid Index last todo pushed = subst (λ ns. StandsBut ns mid Index last todo pushed) c.3 (is.keeps Index last todo pushed l.stands) in
-    subst (λ t. Stands mid Index last t (pushed ++ record { rowid = None; payload = payload } ∷ []))
+    subst (λ t. OpenPagesStand mid Index last t (pushed ++ record { rowid = None; payload = payload } ∷ []))
     (ap (λ t. (opened 1 l.todos ++ t) ++ one) (append-nil (at_height 0 l.todo)) ∙ append_assoc (opened 1 l.todos) (at_height 0 l.todo) one)
     (cell_stands mid Index last todo pushed 0 None stored c.0 payload now refl c.1
     (λ slack. chain_apart old.accepts (open_found mid Index slack [] todo) c.0 c.2
@@ -165,23 +165,23 @@ entry_stands old mid leaf levels last pushed payload n large is most l =
 -- the leaf was entered
 entered : (mid new : Pages) (leaf after : Level) (pair : Pair) (answer : Option Pair) (usable : ℕ) (kind : Kind) (todo : List Step) (s : Step) (front : List Open) (last : Option ℤ) (pushed : List Entry)
     → Enters mid new leaf after pair answer → leaf.page.kind ≡ kind → mid.usable ≡ usable → HoldsLevel leaf usable todo → IsPair pair kind usable s
-    → Stands mid (family_of kind) last (front ++ (at_height 0 todo ++ (at_height 0 (on kind pair.child s) ++ []))) pushed
-    → IsEntered new after usable kind 0 front [] last pushed answer
+    → OpenPagesStand mid (family_of kind) last (front ++ (at_height 0 todo ++ (at_height 0 (on kind pair.child s) ++ []))) pushed
+    → IsEntryIn new after usable kind 0 front [] last pushed answer
 entered mid new leaf after pair answer usable kind todo s front last pushed enters same size hold is_pair st =
     subst
-    (λ u. HoldsLevel leaf u todo → IsPair pair kind u s → IsEntered new after u kind 0 front [] last pushed answer) size
+    (λ u. HoldsLevel leaf u todo → IsPair pair kind u s → IsEntryIn new after u kind 0 front [] last pushed answer) size
     (λ hold' pair'. subst
-    (λ k. IsPair pair k mid.usable s → Stands mid (family_of k) last (front ++ (at_height 0 todo ++ (at_height 0 (on k pair.child s) ++ []))) pushed
-    → IsEntered new after mid.usable k 0 front [] last pushed answer) same
+    (λ k. IsPair pair k mid.usable s → OpenPagesStand mid (family_of k) last (front ++ (at_height 0 todo ++ (at_height 0 (on k pair.child s) ++ []))) pushed
+    → IsEntryIn new after mid.usable k 0 front [] last pushed answer) same
     (λ pair'' stands'. enters todo s 0 front [] last pushed hold' pair'' stands') pair' st) hold is_pair
 
 pub push_none : (mid new : Pages) (leaf after : Level) (levels : List Level) (pair : Pair) (answer : Option Pair) (usable : ℕ) (todo : List Step) (todos : List (List Step)) (s : Step) (last : Option ℤ) (pushed : List Entry)
     → Enters mid new leaf after pair answer → leaf.page.kind ≡ IndexLeaf → after.page.kind ≡ leaf.page.kind → mid.usable ≡ usable → new.usable ≡ usable → HoldsLevel leaf usable todo → IsPair pair IndexLeaf usable s
-    → HoldLevels levels usable IndexInterior todos → Stands mid Index last (opened 1 todos ++ (at_height 0 todo ++ (record { height = 0; leads = s } ∷ []))) pushed → answer ≡ None
+    → HoldLevels levels usable IndexInterior todos → OpenPagesStand mid Index last (opened 1 todos ++ (at_height 0 todo ++ (record { height = 0; leads = s } ∷ []))) pushed → answer ≡ None
     → LoadedAs new after levels IndexLeaf last pushed
 push_none mid new leaf after levels pair answer usable todo todos s last pushed enters same kept size size' hold is_pair above st none =
-    let e : IsEntered new after usable IndexLeaf 0 (opened 1 todos) [] last pushed None =
-    subst (λ a. IsEntered new after usable IndexLeaf 0 (opened 1 todos) [] last pushed a) none
+    let e : IsEntryIn new after usable IndexLeaf 0 (opened 1 todos) [] last pushed None =
+    subst (λ a. IsEntryIn new after usable IndexLeaf 0 (opened 1 todos) [] last pushed a) none
     (entered mid new leaf after pair answer usable IndexLeaf todo s (opened 1 todos) last pushed enters same size hold is_pair st)
     in
     record {
@@ -195,11 +195,11 @@ push_none mid new leaf after levels pair answer usable todo todos s last pushed 
 
 pub push_some : (mid new top : Pages) (leaf after : Level) (levels levels' : List Level) (pair up : Pair) (answer : Option Pair) (usable : ℕ) (todo : List Step) (todos : List (List Step)) (s : Step) (last : Option ℤ) (pushed : List Entry)
     → Enters mid new leaf after pair answer → leaf.page.kind ≡ IndexLeaf → after.page.kind ≡ leaf.page.kind → mid.usable ≡ usable → new.usable ≡ usable → top.usable ≡ usable → HoldsLevel leaf usable todo → IsPair pair IndexLeaf usable s
-    → HoldLevels levels usable IndexInterior todos → Stands mid Index last (opened 1 todos ++ (at_height 0 todo ++ (record { height = 0; leads = s } ∷ []))) pushed → answer ≡ Some up
+    → HoldLevels levels usable IndexInterior todos → OpenPagesStand mid Index last (opened 1 todos ++ (at_height 0 todo ++ (record { height = 0; leads = s } ∷ []))) pushed → answer ≡ Some up
     → Climbs new top levels levels' IndexInterior up → LoadedAs top after levels' IndexLeaf last pushed
 push_some mid new top leaf after levels levels' pair up answer usable todo todos s last pushed enters same kept size size' size'' hold is_pair above st some climbs =
-    let e : IsEntered new after usable IndexLeaf 0 (opened 1 todos) [] last pushed (Some up) =
-    subst (λ a. IsEntered new after usable IndexLeaf 0 (opened 1 todos) [] last pushed a) some
+    let e : IsEntryIn new after usable IndexLeaf 0 (opened 1 todos) [] last pushed (Some up) =
+    subst (λ a. IsEntryIn new after usable IndexLeaf 0 (opened 1 todos) [] last pushed a) some
     (entered mid new leaf after pair answer usable IndexLeaf todo s (opened 1 todos) last pushed enters same size hold is_pair st)
     in
     let o : AreOpen top levels' usable IndexInterior 1 (at_height 0 e.0 ++ []) last pushed =

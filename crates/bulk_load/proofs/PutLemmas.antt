@@ -5,7 +5,7 @@ use Rattle.std.proofs.lemmas.Bool.{eqb-true}
 use Rattle.std.specs.Cmp.Derive.{both_true}
 use Rattle.db_format.specs.Pages.{Pages, Test}
 use Rattle.load_model.specs.Stands.{IsPut}
-use Rattle.bulk_load.specs.Out.{AreAllPut, Faults, Follows, IsPutAs, IsTaken, Keeps, MarksAt, SameBut, SameNumbers, is_new}
+use Rattle.bulk_load.specs.Out.{AreAllPut, Faults, Follows, IsPutAs, IsNumberTaken, KeepsPages, MarksAt, SameBut, SameNumbers, is_new}
 use Rattle.bulk_load.specs.Own.{Covers, only}
 
 new_left : (a b c k : ℕ) → a ≤ b → b ≤ c → (nat_lt a k && nat_le k c) ≡ false → (nat_lt a k && nat_le k b) ≡ false
@@ -77,7 +77,7 @@ unput old mid n keep h = here (old.accepts n) refl
     here true is = let no : true ≡ false = sym (keep n is) ∙ h in cc
 
 module _ {S : Type 0} (pages : S → Pages) (limit : S → ℕ) (faults : S → Faults) (well : ℕ → S → Type 0) where
-  pub keeps_same : (a : S) → Keeps pages limit faults well false a a
+  pub keeps_same : (a : S) → KeepsPages pages limit faults well false a a
   keeps_same a = record {
     size = refl;
     count = omega arith;
@@ -90,8 +90,8 @@ module _ {S : Type 0} (pages : S → Pages) (limit : S → ℕ) (faults : S → 
     entropy = omega arith;
   }
 
-  pub keeps_after : (first : Bool) (a b c : S) → Follows pages limit faults well false a b → Keeps pages limit faults well first b c
-      → Keeps pages limit faults well first a c
+  pub keeps_after : (first : Bool) (a b c : S) → Follows pages limit faults well false a b → KeepsPages pages limit faults well first b c
+      → KeepsPages pages limit faults well first a c
   keeps_after first a b c f k = record {
     size = k.size ∙ f.keeps.size;
     count = let one = f.keeps.count in let two = k.count in omega arith;
@@ -133,7 +133,7 @@ module _ {S : Type 0} (pages : S → Pages) (limit : S → ℕ) (faults : S → 
       at_n n h false is = g.puts n (new_either (pages a).count (pages b).count (pages c).count n h is)
 
   -- page 1 may have been put besides
-  pub keeps_more : (first : Bool) (a b : S) → Keeps pages limit faults well false a b → Keeps pages limit faults well first a b
+  pub keeps_more : (first : Bool) (a b : S) → KeepsPages pages limit faults well false a b → KeepsPages pages limit faults well first a b
   keeps_more first a b k = record {
     size = k.size;
     count = k.count;
@@ -156,7 +156,7 @@ module _ {S : Type 0} (pages : S → Pages) (limit : S → ℕ) (faults : S → 
         by_case true is = let no : true ≡ false = sym h ∙ ap (pages a).accepts (sym (eqb-true 1 k is)) ∙ free in cc
 
     pub first_keeps : ((start : ℕ) → well start a → SameBut (pages a) (pages b) 1) → limit b ≡ limit a
-        → (faults a).disk ≤ (faults b).disk → (faults a).entropy ≤ (faults b).entropy → Keeps pages limit faults well true a b
+        → (faults a).disk ≤ (faults b).disk → (faults a).entropy ≤ (faults b).entropy → KeepsPages pages limit faults well true a b
     first_keeps told limits disk entropy =
         let same : (pages b).count ≡ (pages a).count = marks.count in
         record {
@@ -191,7 +191,7 @@ module _ {S : Type 0} (pages : S → Pages) (limit : S → ℕ) (faults : S → 
     })
 
   -- page 1 is as it was
-  pub still_free : (a b : S) → 1 ≤ (pages a).count → Keeps pages limit faults well false a b → (pages a).accepts 1 ≡ false → (pages b).accepts 1 ≡ false
+  pub still_free : (a b : S) → 1 ≤ (pages a).count → KeepsPages pages limit faults well false a b → (pages a).accepts 1 ≡ false → (pages b).accepts 1 ≡ false
   still_free a b some k free = k.others 1 refl (not_new (pages a).count (pages b).count some) ∙ free
     where
       not_new : (m p : ℕ) → 1 ≤ m → (nat_lt m 1 && nat_le 1 p) ≡ false
@@ -211,7 +211,7 @@ module _ {S : Type 0} (pages : S → Pages) (limit : S → ℕ) (faults : S → 
   -- no number was given
   pub refused_keeps : (a b : S) → SameNumbers (pages a) (pages b)
       → ((start : ℕ) → well start a → (k : ℕ) → (pages b).page k ≡ (pages a).page k) → limit b ≡ limit a
-      → (faults a).disk ≤ (faults b).disk → (faults a).entropy ≤ (faults b).entropy → Keeps pages limit faults well false a b
+      → (faults a).disk ≤ (faults b).disk → (faults a).entropy ≤ (faults b).entropy → KeepsPages pages limit faults well false a b
   refused_keeps a b same told limits disk entropy = record {
     size = same.size;
     count = let is : (pages b).count ≡ (pages a).count = same.count in omega arith;
@@ -225,7 +225,7 @@ module _ {S : Type 0} (pages : S → Pages) (limit : S → ℕ) (faults : S → 
   }
 
   -- a number was given, and a page was put there or was not
-  module _ (a b c : S) (n : ℕ) (taken : IsTaken (pages a) (pages b) n) (marks : MarksAt (pages b) (pages c) n)
+  module _ (a b c : S) (n : ℕ) (taken : IsNumberTaken (pages a) (pages b) n) (marks : MarksAt (pages b) (pages c) n)
       (told_taken : (start : ℕ) → well start a → (k : ℕ) → (pages b).page k ≡ (pages a).page k)
       (told : (start : ℕ) → well start b → SameBut (pages b) (pages c) n) (well_taken : (start : ℕ) → well start a → well start b) where
     differs : (k : ℕ) → (pages a).accepts k ≡ true → (n == k) ≡ false
@@ -237,7 +237,7 @@ module _ {S : Type 0} (pages : S → Pages) (limit : S → ℕ) (faults : S → 
             let no : true ≡ false = sym h ∙ sym (taken.accepts k) ∙ ap (pages b).accepts (sym (eqb-true n k is)) ∙ taken.free in cc
 
     pub next_keeps : limit b ≡ limit a → limit c ≡ limit b → (faults a).disk ≤ (faults b).disk → (faults b).disk ≤ (faults c).disk
-        → (faults a).entropy ≤ (faults b).entropy → (faults b).entropy ≤ (faults c).entropy → Keeps pages limit faults well false a c
+        → (faults a).entropy ≤ (faults b).entropy → (faults b).entropy ≤ (faults c).entropy → KeepsPages pages limit faults well false a c
     next_keeps limits limits' disk disk' entropy entropy' =
         let one = taken.count in
         let same = marks.count in

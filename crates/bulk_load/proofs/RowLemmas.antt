@@ -4,14 +4,14 @@ use Rattle.std.proofs.lemmas.List.{append-nil, append_assoc}
 use Rattle.btree_page.specs.declared.kind.Family.TheVariants.{Table}
 use Rattle.btree_page.specs.declared.kind.Kind.{Kind}
 use Rattle.btree_page.specs.declared.kind.Kind.TheVariants.{TableLeaf, TableInterior}
-use Rattle.btree_page.specs.Cell.{Cell, Stored, table_leaf, table_interior, index_leaf, index_interior}
+use Rattle.btree_page.specs.Cell.{Cell, StoredCell, table_leaf, table_interior, index_leaf, index_interior}
 use Rattle.btree_page.specs.Payload.{local_len}
 use Rattle.db_format.specs.Pages.{Pages}
 use Rattle.btree_page.specs.Step.{Step, steps, divider, child, entry as cell}
 use Rattle.btree_model.specs.Content.{Entry}
 use Rattle.load_model.specs.Open.{Open, at_height, open_found}
-use Rattle.load_model.specs.Stands.{IsNonePut, Stands, StandsBut, is_at_most}
-use Rattle.page_build.specs.Written.{IsWritten}
+use Rattle.load_model.specs.Stands.{IsNonePut, OpenPagesStand, StandsBut, is_at_most}
+use Rattle.page_build.specs.Written.{IsCellWritten}
 use Rattle.btree_page.specs.Kind.{family_of}
 use Rattle.load_model.proofs.RootLemmas.{nothing_stands}
 use Rattle.load_model.proofs.EntryLemmas.{cell_stands}
@@ -22,7 +22,7 @@ use Rattle.page_build.specs.Draft.{Draft, with_cell}
 use Rattle.bulk_load.specs.declared.pair.Pair.{Pair}
 use Rattle.bulk_load.specs.declared.level.Level.{Level}
 use Rattle.bulk_load.specs.Close.{HasCells}
-use Rattle.bulk_load.specs.Leaf.{HasRoom}
+use Rattle.bulk_load.specs.Leaf.{HasCellRoom}
 use Rattle.bulk_load.specs.Settle.{IsPair, may_stand, up_kind, two}
 use Rattle.bulk_load.specs.Level.{ArePairs, waiting_steps}
 use Rattle.bulk_load.specs.Levels.{opened, HoldLevels, AreOpen}
@@ -44,7 +44,7 @@ pub record Rows (pages : Pages) (leaf : Level) (levels : List Level) (last : Opt
   pub none : leaf.waiting.items ≡ []
   pub has : HasCells leaf.page pages.usable cells
   pub above : HoldLevels levels pages.usable TableInterior todos
-  pub stands : Stands pages Table last (opened 1 todos ++ at_height 0 (steps cells None)) pushed
+  pub stands : OpenPagesStand pages Table last (opened 1 todos ++ at_height 0 (steps cells None)) pushed
 
 pub rows_of : (pages : Pages) (leaf : Level) (levels : List Level) (last : Option ℤ) (pushed : List Entry) → LoadedAs pages leaf levels TableLeaf last pushed → Rows pages leaf levels last pushed
 rows_of pages leaf levels last pushed l =
@@ -57,7 +57,7 @@ rows_of pages leaf levels last pushed l =
       none = none;
       has = l.hold.has;
       above = l.above;
-      stands = subst (λ t. Stands pages Table last (opened 1 l.todos ++ t) pushed) (append-nil (at_height 0 l.todo) ∙ ap (at_height 0) todo) l.stands;
+      stands = subst (λ t. OpenPagesStand pages Table last (opened 1 l.todos ++ t) pushed) (append-nil (at_height 0 l.todo) ∙ ap (at_height 0) todo) l.stands;
     }
 
 pub rows_loaded : (pages : Pages) (leaf : Level) (levels : List Level) (last : Option ℤ) (pushed : List Entry) → Rows pages leaf levels last pushed → LoadedAs pages leaf levels TableLeaf last pushed
@@ -73,20 +73,20 @@ rows_loaded pages leaf levels last pushed r = record {
     is = sym (ap (λ i. steps r.cells None ++ waiting_steps leaf.page.kind i []) r.none ∙ append-nil (steps r.cells None));
   };
   above = r.above;
-  stands = subst (λ t. Stands pages Table last (opened 1 r.todos ++ t) pushed) (sym (append-nil (at_height 0 (steps r.cells None)))) r.stands;
+  stands = subst (λ t. OpenPagesStand pages Table last (opened 1 r.todos ++ t) pushed) (sym (append-nil (at_height 0 (steps r.cells None)))) r.stands;
 }
 
 -- what `make_room` ensures
 abbrev pub Rooms : Pages → Pages → Draft → Draft → ℤ → Option ℕ → Type 0
 Rooms old new leaf after k answer =
-    (cells : List Cell) (front : List Open) (pushed : List Entry) → HasCells leaf old.usable cells → Stands old Table (Some k) (front ++ at_height 0 (steps cells None)) pushed
-    → HasRoom new after old.usable k cells front pushed answer
+    (cells : List Cell) (front : List Open) (pushed : List Entry) → HasCells leaf old.usable cells → OpenPagesStand old Table (Some k) (front ++ at_height 0 (steps cells None)) pushed
+    → HasCellRoom new after old.usable k cells front pushed answer
 
 pub room_none : (old new : Pages) (leaf after : Level) (levels : List Level) (k : ℤ) (pushed : List Entry) (answer : Option ℕ) → Rooms old new leaf.page after.page k answer
     → Rows old leaf levels (Some k) pushed → answer ≡ None → after.page.kind ≡ leaf.page.kind → after.waiting.items ≡ leaf.waiting.items → new.usable ≡ old.usable → Rows new after levels (Some k) pushed
 room_none old new leaf after levels k pushed answer rooms r none kept waits size =
-    let e : HasRoom new after.page old.usable k r.cells (opened 1 r.todos) pushed None =
-    subst (λ a. HasRoom new after.page old.usable k r.cells (opened 1 r.todos) pushed a) none (rooms r.cells (opened 1 r.todos) pushed r.has r.stands)
+    let e : HasCellRoom new after.page old.usable k r.cells (opened 1 r.todos) pushed None =
+    subst (λ a. HasCellRoom new after.page old.usable k r.cells (opened 1 r.todos) pushed a) none (rooms r.cells (opened 1 r.todos) pushed r.has r.stands)
     in
     record {
       cells = r.cells;
@@ -102,12 +102,12 @@ pub room_some : (old mid new : Pages) (leaf after : Level) (levels levels' : Lis
     → Rows old leaf levels (Some k) pushed → answer ≡ Some m → after.page.kind ≡ leaf.page.kind → after.waiting.items ≡ leaf.waiting.items → mid.usable ≡ old.usable → new.usable ≡ old.usable
     → pair.child ≡ m → IsPair pair TableInterior old.usable (divider k) → Climbs mid new levels levels' TableInterior pair → Rows new after levels' (Some k) pushed
 room_some old mid new leaf after levels levels' k pushed answer m pair rooms r some kept waits size size' named is_pair climbs =
-    let e : HasRoom mid after.page old.usable k r.cells (opened 1 r.todos) pushed (Some m) =
-    subst (λ a. HasRoom mid after.page old.usable k r.cells (opened 1 r.todos) pushed a) some (rooms r.cells (opened 1 r.todos) pushed r.has r.stands)
+    let e : HasCellRoom mid after.page old.usable k r.cells (opened 1 r.todos) pushed (Some m) =
+    subst (λ a. HasCellRoom mid after.page old.usable k r.cells (opened 1 r.todos) pushed a) some (rooms r.cells (opened 1 r.todos) pushed r.has r.stands)
     in
     let o : AreOpen new levels' mid.usable TableInterior 1 [] (Some k) pushed =
     climbs r.todos (divider k) 1 [] (Some k) pushed refl (subst (λ u. HoldLevels levels u TableInterior r.todos) (sym size) r.above) (subst (λ u. IsPair pair TableInterior u (divider k)) (sym size) is_pair)
-    (subst (λ n. Stands mid Table (Some k) (opened 1 r.todos ++ two 1 n (divider k)) pushed) (sym named) e.1)
+    (subst (λ n. OpenPagesStand mid Table (Some k) (opened 1 r.todos ++ two 1 n (divider k)) pushed) (sym named) e.1)
     in
     record {
       cells = [];
@@ -119,7 +119,7 @@ room_some old mid new leaf after levels levels' k pushed answer m pair rooms r s
       stands = o.stands;
     }
 
-steps_row : (cells : List Cell) (r : ℤ) (stored : Stored) → steps (cells ++ table_leaf r stored ∷ []) None ≡ steps cells None ++ cell (Some r) stored ∷ []
+steps_row : (cells : List Cell) (r : ℤ) (stored : StoredCell) → steps (cells ++ table_leaf r stored ∷ []) None ≡ steps cells None ++ cell (Some r) stored ∷ []
 steps_row [] r stored = refl
 steps_row (table_leaf q s ∷ cells) r stored = ap (λ l. cell (Some q) s ∷ l) (steps_row cells r stored)
 steps_row (table_interior left k ∷ cells) r stored = ap (λ l. child left ∷ (divider k ∷ l)) (steps_row cells r stored)
@@ -129,11 +129,11 @@ steps_row (index_interior left s ∷ cells) r stored = ap (λ l. child left ∷ 
 -- the row's chain was put, and its cell added
 pub row_added : (old new : Pages) (leaf after : Level) (levels : List Level) (last : Option ℤ) (r : ℤ) (pushed : List Entry) (payload raw : List ℕ) (n : ℕ) → 480 ≤ old.usable
     → IsPutChain old new n (drop (local_len Table old.usable (length payload)) payload) → local_len Table old.usable (length payload) ≤ length payload → is_at_most last r ≡ false
-    → IsWritten TableLeaf old.usable raw (table_leaf r (stored_as Table old.usable payload n))
+    → IsCellWritten TableLeaf old.usable raw (table_leaf r (stored_as Table old.usable payload n))
     → after.page ≡ with_cell leaf.page raw → after.page.kind ≡ leaf.page.kind → after.waiting.items ≡ leaf.waiting.items
     → Rows old leaf levels last pushed → Rows new after levels (Some r) (pushed ++ record { rowid = Some r; payload = payload } ∷ [])
 row_added old new leaf after levels last r pushed payload raw n large is most above written built kept waits rows =
-    let stored : Stored = stored_as Table old.usable payload n in
+    let stored : StoredCell = stored_as Table old.usable payload n in
     let one : Cell = table_leaf r stored in
     let begun : List Open = opened 1 rows.todos ++ at_height 0 (steps rows.cells None) in
     let step : List Open = record { height = 0; leads = cell (Some r) stored } ∷ [] in
@@ -147,10 +147,10 @@ row_added old new leaf after levels last r pushed payload raw n large is most ab
       has =
           subst (λ u. HasCells after.page u (rows.cells ++ one ∷ [])) (sym is.size)
           (subst (λ d. HasCells d old.usable (rows.cells ++ one ∷ [])) (sym built)
-          (cells_more leaf.page old.usable rows.cells raw one rows.has (subst (λ k. IsWritten k old.usable raw one) (sym rows.is_kind) written)));
+          (cells_more leaf.page old.usable rows.cells raw one rows.has (subst (λ k. IsCellWritten k old.usable raw one) (sym rows.is_kind) written)));
       above = subst (λ u. HoldLevels levels u TableInterior rows.todos) (sym is.size) rows.above;
       stands =
-          subst (λ t. Stands new Table (Some r) t (pushed ++ record { rowid = Some r; payload = payload } ∷ []))
+          subst (λ t. OpenPagesStand new Table (Some r) t (pushed ++ record { rowid = Some r; payload = payload } ∷ []))
           (append_assoc (opened 1 rows.todos) (at_height 0 (steps rows.cells None)) step
           ∙ ap (λ t. opened 1 rows.todos ++ t) (sym (ap (at_height 0) (steps_row rows.cells r stored) ∙ at_height-append 0 (steps rows.cells None) (cell (Some r) stored ∷ []))))
           (cell_stands new Table last begun pushed 0 (Some r) stored c.0 payload now above c.1

@@ -5,15 +5,15 @@ use Rattle.std.proofs.lemmas.List.{append_assoc, append-nil}
 use Rattle.btree_page.specs.declared.kind.Family.{Family}
 use Rattle.btree_page.specs.declared.kind.Kind.{Kind}
 use Rattle.btree_page.specs.declared.kind.Kind.TheVariants.{IndexInterior, TableInterior, IndexLeaf, TableLeaf}
-use Rattle.btree_page.specs.Cell.{Stored, Cell, cell_of, table_leaf, table_interior, index_leaf, index_interior}
+use Rattle.btree_page.specs.Cell.{StoredCell, Cell, cell_of, table_leaf, table_interior, index_leaf, index_interior}
 use Rattle.db_format.specs.Pages.{Pages, nothing}
 use Rattle.btree_model.specs.Finding.{Finding, places, keys, entries, is_sound}
 use Rattle.btree_page.specs.Step.{Step, child, divider, entry as cell, steps}
 use Rattle.btree_model.specs.Walk.{step, walk}
 use Rattle.btree_model.specs.Content.{Entry, entry_of}
 use Rattle.load_model.specs.Open.{Open, raise, open_found, at_height}
-use Rattle.load_model.specs.Stands.{Stands, is_at_most}
-use Rattle.page_build.specs.Written.{IsWritten, AreWritten, padded, right_child, four_bytes}
+use Rattle.load_model.specs.Stands.{OpenPagesStand, is_at_most}
+use Rattle.page_build.specs.Written.{IsCellWritten, AreWritten, padded, right_child, four_bytes}
 use Rattle.btree_page.specs.Kind.{family_of, is_interior}
 use Rattle.load_model.proofs.OpenLemmas.{open-append}
 use Rattle.page_build.specs.Draft.{Draft, with_cell, without_cells}
@@ -46,7 +46,7 @@ at_height-append h [] ys = refl
 at_height-append h (x ∷ xs) ys = ap (λ l. record { height = h; leads = x } ∷ l) (at_height-append h xs ys)
 
 pub written_more : (kind : Kind) (usable : ℕ) (raws : List (List ℕ)) (cells : List Cell) (raw : List ℕ) (one : Cell) → AreWritten kind usable raws cells
-    → IsWritten kind usable raw one → AreWritten kind usable (raws ++ raw ∷ []) (cells ++ one ∷ [])
+    → IsCellWritten kind usable raw one → AreWritten kind usable (raws ++ raw ∷ []) (cells ++ one ∷ [])
 written_more kind usable [] [] raw one h g = (g, tt)
 written_more kind usable [] (c ∷ cells) raw one h g = absurd h
 written_more kind usable (r ∷ raws) [] raw one h g = absurd h
@@ -74,7 +74,7 @@ moved_found pages family slack h k front back s between =
     ∙ sym (open-append pages family slack [] front (record { height = h; leads = s } ∷ back))
 
 pub move_stands : (pages : Pages) (family : Family) (last : Option ℤ) (h k : ℕ) (front back : List Open) (s : Step) (pushed : List Entry) → is_between s ≡ true
-    → Stands pages family last (front ++ (record { height = h; leads = s } ∷ back)) pushed → Stands pages family last (front ++ (record { height = k; leads = s } ∷ back)) pushed
+    → OpenPagesStand pages family last (front ++ (record { height = h; leads = s } ∷ back)) pushed → OpenPagesStand pages family last (front ++ (record { height = k; leads = s } ∷ back)) pushed
 move_stands pages family last h k front back s pushed between st = record {
   sound = λ slack. ap is_sound (moved_found pages family slack h k front back s between) ∙ st.sound slack;
   gives = λ slack. ap (λ l. map entry_of (entries l)) (moved_found pages family slack h k front back s between) ∙ st.gives slack;
@@ -85,13 +85,13 @@ move_stands pages family last h k front back s pushed between st = record {
 
 -- the page is closed, and what stood behind its last child stands behind it
 pub closed_then : (pages : Pages) (family : Family) (last : Option ℤ) (front back : List Open) (pushed : List Entry) (h m : ℕ) (s : Step) → is_between s ≡ true
-    → Stands pages family last (front ++ (record { height = suc h; leads = child m } ∷ (record { height = h; leads = s } ∷ back))) pushed
-    → Stands pages family last (front ++ (two (suc h) m s ++ back)) pushed
+    → OpenPagesStand pages family last (front ++ (record { height = suc h; leads = child m } ∷ (record { height = h; leads = s } ∷ back))) pushed
+    → OpenPagesStand pages family last (front ++ (two (suc h) m s ++ back)) pushed
 closed_then pages family last front back pushed h m s between st =
     let front' : List Open = front ++ record { height = suc h; leads = child m } ∷ [] in
-    subst (λ l. Stands pages family last l pushed) (append_assoc front (record { height = suc h; leads = child m } ∷ []) (record { height = suc h; leads = s } ∷ back))
+    subst (λ l. OpenPagesStand pages family last l pushed) (append_assoc front (record { height = suc h; leads = child m } ∷ []) (record { height = suc h; leads = s } ∷ back))
     (move_stands pages family last h (suc h) front' back s pushed between
-    (subst (λ l. Stands pages family last l pushed) (sym (append_assoc front (record { height = suc h; leads = child m } ∷ []) (record { height = h; leads = s } ∷ back))) st))
+    (subst (λ l. OpenPagesStand pages family last l pushed) (sym (append_assoc front (record { height = suc h; leads = child m } ∷ []) (record { height = h; leads = s } ∷ back))) st))
 
 -- the pair with another child
 pub named : (items old : List ℕ) (m k : ℕ) → items ≡ four_bytes m ++ drop 4 old → k ≡ m → items ≡ four_bytes k ++ drop 4 items
@@ -100,7 +100,7 @@ named items old m k is same = is ∙ ap (λ n. four_bytes n ++ drop 4 old) (sym 
 pub rest_named : (items old : List ℕ) (m : ℕ) → items ≡ four_bytes m ++ drop 4 old → drop 4 items ≡ drop 4 old
 rest_named items old m is = ap (drop 4) is
 
-pub steps_entry : (cells : List Cell) (stored : Stored) → steps (cells ++ index_leaf stored ∷ []) None ≡ steps cells None ++ cell None stored ∷ []
+pub steps_entry : (cells : List Cell) (stored : StoredCell) → steps (cells ++ index_leaf stored ∷ []) None ≡ steps cells None ++ cell None stored ∷ []
 steps_entry [] stored = refl
 steps_entry (table_leaf rowid s ∷ cells) stored = ap (λ l. cell (Some rowid) s ∷ l) (steps_entry cells stored)
 steps_entry (table_interior left k ∷ cells) stored = ap (λ l. child left ∷ (divider k ∷ l)) (steps_entry cells stored)
@@ -186,15 +186,15 @@ with_last IndexLeaf cells n h = append-nil (at_height h (steps cells None))
 with_last TableInterior cells n h = sym (ap (at_height h) (steps_right cells n) ∙ at_height-append h (steps cells None) (child n ∷ []))
 with_last IndexInterior cells n h = sym (ap (at_height h) (steps_right cells n) ∙ at_height-append h (steps cells None) (child n ∷ []))
 
-up_here : (kind : Kind) (usable n : ℕ) (rest : List ℕ) (s : Step) → IsWritten (up_kind kind) usable (four_bytes n ++ rest) (interior_cell n s)
-    → IsWritten (up_kind kind) usable (drop (skip_of (up_kind kind)) (four_bytes n ++ rest)) (cell_on (up_kind kind) n s)
+up_here : (kind : Kind) (usable n : ℕ) (rest : List ℕ) (s : Step) → IsCellWritten (up_kind kind) usable (four_bytes n ++ rest) (interior_cell n s)
+    → IsCellWritten (up_kind kind) usable (drop (skip_of (up_kind kind)) (four_bytes n ++ rest)) (cell_on (up_kind kind) n s)
 up_here TableLeaf usable n rest s h = h
 up_here IndexLeaf usable n rest s h = h
 up_here TableInterior usable n rest s h = h
 up_here IndexInterior usable n rest s h = h
 
-up_again : (kind : Kind) (usable n : ℕ) (rest : List ℕ) (s : Step) → IsWritten (up_kind kind) usable (four_bytes n ++ rest) (interior_cell n s)
-    → IsWritten (up_kind (up_kind kind)) usable (four_bytes n ++ rest) (interior_cell n s)
+up_again : (kind : Kind) (usable n : ℕ) (rest : List ℕ) (s : Step) → IsCellWritten (up_kind kind) usable (four_bytes n ++ rest) (interior_cell n s)
+    → IsCellWritten (up_kind (up_kind kind)) usable (four_bytes n ++ rest) (interior_cell n s)
 up_again TableLeaf usable n rest s h = h
 up_again IndexLeaf usable n rest s h = h
 up_again TableInterior usable n rest s h = h
@@ -208,24 +208,24 @@ pair_up kind usable s before after m is renamed same =
     record {
       may = may_up kind s is.may;
       names = named after.cell.items before.cell.items m after.child renamed same;
-      here = λ n. up_here kind usable n (drop 4 after.cell.items) s (subst (λ l. IsWritten (up_kind kind) usable (four_bytes n ++ l) (interior_cell n s)) (sym rest) (is.up n));
-      up = λ n. up_again kind usable n (drop 4 after.cell.items) s (subst (λ l. IsWritten (up_kind kind) usable (four_bytes n ++ l) (interior_cell n s)) (sym rest) (is.up n));
+      here = λ n. up_here kind usable n (drop 4 after.cell.items) s (subst (λ l. IsCellWritten (up_kind kind) usable (four_bytes n ++ l) (interior_cell n s)) (sym rest) (is.up n));
+      up = λ n. up_again kind usable n (drop 4 after.cell.items) s (subst (λ l. IsCellWritten (up_kind kind) usable (four_bytes n ++ l) (interior_cell n s)) (sym rest) (is.up n));
     }
 
 -- bytes behind a cell that is read are not looked at
-pub padded_written : (kind : Kind) (usable : ℕ) (raw : List ℕ) (one : Cell) → IsWritten kind usable raw one → IsWritten kind usable (padded raw) one
+pub padded_written : (kind : Kind) (usable : ℕ) (raw : List ℕ) (one : Cell) → IsCellWritten kind usable raw one → IsCellWritten kind usable (padded raw) one
 padded_written kind usable raw one is = record {
   reads = λ rest. ap (cell_of kind usable) (append_assoc raw (replicate (4 - length raw) 0) rest) ∙ is.reads (replicate (4 - length raw) 0 ++ rest);
 }
 
 -- the page with one cell more
-pub cells_more : (page : Draft) (usable : ℕ) (cells : List Cell) (raw : List ℕ) (one : Cell) → HasCells page usable cells → IsWritten page.kind usable raw one
+pub cells_more : (page : Draft) (usable : ℕ) (cells : List Cell) (raw : List ℕ) (one : Cell) → HasCells page usable cells → IsCellWritten page.kind usable raw one
     → HasCells (with_cell page raw) usable (cells ++ one ∷ [])
 cells_more page usable cells raw one has is = record {
   size = has.size;
   written =
       written_more page.kind page.usable page.cells cells (padded raw) one has.written
-      (padded_written page.kind page.usable raw one (subst (λ u. IsWritten page.kind u raw one) (sym has.size) is));
+      (padded_written page.kind page.usable raw one (subst (λ u. IsCellWritten page.kind u raw one) (sym has.size) is));
 }
 
 -- and without any

@@ -9,7 +9,7 @@ use Rattle.btree_model.specs.Content.{Entry}
 use Rattle.btree_model.specs.Walk.{walk}
 use Rattle.btree_model.proofs.ContextLemmas.{and_left}
 use Rattle.bulk_load.specs.Found.{HasTree}
-use Rattle.bulk_load.specs.Out.{Faults, Keeps, is_new}
+use Rattle.bulk_load.specs.Out.{Faults, KeepsPages, is_new}
 use Rattle.bulk_load.specs.Own.{CoversNew, between, only}
 use Rattle.bulk_load.proofs.FoundLemmas.{IsFound, found_of}
 
@@ -80,7 +80,7 @@ first_none false b h = refl
 
 -- at a number that was taken before nothing is put
 pub between_same : {S : Type 0} (pages : S → Pages) (limit : S → ℕ) (faults : S → Faults) (well : ℕ → S → Type 0) (first : Bool) (a b : S)
-    → Keeps pages limit faults well first a b → (low high : ℕ) → 1 ≤ low → high ≤ (pages a).count
+    → KeepsPages pages limit faults well first a b → (low high : ℕ) → 1 ≤ low → high ≤ (pages a).count
     → (n : ℕ) → between low high n ≡ true → (pages b).accepts n ≡ (pages a).accepts n
 between_same pages limit faults well first a b kept low high some most n is =
     kept.others n (first_none first (n == 1) (not_first low high n some is)) (not_taken low high (pages a).count (pages b).count n most is)
@@ -89,7 +89,7 @@ first_old : (a b : ℕ) → 1 ≤ a → (nat_lt a 1 && nat_le 1 b) ≡ false
 first_old a b some = grind arith
 
 -- what the schema took after other trees, where no page had been put before them
-module _ {S : Type 0} {pages : S → Pages} {limit : S → ℕ} {faults : S → Faults} {well : ℕ → S → Type 0} {a b : S} (kept : Keeps pages limit faults well false a b)
+module _ {S : Type 0} {pages : S → Pages} {limit : S → ℕ} {faults : S → Faults} {well : ℕ → S → Type 0} {a b : S} (kept : KeepsPages pages limit faults well false a b)
     (some : 1 ≤ (pages a).count) (none : IsNonePut (pages a)) where
   pub took_after : (last : Pages) → CoversNew true (of_schema (pages b) last) (pages b) last
   took_after last =

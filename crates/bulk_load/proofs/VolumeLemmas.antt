@@ -4,7 +4,7 @@ use Rattle.std.proofs.lemmas.List.{length-replicate}
 use Rattle.btree_page.specs.declared.kind.Kind.{Kind}
 use Rattle.btree_page.specs.declared.kind.Kind.TheVariants.{IndexInterior, IndexLeaf, TableInterior, TableLeaf}
 use Rattle.page_build.specs.Draft.{Draft, with_cell}
-use Rattle.page_build.specs.Written.{content, padded}
+use Rattle.page_build.specs.Written.{joined_cells, padded}
 use Rattle.page_build.proofs.Append.{content-more}
 use Rattle.bulk_load.specs.declared.pair.Pair.{Pair}
 use Rattle.bulk_load.specs.declared.level.Level.{Level}
@@ -23,7 +23,7 @@ pub filled_more : (draft : Draft) (cell : List ℕ) → filled (with_cell draft 
 filled_more draft cell =
     let c : List ℕ = padded cell in
     let many : length (draft.cells ++ c ∷ []) ≡ length draft.cells + 1 = length-append draft.cells (c ∷ []) in
-    let bytes : length (content (draft.cells ++ c ∷ [])) ≡ length c + length (content draft.cells) = ap length (content-more draft.cells c) ∙ length-append c (content draft.cells) in
+    let bytes : length (joined_cells (draft.cells ++ c ∷ [])) ≡ length c + length (joined_cells draft.cells) = ap length (content-more draft.cells c) ∙ length-append c (joined_cells draft.cells) in
     let long : length c ≡ length cell + (4 - length cell) =
     length-append cell (replicate (4 - length cell) 0) ∙ ap (λ n. length cell + n) (length-replicate (4 - length cell) 0) in
     let most : max 4 (length cell) ≡ length cell + (4 - length cell) = max_is (length cell) in
@@ -39,7 +39,7 @@ filled_pair page new cell len skip is size least =
 pub filled_none : (page : Draft) → length page.cells ≡ 0 → filled page ≡ 0
 filled_none page none = go page.cells none
   where
-    go : (cells : List (List ℕ)) → length cells ≡ 0 → 2 * length cells + length (content cells) ≡ 0
+    go : (cells : List (List ℕ)) → length cells ≡ 0 → 2 * length cells + length (joined_cells cells) ≡ 0
     go [] none = refl
     go (c ∷ cells) none = let more : suc (length cells) ≡ 0 = none in absurd (omega arith)
 

@@ -10,7 +10,7 @@ use Rattle.bulk_load.specs.Count.{pages_for}
 use Rattle.bulk_load.specs.Out.{Faults, Follows}
 use Rattle.bulk_load.specs.Own.{Covers, only}
 use Rattle.load_model.specs.Open.{Open, open_found}
-use Rattle.load_model.specs.Stands.{IsPut, IsLinks, Stands, StandsBut}
+use Rattle.load_model.specs.Stands.{IsPut, IsLinks, OpenPagesStand, StandsBut}
 
 -- page n was put: it names the next page, and has these bytes and then any others
 pub record IsLink (old new : Pages) (n next : ℕ) (piece : List ℕ) : Type 0 where
@@ -33,8 +33,8 @@ pub record IsPutChain (old new : Pages) (n : ℕ) (bytes : List ℕ) : Type 0 wh
   pub size : new.usable ≡ old.usable
   pub fresh : list_any old.accepts ns ≡ false
   pub stays : (n : ℕ) → old.accepts n ≡ true → new.accepts n ≡ true
-  pub keeps : (family : Family) (last : Option ℤ) (todo : List Open) (pushed : List Entry) → Stands old family last todo pushed → StandsBut ns new family last todo pushed
-  pub same : (family : Family) (last : Option ℤ) (todo : List Open) (pushed : List Entry) → Stands old family last todo pushed → (slack : ℕ) → open_found new family slack [] todo ≡ open_found old family slack [] todo
+  pub keeps : (family : Family) (last : Option ℤ) (todo : List Open) (pushed : List Entry) → OpenPagesStand old family last todo pushed → StandsBut ns new family last todo pushed
+  pub same : (family : Family) (last : Option ℤ) (todo : List Open) (pushed : List Entry) → OpenPagesStand old family last todo pushed → (slack : ℕ) → open_found new family slack [] todo ≡ open_found old family slack [] todo
 
 -- A chain is put from its end: the bytes from `end` on stand, and what is left is `left` bytes and some whole pages. `only_fresh` is the
 -- relation of what else may change.

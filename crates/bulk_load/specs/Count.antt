@@ -46,8 +46,8 @@ AreBack [] = Unit {0}
 AreBack (level ∷ levels) = IsBack level.page level.waiting.items × AreBack levels
 
 -- nothing is held yet, or it is so
-abbrev pub IsBegun : Draft → List Pair → Type 0
-IsBegun page waiting = ((length waiting ≡ 0) × (length page.cells ≡ 0)) ⊎ IsBack page waiting
+abbrev pub IsPageBegun : Draft → List Pair → Type 0
+IsPageBegun page waiting = ((length waiting ≡ 0) × (length page.cells ≡ 0)) ⊎ IsBack page waiting
 
 -- the last that waits fits on the page
 abbrev pub CanEnd : Draft → List Pair → Type 0
@@ -59,7 +59,7 @@ CanEnd page (pair ∷ (other ∷ (third ∷ more))) = ⊥
 -- on the leaf of a table nothing waits
 abbrev pub LeafIsBack : Kind → Draft → List Pair → Type 0
 LeafIsBack TableLeaf page waiting = length waiting ≡ 0
-LeafIsBack IndexLeaf page waiting = IsBegun page waiting
+LeafIsBack IndexLeaf page waiting = IsPageBegun page waiting
 LeafIsBack TableInterior page waiting = ⊥
 LeafIsBack IndexInterior page waiting = ⊥
 

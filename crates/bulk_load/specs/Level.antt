@@ -6,7 +6,7 @@ use Rattle.db_format.specs.Pages.{Pages}
 use Rattle.btree_page.specs.Step.{Step, steps}
 use Rattle.btree_model.specs.Content.{Entry}
 use Rattle.load_model.specs.Open.{Open, at_height}
-use Rattle.load_model.specs.Stands.{Stands}
+use Rattle.load_model.specs.Stands.{OpenPagesStand}
 use Rattle.btree_page.specs.Kind.{family_of}
 use Rattle.bulk_load.specs.declared.pair.Pair.{Pair}
 use Rattle.bulk_load.specs.declared.level.Level.{Level}
@@ -18,7 +18,7 @@ AreNamed usable [] = Unit {0}
 AreNamed usable (pair ∷ pairs) = IsNamed usable pair × AreNamed usable pairs
 
 -- sizes
-pub record IsReady (level : Level) (usable : ℕ) : Type 0 where
+pub record IsLevelReady (level : Level) (usable : ℕ) : Type 0 where
   pub size : level.page.usable ≡ usable
   pub plain : level.page.header ≡ 0
   pub named : AreNamed usable level.waiting.items
@@ -44,9 +44,9 @@ pub record HoldsLevel (level : Level) (usable : ℕ) (todo : List Step) : Type 0
   pub is : todo ≡ steps cells None ++ waiting_steps level.page.kind level.waiting.items between
 
 -- after a pair entered: the level holds it, or a page of it goes up
-abbrev pub IsEntered : Pages → Level → ℕ → Kind → ℕ → List Open → List Open → Option ℤ → List Entry → Option Pair → Type 0
-IsEntered pages level usable kind h front back last pushed None =
-    (todo : List Step) × HoldsLevel level usable todo × Stands pages (family_of kind) last (front ++ (at_height h todo ++ back)) pushed
-IsEntered pages level usable kind h front back last pushed (Some up) =
+abbrev pub IsEntryIn : Pages → Level → ℕ → Kind → ℕ → List Open → List Open → Option ℤ → List Entry → Option Pair → Type 0
+IsEntryIn pages level usable kind h front back last pushed None =
+    (todo : List Step) × HoldsLevel level usable todo × OpenPagesStand pages (family_of kind) last (front ++ (at_height h todo ++ back)) pushed
+IsEntryIn pages level usable kind h front back last pushed (Some up) =
     (todo : List Step) × (s : Step) × HoldsLevel level usable todo × IsPair up (up_kind kind) usable s
-    × Stands pages (family_of kind) last (front ++ (two (suc h) up.child s ++ (at_height h todo ++ back))) pushed
+    × OpenPagesStand pages (family_of kind) last (front ++ (two (suc h) up.child s ++ (at_height h todo ++ back))) pushed

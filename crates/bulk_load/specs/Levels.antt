@@ -6,15 +6,15 @@ use Rattle.db_format.specs.Pages.{Pages}
 use Rattle.btree_page.specs.Step.{Step, steps}
 use Rattle.btree_model.specs.Content.{Entry}
 use Rattle.load_model.specs.Open.{Open, at_height}
-use Rattle.load_model.specs.Stands.{Stands}
+use Rattle.load_model.specs.Stands.{OpenPagesStand}
 use Rattle.btree_page.specs.Kind.{family_of}
 use Rattle.bulk_load.specs.declared.level.Level.{Level}
 use Rattle.bulk_load.specs.Close.{HasCells}
-use Rattle.bulk_load.specs.Level.{IsReady, HoldsLevel}
+use Rattle.bulk_load.specs.Level.{IsLevelReady, HoldsLevel}
 
 abbrev pub AreReady : List Level → ℕ → Type 0
 AreReady [] usable = Unit {0}
-AreReady (level ∷ levels) usable = IsReady level usable × AreReady levels usable
+AreReady (level ∷ levels) usable = IsLevelReady level usable × AreReady levels usable
 
 -- the steps of these levels, from the lowest up; the children of the lowest have this height
 abbrev pub opened : ℕ → List (List Step) → List Open
@@ -31,7 +31,7 @@ HoldLevels (level ∷ levels) usable kind (todo ∷ todos) = (level.page.kind �
 pub record AreOpen (pages : Pages) (levels : List Level) (usable : ℕ) (kind : Kind) (h : ℕ) (back : List Open) (last : Option ℤ) (pushed : List Entry) : Type 0 where
   pub todos : List (List Step)
   pub hold : HoldLevels levels usable kind todos
-  pub stands : Stands pages (family_of kind) last (opened h todos ++ back) pushed
+  pub stands : OpenPagesStand pages (family_of kind) last (opened h todos ++ back) pushed
 
 -- nothing waits at a level any more
 pub record IsDrained (pages : Pages) (level : Level) (above : List Level) (usable : ℕ) (kind : Kind) (h : ℕ) (back : List Open) (last : Option ℤ) (pushed : List Entry) : Type 0 where

@@ -21,7 +21,7 @@ pub record SameNumbers (old new : Pages) : Type 0 where
   pub accepts : (k : ℕ) → new.accepts k ≡ old.accepts k
 
 -- n is the next number; nothing was put there
-pub record IsTaken (old new : Pages) (n : ℕ) : Type 0 where
+pub record IsNumberTaken (old new : Pages) (n : ℕ) : Type 0 where
   pub count : new.count ≡ old.count + 1
   pub next : n ≡ new.count
   pub low : 2 ≤ n
@@ -50,7 +50,7 @@ is_new old new k = nat_lt old.count k && nat_le k new.count
 
 -- Whatever was answered: each page that was put before is put still, and only numbers that were taken in between were put, with
 -- `first` also page 1. At none of those numbers a page had been put before. Where the pages are told, those that were put before read as they did.
-pub record Keeps {S : Type 0} (pages : S → Pages) (limit : S → ℕ) (faults : S → Faults) (well : ℕ → S → Type 0) (first : Bool) (old new : S) : Type 0 where
+pub record KeepsPages {S : Type 0} (pages : S → Pages) (limit : S → ℕ) (faults : S → Faults) (well : ℕ → S → Type 0) (first : Bool) (old new : S) : Type 0 where
   pub size : (pages new).usable ≡ (pages old).usable
   pub count : (pages old).count ≤ (pages new).count
   pub put : (k : ℕ) → (pages old).accepts k ≡ true → (pages new).accepts k ≡ true
@@ -63,7 +63,7 @@ pub record Keeps {S : Type 0} (pages : S → Pages) (limit : S → ℕ) (faults 
 
 -- After Ok besides: each number that was taken in between was put, with `first` also page 1, and the pages are still told.
 pub record Follows {S : Type 0} (pages : S → Pages) (limit : S → ℕ) (faults : S → Faults) (well : ℕ → S → Type 0) (first : Bool) (old new : S) : Type 0 where
-  pub keeps : Keeps pages limit faults well first old new
+  pub keeps : KeepsPages pages limit faults well first old new
   pub puts : (k : ℕ) → is_new (pages old) (pages new) k ≡ true → (pages new).accepts k ≡ true
   pub puts_first : first ≡ true → (pages new).accepts 1 ≡ true
   pub told : (start : ℕ) → well start old → well start new

@@ -7,8 +7,8 @@ use Rattle.db_format.specs.Pages.{Pages}
 use Rattle.btree_page.specs.Step.{Step, child, divider, entry as cell, steps}
 use Rattle.btree_model.specs.Content.{Entry}
 use Rattle.load_model.specs.Open.{Open, at_height}
-use Rattle.load_model.specs.Stands.{Stands}
-use Rattle.page_build.specs.Written.{IsWritten, four_bytes}
+use Rattle.load_model.specs.Stands.{OpenPagesStand}
+use Rattle.page_build.specs.Written.{IsCellWritten, four_bytes}
 use Rattle.btree_page.specs.Kind.{family_of}
 use Rattle.page_build.specs.Draft.{Draft}
 use Rattle.bulk_load.specs.declared.pair.Pair.{Pair}
@@ -86,14 +86,14 @@ two h n s = record { height = h; leads = child n } ∷ record { height = h; lead
 pub record IsPair (pair : Pair) (kind : Kind) (usable : ℕ) (s : Step) : Type 0 where
   pub may : may_stand kind s ≡ true
   pub names : pair.cell.items ≡ four_bytes pair.child ++ drop 4 pair.cell.items
-  pub here : (n : ℕ) → IsWritten kind usable (drop (skip_of kind) (four_bytes n ++ drop 4 pair.cell.items)) (cell_on kind n s)
-  pub up : (n : ℕ) → IsWritten (up_kind kind) usable (four_bytes n ++ drop 4 pair.cell.items) (interior_cell n s)
+  pub here : (n : ℕ) → IsCellWritten kind usable (drop (skip_of kind) (four_bytes n ++ drop 4 pair.cell.items)) (cell_on kind n s)
+  pub up : (n : ℕ) → IsCellWritten (up_kind kind) usable (four_bytes n ++ drop 4 pair.cell.items) (interior_cell n s)
 
 -- the pair is on the page, or the page is closed with its child
-abbrev pub IsSettled : Pages → Draft → Pair → ℕ → Kind → ℕ → List Cell → Step → ℕ → List Open → List Open → Option ℤ → List Entry → Bool → Type 0
-IsSettled pages page pair usable kind n cells s h front back last pushed false =
+abbrev pub IsLevelSettled : Pages → Draft → Pair → ℕ → Kind → ℕ → List Cell → Step → ℕ → List Open → List Open → Option ℤ → List Entry → Bool → Type 0
+IsLevelSettled pages page pair usable kind n cells s h front back last pushed false =
     HasCells page usable (cells ++ cell_on kind n s ∷ [])
-    × Stands pages (family_of kind) last (front ++ (at_height h (steps (cells ++ cell_on kind n s ∷ []) None) ++ back)) pushed
-IsSettled pages page pair usable kind n cells s h front back last pushed true =
+    × OpenPagesStand pages (family_of kind) last (front ++ (at_height h (steps (cells ++ cell_on kind n s ∷ []) None) ++ back)) pushed
+IsLevelSettled pages page pair usable kind n cells s h front back last pushed true =
     HasCells page usable [] × IsPair pair (up_kind kind) usable s
-    × Stands pages (family_of kind) last (front ++ (two (suc h) pair.child s ++ back)) pushed
+    × OpenPagesStand pages (family_of kind) last (front ++ (two (suc h) pair.child s ++ back)) pushed

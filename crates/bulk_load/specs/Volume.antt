@@ -3,7 +3,7 @@ use Rattle.std.specs.Prelude.{ℕ, ◌+◌, ◌*◌, List, [], ◌∷◌, length
 use Rattle.btree_page.specs.declared.kind.Kind.{Kind}
 use Rattle.btree_page.specs.declared.kind.Kind.TheVariants.{IndexInterior, IndexLeaf, TableInterior, TableLeaf}
 use Rattle.page_build.specs.Draft.{Draft}
-use Rattle.page_build.specs.Written.{content}
+use Rattle.page_build.specs.Written.{joined_cells}
 use Rattle.bulk_load.specs.declared.pair.Pair.{Pair}
 use Rattle.bulk_load.specs.declared.level.Level.{Level}
 use Rattle.bulk_load.specs.declared.loader.Loader.{Loader}
@@ -14,7 +14,7 @@ price usable pages = 2 * (usable * pages)
 
 -- the bytes of its cells and their offsets
 abbrev pub filled : Draft → ℕ
-filled page = 2 * length page.cells + length (content page.cells)
+filled page = 2 * length page.cells + length (joined_cells page.cells)
 
 -- the same of what waits
 abbrev pub sizes : List Pair → ℕ

@@ -4,7 +4,7 @@ ghost use Rattle.bulk_load.specs.Chain.{IsLink, IsPutChain};
 ghost use Rattle.db_format.specs.Pages.{Test};
 ghost use Rattle.bulk_load.specs.Count.{pages_for};
 ghost use Rattle.bulk_load.specs.Own.{Covers, only};
-ghost use Rattle.bulk_load.specs.Out.{Follows, HasCause, Keeps};
+ghost use Rattle.bulk_load.specs.Out.{Follows, HasCause, KeepsPages};
 
 use crate::out::{OutError, PageOut};
 use crate::putting::put_next;
@@ -25,7 +25,7 @@ fn put_link<P: PageOut>(
     ensures low { IfOk result (λ n. 2 ≤ n) }
     ensures one { OnOk result ((P.pages out.new).count ≡ (P.pages out.old).count + 1) }
     ensures refused { OnErr result ((P.pages out.new).count ≤ (P.pages out.old).count + 1) }
-    ensures keeps { Keeps P.pages P.limit P.faults P.well false out.old out.new }
+    ensures keeps { KeepsPages P.pages P.limit P.faults P.well false out.old out.new }
     ensures follows { OnOk result (Follows P.pages P.limit P.faults P.well false out.old out.new) }
     ensures cause { IfErr result (HasCause P.pages P.limit P.faults out.old out.new) }
     ensures fresh { P.only_fresh out.old out.new }
@@ -46,7 +46,7 @@ pub fn put_chain<P: PageOut>(out: &mut P, page: &mut Vec<u8>, rest: &[u8]) -> Re
     ensures some { 0 < length rest.now → IfOk result (λ n. 2 ≤ n) }
     ensures count { OnOk result ((P.pages out.new).count ≡ (P.pages out.old).count + pages_for ((P.pages out.old).usable - 4) (length rest.now)) }
     ensures refused { OnErr result ((P.pages out.new).count ≤ (P.pages out.old).count + pages_for ((P.pages out.old).usable - 4) (length rest.now)) }
-    ensures keeps { Keeps P.pages P.limit P.faults P.well false out.old out.new }
+    ensures keeps { KeepsPages P.pages P.limit P.faults P.well false out.old out.new }
     ensures follows { OnOk result (Follows P.pages P.limit P.faults P.well false out.old out.new) }
     ensures cause { IfErr result (HasCause P.pages P.limit P.faults out.old out.new) }
     ensures fresh { P.only_fresh out.old out.new }

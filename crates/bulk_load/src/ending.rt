@@ -4,15 +4,15 @@ ghost use Rattle.btree_page.specs.Kind.{family_of};
 ghost use Rattle.btree_page.specs.Step.{Step, steps};
 ghost use Rattle.btree_model.specs.Content.{Entry};
 ghost use Rattle.load_model.specs.Open.{at_height};
-ghost use Rattle.load_model.specs.Stands.{Stands};
+ghost use Rattle.load_model.specs.Stands.{OpenPagesStand};
 ghost use Rattle.page_build.specs.Written.{right_child};
-ghost use Rattle.bulk_load.specs.Level.{IsReady, HoldsLevel};
+ghost use Rattle.bulk_load.specs.Level.{IsLevelReady, HoldsLevel};
 ghost use Rattle.bulk_load.specs.Levels.{AreReady, HoldLevels, opened};
 ghost use Rattle.db_format.specs.Pages.{Test};
 ghost use Rattle.bulk_load.specs.Count.{AreBack, CanEnd, held, load};
 ghost use Rattle.bulk_load.specs.Found.{HasTree};
 ghost use Rattle.bulk_load.specs.Own.{Covers, only};
-ghost use Rattle.bulk_load.specs.Out.{Follows, HasEndCause, Keeps, is_load_refusal};
+ghost use Rattle.bulk_load.specs.Out.{Follows, HasEndCause, KeepsPages, is_load_refusal};
 ghost use Rattle.bulk_load.specs.Settle.{up_kind};
 ghost use Rattle.bulk_load.specs.Depth.{AreLevelsShort, MayEnd, closed_below};
 ghost use Rattle.bulk_load.specs.Volume.{price, sizes, volumes};
@@ -39,7 +39,7 @@ pub fn end_levels<P: PageOut>(
     left: usize,
     at_one: bool,
 ) -> Result<u32, LoadError>
-    requires ready { IsReady level.old (P.pages out.old).usable }
+    requires ready { IsLevelReady level.old (P.pages out.old).usable }
     requires ready_above { AreReady above.old.items (P.pages out.old).usable }
     requires free { at_one ≡ true → (P.pages out.old).accepts 1 ≡ false }
     ensures tree { (start : ℕ) → P.well start out.old → (own : Test) → Covers at_one own (P.pages out.old) (P.pages out.new)
@@ -48,7 +48,7 @@ pub fn end_levels<P: PageOut>(
         → up_kind level.old.page.kind ≡ kind
         → HoldsLevel level.old (P.pages out.old).usable todo
         → HoldLevels above.old.items (P.pages out.old).usable kind todos
-        → Stands (only own (P.pages out.old)) (family_of kind) last (opened (suc h) todos ++ (at_height h todo ++ at_height h (steps [] (right_child level.old.page.kind below)))) pushed
+        → OpenPagesStand (only own (P.pages out.old)) (family_of kind) last (opened (suc h) todos ++ (at_height h todo ++ at_height h (steps [] (right_child level.old.page.kind below)))) pushed
         → IfOk result (λ root. HasTree (only own (P.pages out.new)) (family_of kind) root pushed) }
     ensures one { at_one ≡ true → IfOk result (λ root. root ≡ 1) }
     ensures count { CanEnd level.old.page level.old.waiting.items → AreBack above.old.items → (1 ≤ load level.old) ⊎ (length above.old.items ≡ 0)
@@ -60,7 +60,7 @@ pub fn end_levels<P: PageOut>(
         → IfErr result (λ error. is_load_refusal error ≡ true → (P.pages out.new).count ≡ (P.pages out.old).count) }
     ensures deep { MayEnd (P.pages out.old).usable level.old → AreLevelsShort (P.pages out.old).usable above.old.items → AreBack above.old.items
         → result ≡ Err LoadError.TooDeep → 3 ^ (left + 1) ≤ load level.old + 3 * closed_below above.old.items }
-    ensures keeps { Keeps P.pages P.limit P.faults P.well at_one out.old out.new }
+    ensures keeps { KeepsPages P.pages P.limit P.faults P.well at_one out.old out.new }
     ensures follows { OnOk result (Follows P.pages P.limit P.faults P.well at_one out.old out.new) }
     ensures cause { IfErr result (HasEndCause P.pages P.limit P.faults out.old out.new) }
     ensures fresh { P.only_fresh out.old out.new }

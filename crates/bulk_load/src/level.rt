@@ -6,12 +6,12 @@ ghost use Rattle.btree_page.specs.Kind.{family_of};
 ghost use Rattle.btree_page.specs.Step.{Step};
 ghost use Rattle.btree_model.specs.Content.{Entry};
 ghost use Rattle.load_model.specs.Open.{Open, at_height};
-ghost use Rattle.load_model.specs.Stands.{Stands};
+ghost use Rattle.load_model.specs.Stands.{OpenPagesStand};
 ghost use Rattle.bulk_load.specs.Close.{HasCells};
-ghost use Rattle.bulk_load.specs.Level.{IsReady, AreNamed, HoldsLevel, IsEntered};
-ghost use Rattle.bulk_load.specs.Count.{IsBack, IsBegun, load};
+ghost use Rattle.bulk_load.specs.Level.{IsLevelReady, AreNamed, HoldsLevel, IsEntryIn};
+ghost use Rattle.bulk_load.specs.Count.{IsBack, IsPageBegun, load};
 ghost use Rattle.bulk_load.specs.Own.{Covers, only};
-ghost use Rattle.bulk_load.specs.Out.{Follows, HasLoadCause, Keeps};
+ghost use Rattle.bulk_load.specs.Out.{Follows, HasLoadCause, KeepsPages};
 ghost use Rattle.bulk_load.specs.Settle.{IsNamed, IsPair, on};
 ghost use Rattle.bulk_load.specs.Depth.{AreShort};
 ghost use Rattle.bulk_load.specs.Volume.{level_volume, price, sizes};
@@ -36,7 +36,7 @@ impl Level {
     /// A level with an empty page.
     pub fn new(alloc: Global, usable: usize, kind: Kind) -> Result<Level, LoadError>
         requires { IsUsable usable }
-        ensures ready { IfOk result (λ level. IsReady level usable) }
+        ensures ready { IfOk result (λ level. IsLevelReady level usable) }
         ensures kind { IfOk result (λ level. level.page.kind ≡ kind) }
         ensures empty { IfOk result (λ level. HasCells level.page usable []) }
         ensures none { IfOk result (λ level. level.waiting.items ≡ []) }
@@ -54,18 +54,18 @@ impl Level {
     /// One child more. Where the page is full, it is put, and answered as a child of the level above.
     #[tactic(auto, using(crate::proofs::VolumeLemmas::sizes_pushed, crate::proofs::PutLemmas::keeps_after, crate::proofs::PutLemmas::keeps_same, crate::proofs::PutLemmas::follows_same))]
     pub fn enter<P: PageOut>(&mut self, out: &mut P, pair: Pair) -> Result<Option<Pair>, LoadError>
-        requires ready { IsReady self.old (P.pages out.old).usable }
+        requires ready { IsLevelReady self.old (P.pages out.old).usable }
         requires named { IsNamed (P.pages out.old).usable pair }
-        ensures ready { OnOk result (IsReady self.new (P.pages out.old).usable) }
+        ensures ready { OnOk result (IsLevelReady self.new (P.pages out.old).usable) }
         ensures kind { OnOk result (self.new.page.kind ≡ self.old.page.kind) }
         ensures named { IfOk result (λ up. AreNamed (P.pages out.old).usable (option_to_list up)) }
         ensures entered { (start : ℕ) → P.well start out.old → (own : Test) → Covers false own (P.pages out.old) (P.pages out.new)
             → (todo : List Step) (s : Step) (h : ℕ) (front back : List Open) (last : Option ℤ) (pushed : List Entry)
             → HoldsLevel self.old (P.pages out.old).usable todo
             → IsPair pair self.old.page.kind (P.pages out.old).usable s
-            → Stands (only own (P.pages out.old)) (family_of self.old.page.kind) last (front ++ (at_height h todo ++ (at_height h (on self.old.page.kind pair.child s) ++ back))) pushed
-            → IfOk result (IsEntered (only own (P.pages out.new)) self.new (P.pages out.old).usable self.old.page.kind h front back last pushed) }
-        ensures back { IsBegun self.old.page self.old.waiting.items → OnOk result (IsBack self.new.page self.new.waiting.items) }
+            → OpenPagesStand (only own (P.pages out.old)) (family_of self.old.page.kind) last (front ++ (at_height h todo ++ (at_height h (on self.old.page.kind pair.child s) ++ back))) pushed
+            → IfOk result (IsEntryIn (only own (P.pages out.new)) self.new (P.pages out.old).usable self.old.page.kind h front back last pushed) }
+        ensures back { IsPageBegun self.old.page self.old.waiting.items → OnOk result (IsBack self.new.page self.new.waiting.items) }
         ensures count { IfOk result (λ up. (P.pages out.new).count + (load self.new + length (option_to_list up)) ≤ (P.pages out.old).count + (load self.old + 1)) }
         ensures one { IfOk result (λ up. (P.pages out.new).count ≡ (P.pages out.old).count + length (option_to_list up)) }
         ensures refused { OnErr result ((P.pages out.new).count ≤ (P.pages out.old).count + 1) }
@@ -73,7 +73,7 @@ impl Level {
         ensures deep { AreShort (P.pages out.old).usable self.old.page.cells → IfOk result (λ up. load self.new + 3 * length (option_to_list up) ≤ load self.old + 1) }
         ensures paid { IfOk result (λ up. price (P.pages out.old).usable (P.pages out.new).count + (level_volume self.new + 6 * sizes (option_to_list up))
             ≤ price (P.pages out.old).usable (P.pages out.old).count + (level_volume self.old + 6 * (length pair.cell.items + 2))) }
-        ensures keeps { Keeps P.pages P.limit P.faults P.well false out.old out.new }
+        ensures keeps { KeepsPages P.pages P.limit P.faults P.well false out.old out.new }
         ensures follows { OnOk result (Follows P.pages P.limit P.faults P.well false out.old out.new) }
         ensures cause { IfErr result (HasLoadCause P.pages P.limit P.faults out.old out.new) }
         ensures fresh { P.only_fresh out.old out.new }

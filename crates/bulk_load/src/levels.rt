@@ -5,13 +5,13 @@ ghost use Rattle.btree_page.specs.Kind.{family_of, is_interior};
 ghost use Rattle.btree_page.specs.Step.{Step, steps, child};
 ghost use Rattle.btree_model.specs.Content.{Entry};
 ghost use Rattle.load_model.specs.Open.{Open, at_height};
-ghost use Rattle.load_model.specs.Stands.{Stands};
-ghost use Rattle.bulk_load.specs.Level.{AreNamed, IsReady, HoldsLevel};
+ghost use Rattle.load_model.specs.Stands.{OpenPagesStand};
+ghost use Rattle.bulk_load.specs.Level.{AreNamed, IsLevelReady, HoldsLevel};
 ghost use Rattle.bulk_load.specs.declared.pair.Pair.{Pair};
 ghost use Rattle.bulk_load.specs.Levels.{AreReady, HoldLevels, opened, AreOpen, IsDrained};
 ghost use Rattle.bulk_load.specs.Count.{AreBack, CanEnd, IsBack, held, load};
 ghost use Rattle.bulk_load.specs.Own.{Covers, only};
-ghost use Rattle.bulk_load.specs.Out.{Follows, HasLoadCause, Keeps};
+ghost use Rattle.bulk_load.specs.Out.{Follows, HasLoadCause, KeepsPages};
 ghost use Rattle.bulk_load.specs.Settle.{IsNamed, IsPair, two, up_kind};
 ghost use Rattle.bulk_load.specs.Depth.{AreLevelsShort, AreShort, MayEnd, closed_below};
 ghost use Rattle.bulk_load.specs.Volume.{level_volume, price, sizes, volumes};
@@ -27,7 +27,7 @@ use std::alloc::Global;
 fn over(alloc: Global, usable: usize, kind: Kind, pair: Pair) -> Result<Level, LoadError>
     requires usable { IsUsable usable }
     requires named { IsNamed usable pair }
-    ensures ready { IfOk result (λ level. IsReady level usable) }
+    ensures ready { IfOk result (λ level. IsLevelReady level usable) }
     ensures holds { (s : Step) → is_interior kind ≡ true → IsPair pair kind usable s
         → IfOk result (λ level. (level.page.kind ≡ kind) × HoldsLevel level usable (child pair.child ∷ s ∷ [])) }
     ensures back { IfOk result (λ level. IsBack level.page level.waiting.items) }
@@ -91,7 +91,7 @@ pub fn climb<P: PageOut>(
         → is_interior kind ≡ true
         → HoldLevels levels.old.items (P.pages out.old).usable kind todos
         → IsPair pair kind (P.pages out.old).usable s
-        → Stands (only own (P.pages out.old)) (family_of kind) last (opened h todos ++ (two h pair.child s ++ back)) pushed
+        → OpenPagesStand (only own (P.pages out.old)) (family_of kind) last (opened h todos ++ (two h pair.child s ++ back)) pushed
         → OnOk result (AreOpen (only own (P.pages out.new)) levels.new.items (P.pages out.old).usable kind h back last pushed) }
     ensures back { AreBack levels.old.items → OnOk result (AreBack levels.new.items) }
     ensures count { OnOk result ((P.pages out.new).count + held levels.new.items ≤ (P.pages out.old).count + (held levels.old.items + 1)) }
@@ -102,7 +102,7 @@ pub fn climb<P: PageOut>(
         ≤ price (P.pages out.old).usable (P.pages out.old).count + (volumes levels.old.items + 6 * (length pair.cell.items + 2))) }
     ensures spent { OnErr result (price (P.pages out.old).usable (P.pages out.new).count
         ≤ price (P.pages out.old).usable ((P.pages out.old).count + 1) + (volumes levels.old.items + 6 * (length pair.cell.items + 2))) }
-    ensures keeps { Keeps P.pages P.limit P.faults P.well false out.old out.new }
+    ensures keeps { KeepsPages P.pages P.limit P.faults P.well false out.old out.new }
     ensures follows { OnOk result (Follows P.pages P.limit P.faults P.well false out.old out.new) }
     ensures cause { IfErr result (HasLoadCause P.pages P.limit P.faults out.old out.new) }
     ensures fresh { P.only_fresh out.old out.new }
@@ -140,9 +140,9 @@ pub fn drain<P: PageOut>(
     out: &mut P,
     kind: Kind,
 ) -> Result<(), LoadError>
-    requires ready { IsReady level.old (P.pages out.old).usable }
+    requires ready { IsLevelReady level.old (P.pages out.old).usable }
     requires ready_above { AreReady above.old.items (P.pages out.old).usable }
-    ensures ready { OnOk result (IsReady level.new (P.pages out.old).usable) }
+    ensures ready { OnOk result (IsLevelReady level.new (P.pages out.old).usable) }
     ensures ready_above { OnOk result (AreReady above.new.items (P.pages out.old).usable) }
     ensures kind { OnOk result (level.new.page.kind ≡ level.old.page.kind) }
     ensures drained { (start : ℕ) → P.well start out.old → (own : Test) → Covers false own (P.pages out.old) (P.pages out.new)
@@ -150,7 +150,7 @@ pub fn drain<P: PageOut>(
         → up_kind level.old.page.kind ≡ kind
         → HoldsLevel level.old (P.pages out.old).usable todo
         → HoldLevels above.old.items (P.pages out.old).usable kind todos
-        → Stands (only own (P.pages out.old)) (family_of kind) last (opened (suc h) todos ++ (at_height h todo ++ back)) pushed
+        → OpenPagesStand (only own (P.pages out.old)) (family_of kind) last (opened (suc h) todos ++ (at_height h todo ++ back)) pushed
         → OnOk result (IsDrained (only own (P.pages out.new)) level.new above.new.items (P.pages out.old).usable kind h back last pushed) }
     ensures back { AreBack above.old.items → OnOk result (AreBack above.new.items) }
     ensures filled { CanEnd level.old.page level.old.waiting.items → 1 ≤ load level.old → OnOk result (1 ≤ length level.new.page.cells) }
@@ -165,7 +165,7 @@ pub fn drain<P: PageOut>(
         ≤ price (P.pages out.old).usable ((P.pages out.old).count + length level.old.waiting.items + 1) + (6 * sizes level.old.waiting.items + volumes above.old.items) }
     ensures paid { OnOk result (price (P.pages out.old).usable (P.pages out.new).count + volumes above.new.items
         ≤ price (P.pages out.old).usable ((P.pages out.old).count + length level.old.waiting.items) + (6 * sizes level.old.waiting.items + volumes above.old.items)) }
-    ensures keeps { Keeps P.pages P.limit P.faults P.well false out.old out.new }
+    ensures keeps { KeepsPages P.pages P.limit P.faults P.well false out.old out.new }
     ensures follows { OnOk result (Follows P.pages P.limit P.faults P.well false out.old out.new) }
     ensures cause { IfErr result (HasLoadCause P.pages P.limit P.faults out.old out.new) }
     ensures fresh { P.only_fresh out.old out.new }

@@ -11,7 +11,7 @@ ghost use Rattle.page_build.specs.Draft.{room_of};
 ghost use Rattle.bulk_load.specs.Chain.{IsPutChain};
 ghost use Rattle.bulk_load.specs.Count.{AreBack, KeepsBack, overflow_pages, pages_for, weight};
 ghost use Rattle.bulk_load.specs.Own.{Covers, only};
-ghost use Rattle.bulk_load.specs.Out.{Follows, HasCause, HasEndCause, HasLoadCause, Keeps, is_load_refusal};
+ghost use Rattle.bulk_load.specs.Out.{Follows, HasCause, HasEndCause, HasLoadCause, KeepsPages, is_load_refusal};
 ghost use Rattle.bulk_load.specs.Cells.{row_len};
 ghost use Rattle.bulk_load.specs.Settle.{up_kind};
 ghost use Rattle.bulk_load.specs.Bound.{entry_weight};
@@ -69,7 +69,7 @@ fn chain_of<P: PageOut>(out: &mut P, page: &mut Vec<u8>, rest: &[u8]) -> Result<
     ensures some { 1 ≤ length rest.now → IfOk result (λ n. 2 ≤ n) }
     ensures count { OnOk result ((P.pages out.new).count ≡ (P.pages out.old).count + pages_for ((P.pages out.old).usable - 4) (length rest.now)) }
     ensures refused { OnErr result ((P.pages out.new).count ≤ (P.pages out.old).count + pages_for ((P.pages out.old).usable - 4) (length rest.now)) }
-    ensures keeps { Keeps P.pages P.limit P.faults P.well false out.old out.new }
+    ensures keeps { KeepsPages P.pages P.limit P.faults P.well false out.old out.new }
     ensures follows { OnOk result (Follows P.pages P.limit P.faults P.well false out.old out.new) }
     ensures cause { IfErr result (HasLoadCause P.pages P.limit P.faults out.old out.new) }
     ensures fresh { P.only_fresh out.old out.new }
@@ -216,7 +216,7 @@ impl Loader {
         ensures flat { result ≡ Err LoadError.TooDeep → ⊥ }
         // what other answers there are, and what all of them leave
         ensures cause { (why : OutError) → result ≡ Err (LoadError.Out why) → HasCause P.pages P.limit P.faults out.old out.new why }
-        ensures keeps { Keeps P.pages P.limit P.faults P.well false out.old out.new }
+        ensures keeps { KeepsPages P.pages P.limit P.faults P.well false out.old out.new }
         ensures follows { OnOk result (Follows P.pages P.limit P.faults P.well false out.old out.new) }
         ensures fresh { P.only_fresh out.old out.new }
     {
@@ -254,7 +254,7 @@ impl Loader {
             → result ≡ Err LoadError.TooDeep → 2 ^ 28 + from ≤ (P.pages out.old).count }
         ensures one { self.at_one ≡ true → IfOk result (λ root. root ≡ 1) }
         ensures cause { IfErr result (HasEndCause P.pages P.limit P.faults out.old out.new) }
-        ensures keeps { Keeps P.pages P.limit P.faults P.well self.at_one out.old out.new }
+        ensures keeps { KeepsPages P.pages P.limit P.faults P.well self.at_one out.old out.new }
         ensures follows { OnOk result (Follows P.pages P.limit P.faults P.well self.at_one out.old out.new) }
         ensures fresh { P.only_fresh out.old out.new }
     {
@@ -298,7 +298,7 @@ impl Loader {
         ensures short { KeepsShort (P.pages out.old).usable self.old → OnOk result (KeepsShort (P.pages out.old).usable self.new) }
         ensures deep { KeepsShort (P.pages out.old).usable self.old
             → OnOk result (closed_below self.new.levels.items + (P.pages out.old).count ≤ closed_below self.old.levels.items + (P.pages out.new).count) }
-        ensures keeps { Keeps P.pages P.limit P.faults P.well false out.old out.new }
+        ensures keeps { KeepsPages P.pages P.limit P.faults P.well false out.old out.new }
         ensures follows { OnOk result (Follows P.pages P.limit P.faults P.well false out.old out.new) }
         ensures fresh { P.only_fresh out.old out.new }
     {
@@ -347,7 +347,7 @@ impl Loader {
         ensures short { KeepsShort (P.pages out.old).usable self.old → OnOk result (KeepsShort (P.pages out.old).usable self.new) }
         ensures deep { KeepsShort (P.pages out.old).usable self.old
             → OnOk result (closed_below self.new.levels.items + (P.pages out.old).count ≤ closed_below self.old.levels.items + (P.pages out.new).count) }
-        ensures keeps { Keeps P.pages P.limit P.faults P.well false out.old out.new }
+        ensures keeps { KeepsPages P.pages P.limit P.faults P.well false out.old out.new }
         ensures follows { OnOk result (Follows P.pages P.limit P.faults P.well false out.old out.new) }
         ensures fresh { P.only_fresh out.old out.new }
     {
@@ -385,7 +385,7 @@ impl Loader {
         ensures short { AreLevelsShort (P.pages out.old).usable self.old.levels.items → OnOk result (AreLevelsShort (P.pages out.old).usable self.new.levels.items) }
         ensures deep { AreLevelsShort (P.pages out.old).usable self.old.levels.items
             → OnOk result (closed_below self.new.levels.items + (P.pages out.old).count ≤ closed_below self.old.levels.items + (P.pages out.new).count) }
-        ensures keeps { Keeps P.pages P.limit P.faults P.well false out.old out.new }
+        ensures keeps { KeepsPages P.pages P.limit P.faults P.well false out.old out.new }
         ensures follows { OnOk result (Follows P.pages P.limit P.faults P.well false out.old out.new) }
         ensures fresh { P.only_fresh out.old out.new }
     {
@@ -435,7 +435,7 @@ impl Loader {
         ensures taken { OnOk result ((P.pages out.new).count ≡ (P.pages out.old).count + overflow_pages Table (P.pages out.old).usable (length payload.now)) }
         ensures paid { OnOk result (volume self.new ≡ volume self.old + 3 * (max 4 (row_len (length payload.now) rowid local) + 2)) }
         ensures few { OnErr result ((P.pages out.new).count ≤ (P.pages out.old).count + overflow_pages Table (P.pages out.old).usable (length payload.now)) }
-        ensures keeps { Keeps P.pages P.limit P.faults P.well false out.old out.new }
+        ensures keeps { KeepsPages P.pages P.limit P.faults P.well false out.old out.new }
         ensures follows { OnOk result (Follows P.pages P.limit P.faults P.well false out.old out.new) }
         ensures fresh { P.only_fresh out.old out.new }
     {

@@ -1,7 +1,7 @@
 // Where pages are put.
 ghost use Rattle.std.specs.Prelude.{◌≡◌, ◌≤◌, ◌+◌, ◌==◌, ℕ, false, true, length, IfOk, IfErr, OnOk, OnErr};
 ghost use Rattle.db_format.specs.Pages.{IsUsable, Pages};
-ghost use Rattle.bulk_load.specs.Out.{Faults, HasCause, IsTaken, MarksAt, SameBut, SameNumbers, is_refusal};
+ghost use Rattle.bulk_load.specs.Out.{Faults, HasCause, IsNumberTaken, MarksAt, SameBut, SameNumbers, is_refusal};
 
 /// Why a page was not taken or put.
 #[derive(Clone, Copy, Debug, PartialEq, Eq)]
@@ -39,7 +39,7 @@ pub trait PageOut {
 
     /// The next number.
     fn take(&mut self) -> Result<u32, OutError>
-        ensures taken { IfOk result (λ n. IsTaken (pages self.old) (pages self.new) n) }
+        ensures taken { IfOk result (λ n. IsNumberTaken (pages self.old) (pages self.new) n) }
         ensures room { OnOk result ((pages self.old).count + 1 ≤ limit self.old) }
         ensures refused { OnErr result (SameNumbers (pages self.old) (pages self.new)) }
         ensures cause { IfErr result (HasCause pages limit faults self.old self.new) }

@@ -5,15 +5,15 @@ ghost use Rattle.btree_page.specs.Kind.{family_of};
 ghost use Rattle.btree_page.specs.Step.{Step, steps};
 ghost use Rattle.btree_model.specs.Content.{Entry};
 ghost use Rattle.load_model.specs.Open.{Open, at_height};
-ghost use Rattle.load_model.specs.Stands.{Stands};
+ghost use Rattle.load_model.specs.Stands.{OpenPagesStand};
 ghost use Rattle.page_build.specs.Draft.{room_of};
 ghost use Rattle.page_build.specs.Written.{four_bytes};
 ghost use Rattle.bulk_load.specs.Close.{HasCells, SameShape};
 ghost use Rattle.db_format.specs.Pages.{Test};
 ghost use Rattle.bulk_load.specs.Count.{one_if};
 ghost use Rattle.bulk_load.specs.Own.{Covers, only};
-ghost use Rattle.bulk_load.specs.Out.{Follows, HasCause, Keeps};
-ghost use Rattle.bulk_load.specs.Settle.{IsNamed, IsPair, IsSettled, on, skip_of};
+ghost use Rattle.bulk_load.specs.Out.{Follows, HasCause, KeepsPages};
+ghost use Rattle.bulk_load.specs.Settle.{IsNamed, IsPair, IsLevelSettled, on, skip_of};
 ghost use Rattle.bulk_load.specs.Depth.{AreShort};
 ghost use Rattle.bulk_load.specs.Volume.{filled, price};
 
@@ -81,8 +81,8 @@ pub fn settle<P: PageOut>(
         → (cells : List Cell) (s : Step) (h : ℕ) (front back : List Open) (last : Option ℤ) (pushed : List Entry)
         → HasCells page.old (P.pages out.old).usable cells
         → IsPair pair.old page.old.kind (P.pages out.old).usable s
-        → Stands (only own (P.pages out.old)) (family_of page.old.kind) last (front ++ (at_height h (steps cells None) ++ (at_height h (on page.old.kind pair.old.child s) ++ back))) pushed
-        → IfOk result (IsSettled (only own (P.pages out.new)) page.new pair.new (P.pages out.old).usable page.old.kind pair.old.child cells s h front back last pushed) }
+        → OpenPagesStand (only own (P.pages out.old)) (family_of page.old.kind) last (front ++ (at_height h (steps cells None) ++ (at_height h (on page.old.kind pair.old.child s) ++ back))) pushed
+        → IfOk result (IsLevelSettled (only own (P.pages out.new)) page.new pair.new (P.pages out.old).usable page.old.kind pair.old.child cells s h front back last pushed) }
     ensures fits { length pair.old.cell.items + 2 + more ≤ room_of page.old → IfOk result (λ closed. closed ≡ false) }
     ensures empty { length page.old.cells ≡ 0 → IfOk result (λ closed. closed ≡ false) }
     ensures left { IfOk result (λ closed. closed ≡ false → more ≤ room_of page.new) }
@@ -99,7 +99,7 @@ pub fn settle<P: PageOut>(
     ensures size { OnOk result (length pair.new.cell.items ≡ length pair.old.cell.items) }
     ensures paid { more ≡ 0 → IfOk result (λ closed. price (P.pages out.old).usable (P.pages out.new).count + 6 * (filled page.new + one_if closed * (length pair.old.cell.items + 2))
         ≤ price (P.pages out.old).usable (P.pages out.old).count + 6 * (filled page.old + (length pair.old.cell.items + 2))) }
-    ensures keeps { Keeps P.pages P.limit P.faults P.well false out.old out.new }
+    ensures keeps { KeepsPages P.pages P.limit P.faults P.well false out.old out.new }
     ensures follows { OnOk result (Follows P.pages P.limit P.faults P.well false out.old out.new) }
     ensures cause { IfErr result (HasCause P.pages P.limit P.faults out.old out.new) }
     ensures fresh { P.only_fresh out.old out.new }

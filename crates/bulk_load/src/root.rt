@@ -5,13 +5,13 @@ ghost use Rattle.btree_page.specs.Kind.{family_of};
 ghost use Rattle.btree_page.specs.Step.{steps};
 ghost use Rattle.btree_model.specs.Content.{Entry};
 ghost use Rattle.load_model.specs.Open.{at_height};
-ghost use Rattle.load_model.specs.Stands.{Stands};
+ghost use Rattle.load_model.specs.Stands.{OpenPagesStand};
 ghost use Rattle.page_build.specs.Written.{right_child};
 ghost use Rattle.bulk_load.specs.Close.{HasCells, IsRoot};
 ghost use Rattle.db_format.specs.Pages.{Test};
 ghost use Rattle.bulk_load.specs.Found.{HasTree};
 ghost use Rattle.bulk_load.specs.Own.{Covers, only};
-ghost use Rattle.bulk_load.specs.Out.{Follows, HasCause, HasLoadCause, Keeps, is_load_refusal, is_refusal};
+ghost use Rattle.bulk_load.specs.Out.{Follows, HasCause, HasLoadCause, KeepsPages, is_load_refusal, is_refusal};
 ghost use Rattle.bulk_load.specs.Settle.{up_kind};
 
 use crate::closing::close;
@@ -32,7 +32,7 @@ fn put_first<P: PageOut>(page: &mut PageBuilder, out: &mut P, right: u32) -> Res
         → OnOk result (IsRoot (only own (P.pages out.old)) (only own (P.pages out.new)) 1 (record { kind = page.old.kind; cells = cells; right = right_child page.old.kind right })) }
     ensures count { (P.pages out.new).count ≡ (P.pages out.old).count }
     ensures asked { IfErr result (λ why. is_refusal why ≡ false) }
-    ensures keeps { Keeps P.pages P.limit P.faults P.well true out.old out.new }
+    ensures keeps { KeepsPages P.pages P.limit P.faults P.well true out.old out.new }
     ensures follows { OnOk result (Follows P.pages P.limit P.faults P.well true out.old out.new) }
     ensures cause { IfErr result (HasCause P.pages P.limit P.faults out.old out.new) }
     ensures fresh { P.only_fresh out.old out.new }
@@ -59,11 +59,11 @@ fn put_at_one<P: PageOut>(
         → h ≤ 18
         → up_kind page.old.kind ≡ kind
         → HasCells page.old (P.pages out.old).usable cells
-        → Stands (only own (P.pages out.old)) (family_of kind) last (at_height h (steps cells (right_child page.old.kind right))) pushed
+        → OpenPagesStand (only own (P.pages out.old)) (family_of kind) last (at_height h (steps cells (right_child page.old.kind right))) pushed
         → OnOk result (HasTree (only own (P.pages out.new)) (family_of kind) 1 pushed) }
     ensures count { (P.pages out.new).count ≤ (P.pages out.old).count + 1 }
     ensures asked { IfErr result (λ error. is_load_refusal error ≡ true → (P.pages out.new).count ≡ (P.pages out.old).count) }
-    ensures keeps { Keeps P.pages P.limit P.faults P.well true out.old out.new }
+    ensures keeps { KeepsPages P.pages P.limit P.faults P.well true out.old out.new }
     ensures follows { OnOk result (Follows P.pages P.limit P.faults P.well true out.old out.new) }
     ensures cause { IfErr result (HasLoadCause P.pages P.limit P.faults out.old out.new) }
     ensures fresh { P.only_fresh out.old out.new }
@@ -107,12 +107,12 @@ pub fn put_root<P: PageOut>(
         → h ≤ 18
         → up_kind page.old.kind ≡ kind
         → HasCells page.old (P.pages out.old).usable cells
-        → Stands (only own (P.pages out.old)) (family_of kind) last (at_height h (steps cells (right_child page.old.kind right))) pushed
+        → OpenPagesStand (only own (P.pages out.old)) (family_of kind) last (at_height h (steps cells (right_child page.old.kind right))) pushed
         → IfOk result (λ root. HasTree (only own (P.pages out.new)) (family_of kind) root pushed) }
     ensures one { at_one ≡ true → IfOk result (λ root. root ≡ 1) }
     ensures count { (P.pages out.new).count ≤ (P.pages out.old).count + 1 }
     ensures asked { IfErr result (λ error. is_load_refusal error ≡ true → (P.pages out.new).count ≡ (P.pages out.old).count) }
-    ensures keeps { Keeps P.pages P.limit P.faults P.well at_one out.old out.new }
+    ensures keeps { KeepsPages P.pages P.limit P.faults P.well at_one out.old out.new }
     ensures follows { OnOk result (Follows P.pages P.limit P.faults P.well at_one out.old out.new) }
     ensures cause { IfErr result (HasLoadCause P.pages P.limit P.faults out.old out.new) }
     ensures fresh { P.only_fresh out.old out.new }

@@ -7,7 +7,7 @@ use Rattle.std.proofs.lemmas.List.{drop-drop, length-append, length-drop, length
 use Rattle.aes_block.specs.Aes.{xor_bytes, aes256}
 use Rattle.aes_block.specs.Blocks.{block_at}
 use Rattle.cbc_mode.specs.Cbc.{cbc_encrypted, cipher_block}
-use Rattle.cbc_mode.specs.Records.{encrypted_record, record_at}
+use Rattle.cbc_mode.specs.Records.{encrypted_record, cbc_text_at}
 use Rattle.cbc_mode.proofs.BlockFacts.{block_behind, block_in_front, joined, joined_same, joined_whole, tail_more}
 use Rattle.cbc_mode.proofs.PieceFacts.{joined_split}
 
@@ -147,11 +147,11 @@ column_more f stride j old records block i h hj within size is =
 
 -- the text of record i
 abbrev pub text_of : ℕ → ℕ → List ℕ → ℕ → List ℕ
-text_of text stride records i = take (16 * text) (record_at stride records i)
+text_of text stride records i = take (16 * text) (cbc_text_at stride records i)
 
 -- its IV
 abbrev pub iv_of : ℕ → ℕ → List ℕ → ℕ → List ℕ
-iv_of text stride records i = block_at (record_at stride records i) text
+iv_of text stride records i = block_at (cbc_text_at stride records i) text
 
 -- the columns before column j are encrypted, the others are as they were, and `last` has what is added next
 pub record ColumnsUpTo (key : List ℕ) (text stride count : ℕ) (old records last : List ℕ) (j : ℕ) : Type 0 where
@@ -179,25 +179,25 @@ module _ (stride count : ℕ) (records : List ℕ) (size : length records ≡ 16
       let h : stride * suc i ≤ stride * count = mul-le-mul_left stride (omega arith) in
       omega (arith, h, mul-suc stride i)
 
-  pub length-record : length (record_at stride records i) ≡ 16 * stride
+  pub length-record : length (cbc_text_at stride records i) ≡ 16 * stride
   length-record = length-take-le (16 * stride) (drop (16 * (stride * i)) records)
       (omega (arith, length-drop (16 * (stride * i)) records, within_records))
 
-  pub block_of_record : (j : ℕ) → j < stride → block_at (record_at stride records i) j ≡ block_at records (stride * i + j)
+  pub block_of_record : (j : ℕ) → j < stride → block_at (cbc_text_at stride records i) j ≡ block_at records (stride * i + j)
   block_of_record j lt = block_in_part records (stride * i) stride j lt within_records
 
   pub block_of_text : (text j : ℕ) → text ≤ stride → j < text → block_at (text_of text stride records i) j ≡ block_at records (stride * i + j)
   block_of_text text j le lt =
-      let whole : List ℕ = record_at stride records i in
+      let whole : List ℕ = cbc_text_at stride records i in
       sym (block_in_front (take (16 * text) whole) (drop (16 * text) whole) j
       (omega (arith, length-record, length-take-le (16 * text) whole (omega (arith, length-record)))))
       ∙ ap (λ (l : List ℕ). block_at l j) (take-append-drop (16 * text) whole)
       ∙ block_of_record j (omega arith)
 
-  block_of_rest : (text j : ℕ) → text + j < stride → block_at (drop (16 * text) (record_at stride records i)) j ≡ block_at records (stride * i + (text + j))
+  block_of_rest : (text j : ℕ) → text + j < stride → block_at (drop (16 * text) (cbc_text_at stride records i)) j ≡ block_at records (stride * i + (text + j))
   block_of_rest text j lt =
       let e : 16 * text + 16 * j ≡ 16 * (text + j) = omega arith in
-      ap (take 16) (drop-drop (16 * j) (16 * text) (record_at stride records i) ∙ ap (λ (m : ℕ). drop m (record_at stride records i)) e)
+      ap (take 16) (drop-drop (16 * j) (16 * text) (cbc_text_at stride records i) ∙ ap (λ (m : ℕ). drop m (cbc_text_at stride records i)) e)
       ∙ block_of_record (text + j) lt
 
 pub columns_none : (key : List ℕ) (text stride count : ℕ) (old last : List ℕ) → length old ≡ 16 * (stride * count) → text < stride
@@ -251,20 +251,20 @@ columns_more key text stride count old records last sums again next f j size lt 
 
 pub columns_all : (key : List ℕ) (text stride count : ℕ) (old records last : List ℕ) (j : ℕ) → length old ≡ 16 * (stride * count) → text < stride
     → j ≡ text → ColumnsUpTo key text stride count old records last j
-    → (i : ℕ) → i < count → record_at stride records i ≡ encrypted_record key text (record_at stride old i)
+    → (i : ℕ) → i < count → cbc_text_at stride records i ≡ encrypted_record key text (cbc_text_at stride old i)
 unfolding cbc_encrypted
 columns_all key text stride count old records last j size iv end h i hi =
     let size2 : length records ≡ 16 * (stride * count) = h.size ∙ size in
-    let long : length (record_at stride old i) ≡ 16 * stride = length-record stride count old size i hi in
-    let long2 : length (record_at stride records i) ≡ 16 * stride = length-record stride count records size2 i hi in
+    let long : length (cbc_text_at stride old i) ≡ 16 * stride = length-record stride count old size i hi in
+    let long2 : length (cbc_text_at stride records i) ≡ 16 * stride = length-record stride count records size2 i hi in
     let n : ℕ = stride - text in
     let e : text + n ≡ stride = omega arith in
-    let own : ℕ → List ℕ = block_at (record_at stride records i) in
+    let own : ℕ → List ℕ = block_at (cbc_text_at stride records i) in
     let made : ℕ → List ℕ = λ k. cipher_block key (iv_of text stride old i) (text_of text stride old i) (suc k) in
-    let rest : List ℕ = drop (16 * text) (record_at stride old i) in
+    let rest : List ℕ = drop (16 * text) (cbc_text_at stride old i) in
     let blocks : length (text_of text stride old i) / 16 ≡ text = omega
-    (arith, long, length-take-le (16 * text) (record_at stride old i) (omega (arith, long))) in
-    sym (joined_whole (record_at stride records i) (text + n) (omega (arith, long2)))
+    (arith, long, length-take-le (16 * text) (cbc_text_at stride old i) (omega (arith, long))) in
+    sym (joined_whole (cbc_text_at stride records i) (text + n) (omega (arith, long2)))
     ∙ joined_split own text n
     ∙ (λ q. (joined_same own made text (λ k lt. block_of_record stride count records size2 i hi k (omega arith) ∙ h.done i k hi (omega arith))
     ∙ ap (joined made) (sym blocks)) q
@@ -272,4 +272,4 @@ columns_all key text stride count old records last j size iv end h i hi =
     block_of_record stride count records size2 i hi (text + k) (omega arith)
     ∙ h.left i (text + k) hi (omega arith) (omega arith)
     ∙ sym (block_of_rest stride count old size i hi text k (omega arith)))
-    ∙ joined_whole rest n (omega (arith, long, length-drop (16 * text) (record_at stride old i)))) q)
+    ∙ joined_whole rest n (omega (arith, long, length-drop (16 * text) (cbc_text_at stride old i)))) q)

@@ -4,8 +4,8 @@ use Rattle.aes_block.specs.Blocks.{block_at}
 use Rattle.cbc_mode.specs.Cbc.{cbc_encrypted}
 
 -- record i of records that have so many blocks each
-abbrev pub record_at : ℕ → List ℕ → ℕ → List ℕ
-record_at blocks records i = take (16 * blocks) (drop (16 * (blocks * i)) records)
+abbrev pub cbc_text_at : ℕ → List ℕ → ℕ → List ℕ
+cbc_text_at blocks records i = take (16 * blocks) (drop (16 * (blocks * i)) records)
 
 -- the record with its text, of so many blocks, encrypted
 abbrev pub encrypted_record : List ℕ → ℕ → List ℕ → List ℕ

@@ -3,7 +3,7 @@ ghost use Rattle.std.specs.Prelude.{◌≡◌, ◌+◌, ◌*◌, ◌≤◌, ◌+
 ghost use Rattle.std.specs.Int.{w64, to_le_bytes};
 ghost use Rattle.aes_block.specs.Aes.{xor_bytes};
 ghost use Rattle.aes_block.specs.Blocks.{block_at};
-ghost use Rattle.cbc_mode.specs.Halves.{bytes_of};
+ghost use Rattle.cbc_mode.specs.Halves.{block_bytes};
 
 /// A block as two numbers, so that it stays in registers: its first eight bytes and its last, the first
 /// of each the lowest.
@@ -45,7 +45,7 @@ impl Block {
     #[inline(always)]
     pub fn at(text: &[u8], i: usize) -> Block
         requires { 16 * i + 16 ≤ length text.now }
-        ensures { bytes_of result ≡ block_at text.now i }
+        ensures { block_bytes result ≡ block_at text.now i }
     {
         Block {
             low: half_at(text, 16 * i),
@@ -57,7 +57,7 @@ impl Block {
     #[inline(always)]
     pub fn put(self, text: &mut [u8], i: usize)
         requires { 16 * i + 16 ≤ length text.old }
-        ensures { text.new ≡ take (16 * i) text.old ++ bytes_of self ++ drop (16 * i + 16) text.old }
+        ensures { text.new ≡ take (16 * i) text.old ++ block_bytes self ++ drop (16 * i + 16) text.old }
     {
         put_half(text, 16 * i, self.low);
         put_half(text, 16 * i + 8, self.high);
@@ -66,7 +66,7 @@ impl Block {
     /// The exclusive or of two blocks.
     #[inline(always)]
     pub fn xor(self, other: Block) -> Block
-        ensures { bytes_of result ≡ xor_bytes (bytes_of self) (bytes_of other) }
+        ensures { block_bytes result ≡ xor_bytes (block_bytes self) (block_bytes other) }
     {
         Block {
             low: self.low ^ other.low,
@@ -77,7 +77,7 @@ impl Block {
     /// The block's bytes.
     #[inline(always)]
     pub fn to_bytes(self) -> [u8; 16]
-        ensures { result ≡ bytes_of self }
+        ensures { result ≡ block_bytes self }
     {
         let [a, b, c, d, e, f, g, h] = self.low.to_le_bytes();
         let [i, j, k, l, m, n, o, p] = self.high.to_le_bytes();

@@ -5,7 +5,7 @@ ghost use Rattle.std.specs.Prelude.{◌≡◌, ◌≢◌, ℕ, ◌+◌, ◌*◌,
 ghost use Rattle.aes_block.specs.Aes.{xor_bytes};
 ghost use Rattle.aes_block.specs.Blocks.{block_at};
 ghost use Rattle.aes_lanes.specs.Blocks.{block_in};
-ghost use Rattle.cbc_mode.specs.Records.{encrypted_record, record_at};
+ghost use Rattle.cbc_mode.specs.Records.{encrypted_record, cbc_text_at};
 
 use crate::block::Block;
 use aes_block::Aes256;
@@ -25,7 +25,7 @@ pub fn cbc_encrypt_records(
     requires most { count ≤ 64 }
     requires size { length records.old ≡ 16 * (stride * count) }
     ensures size { length records.new ≡ length records.old }
-    ensures value { (i : ℕ) → i < count → record_at stride records.new i ≡ encrypted_record aes.now text (record_at stride records.old i) }
+    ensures value { (i : ℕ) → i < count → cbc_text_at stride records.new i ≡ encrypted_record aes.now text (cbc_text_at stride records.old i) }
 {
     let mut last = [0u8; 1024];
     take_column(records, stride, count, text, &mut last);

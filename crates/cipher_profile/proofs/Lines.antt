@@ -4,18 +4,18 @@ use Rattle.std.specs.Prelude.{min}
 use Rattle.std.proofs.lemmas.Bool.Decides.{nat_tests}
 use Rattle.std.proofs.lemmas.List.{append-nil, drop-drop, length-take}
 use Rattle.cipher_profile.specs.declared.key_line.KeyError.TheVariants.{KeyTooLong}
-use Rattle.cipher_profile.specs.KeyLine.{after_line, first_line, line_of}
+use Rattle.cipher_profile.specs.KeyLine.{after_line, first_line, key_line_of}
 
 -- a line that is short enough is given
 line_of_short : (left line : List ℕ) → 1 ≤ length left → length line ≤ 1024 → first_line left ≡ line
-    → Ok line ≡ line_of left
+    → Ok line ≡ key_line_of left
 line_of_short [] line some short is = absurd (omega arith)
 line_of_short (byte ∷ rest) line some short is =
     let within : length (first_line (byte ∷ rest)) ≤ 1024 = omega (arith, ap length is) in
     grind (arith, nat_tests)
 
 -- a line that is too long is refused
-pub line_of_long : (left : List ℕ) → 1024 < length (first_line left) → Err KeyTooLong ≡ line_of left
+pub line_of_long : (left : List ℕ) → 1024 < length (first_line left) → Err KeyTooLong ≡ key_line_of left
 line_of_long [] long = absurd (omega arith)
 line_of_long (byte ∷ rest) long = grind (arith, nat_tests)
 
@@ -39,7 +39,7 @@ line_ended old left buffer at line ends =
 
 -- so it is given, unless it is empty
 pub line_of_ended : (old left buffer : List ℕ) (at : ℕ) → 1 ≤ at → at ≤ 1024 → at ≤ length buffer
-    → first_line old ≡ take at buffer ++ first_line left → first_line left ≡ [] → Ok (take at buffer) ≡ line_of old
+    → first_line old ≡ take at buffer ++ first_line left → first_line left ≡ [] → Ok (take at buffer) ≡ key_line_of old
 line_of_ended old left buffer at some short within line ends =
     let is = line_ended old left buffer at line ends in
     let long = length-take at buffer in

@@ -10,7 +10,7 @@ use Rattle.std.proofs.lemmas.List.{length-drop, length-take}
 use Rattle.hex.specs.declared.error.FromHexError.{FromHexError}
 use Rattle.hex.specs.Hex.{decode_of, decode_sized, is_hex_digit}
 use Rattle.hex.proofs.HexLemmas.{decode_of-digits, decode_sized-twice}
-use Rattle.cipher_profile.specs.KeyLine.{is_hex_literal, is_quoted, literal_bytes, quoted}
+use Rattle.cipher_profile.specs.KeyLine.{is_hex_literal, is_quoted, literal_bytes, key_quoted}
 
 -- a hex digit of std is one of the decoder's
 is_digit : (c : ℕ) → is_ascii_hexdigit c ≡ true → is_hex_digit c ≡ true
@@ -29,10 +29,10 @@ given (Err e) bytes is = cc is
 
 -- the literal of a raw key decodes into its 32 bytes
 pub literal_decodes : (line : List ℕ) → length line ≡ 67 → IsTrue (is_hex_literal line)
-    → decode_sized (quoted line) 32 ≡ Ok (literal_bytes line)
+    → decode_sized (key_quoted line) 32 ≡ Ok (literal_bytes line)
 literal_decodes line long literal =
-    let parts = and_parts (is_quoted line) (list_all is_ascii_hexdigit (quoted line)) literal in
-    let digits = AllPass-from_list_all is_hex_digit (quoted line) (all_digits (quoted line) parts.1) in
-    let size : length (quoted line) ≡ 64 = simp (length-take, length-drop) (omega arith) in
-    let decoded = decode_of-digits (quoted line) (omega arith) digits in
-    decode_sized-twice (quoted line) 32 (omega arith) ∙ given (decode_of (quoted line)) decoded.0 decoded.1
+    let parts = and_parts (is_quoted line) (list_all is_ascii_hexdigit (key_quoted line)) literal in
+    let digits = AllPass-from_list_all is_hex_digit (key_quoted line) (all_digits (key_quoted line) parts.1) in
+    let size : length (key_quoted line) ≡ 64 = simp (length-take, length-drop) (omega arith) in
+    let decoded = decode_of-digits (key_quoted line) (omega arith) digits in
+    decode_sized-twice (key_quoted line) 32 (omega arith) ∙ given (decode_of (key_quoted line)) decoded.0 decoded.1

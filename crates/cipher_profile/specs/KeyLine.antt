@@ -22,16 +22,16 @@ is_quoted line =
     && slice_index line (length line - 1) == 39
 
 -- what stands between the two
-abbrev pub quoted : List ℕ → List ℕ
-quoted line = slice_range line 2 (length line - 1)
+abbrev pub key_quoted : List ℕ → List ℕ
+key_quoted line = slice_range line 2 (length line - 1)
 
 -- whether a line is `x'` or `X'`, hex digits in either case, and `'`
 abbrev pub is_hex_literal : List ℕ → Bool
-is_hex_literal line = is_quoted line && list_all is_ascii_hexdigit (quoted line)
+is_hex_literal line = is_quoted line && list_all is_ascii_hexdigit (key_quoted line)
 
 -- the bytes that the digits of such a line stand for, two digits a byte
 abbrev pub literal_bytes : List ℕ → List ℕ
-literal_bytes line = result_unwrap_or (decode_of (quoted line)) []
+literal_bytes line = result_unwrap_or (decode_of (key_quoted line)) []
 
 -- what a line gives: 64 hex digits in that form are the key itself, 96 digits would be a key and a salt, and any other
 -- line is a passphrase
@@ -44,9 +44,9 @@ secret_of line =
 
 -- the first line of the bytes that are left: there is none where no byte is, and 1,025 bytes without a line feed are
 -- too many
-abbrev pub line_of : List ℕ → Result (List ℕ) KeyError
-line_of [] = Err KeyMissing
-line_of (byte ∷ rest) =
+abbrev pub key_line_of : List ℕ → Result (List ℕ) KeyError
+key_line_of [] = Err KeyMissing
+key_line_of (byte ∷ rest) =
     let line = first_line (byte ∷ rest) in if nat_lt 1024 (length line) then Err KeyTooLong else Ok line
 
 -- the line that stands in a buffer, of which this many bytes are the line's
@@ -61,7 +61,7 @@ secret_of_line (Err error) = Err error
 
 -- what the bytes that are left give as a key line
 abbrev pub key_line : List ℕ → Result Secret KeyError
-key_line left = secret_of_line (line_of left)
+key_line left = secret_of_line (key_line_of left)
 
 -- what is left once the line is taken with its line feed, or 1,025 bytes of it
 abbrev pub after_line : List ℕ → List ℕ

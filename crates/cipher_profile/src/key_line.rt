@@ -4,7 +4,7 @@ ghost use Rattle.std.specs.Char.{is_ascii_hexdigit};
 ghost use Rattle.std.specs.List.{list_all};
 ghost use Rattle.edge_model.specs.Causes.{Rose};
 ghost use Rattle.cipher_profile.specs.KeyCauses.{UnlessFault};
-ghost use Rattle.cipher_profile.specs.KeyLine.{after_line, is_hex_literal, is_quoted, key_line, line_in, line_of, literal_bytes, quoted, secret_of};
+ghost use Rattle.cipher_profile.specs.KeyLine.{after_line, is_hex_literal, is_quoted, key_line, line_in, key_line_of, literal_bytes, key_quoted, secret_of};
 
 use crate::keys::Secret;
 use crate::passphrase::{MAX_PASSPHRASE, PassBytes};
@@ -52,7 +52,7 @@ pub fn read_key<K: Source>(source: &mut K) -> Result<Secret, KeyError>
 // does not.
 fn take_line<K: Source>(source: &mut K, line: &mut [u8; MAX_TAKEN]) -> Result<usize, KeyError>
     ensures within { IfOk result (λ len. len ≤ 1024) }
-    ensures told { UnlessFault result (IsTrue K.tells → line_in line.new result ≡ line_of (K.left source.old)) }
+    ensures told { UnlessFault result (IsTrue K.tells → line_in line.new result ≡ key_line_of (K.left source.old)) }
     ensures rest { UnlessFault result (IsTrue K.tells → K.left source.new ≡ after_line (K.left source.old)) }
     ensures at_most { IsTrue K.tells → (n : ℕ) × (n ≤ 1025) × (K.left source.new ≡ drop n (K.left source.old)) }
     ensures later { K.faults source.old ≤ K.faults source.new }
@@ -101,7 +101,7 @@ fn is_quoted(line: &[u8]) -> bool
 
 fn quoted(line: &[u8]) -> &[u8]
     requires { 3 ≤ length line.now }
-    ensures { result.now ≡ quoted line.now }
+    ensures { result.now ≡ key_quoted line.now }
 {
     &line[2..line.len() - 1]
 }

@@ -5,7 +5,7 @@ use Rattle.std.specs.List.{list_all}
 use Rattle.std.proofs.lemmas.List.{take-append-drop, drop_more, nil_from_length, append-nil}
 use Rattle.std.proofs.lemmas.List.Concat.{flat_map-append}
 use Rattle.hex.specs.Hex.{encode_with, encode_lower, lower_digits}
-use Rattle.db_format.specs.Text.{is_plain, shown, escaped}
+use Rattle.db_format.specs.Text.{is_printable, shown_byte, escaped}
 
 encode_with-append : (t a b : List ℕ) → encode_with t (a ++ b) ≡ encode_with t a ++ encode_with t b
 unfolding encode_with
@@ -20,7 +20,7 @@ hex_parts n bytes =
 
 -- a text in two parts
 pub escaped_parts : (n : ℕ) (bytes : List ℕ) → escaped bytes ≡ escaped (take n bytes) ++ escaped (drop n bytes)
-escaped_parts n bytes = ap escaped (sym (take-append-drop n bytes)) ∙ flat_map-append shown (take n bytes) (drop n bytes)
+escaped_parts n bytes = ap escaped (sym (take-append-drop n bytes)) ∙ flat_map-append shown_byte (take n bytes) (drop n bytes)
 
 abbrev shown_by : ℕ → Bool → List ℕ
 shown_by byte b = cond b (byte ∷ []) (codes "\\x" ++ encode_lower (byte ∷ []))
@@ -30,14 +30,14 @@ both true b h = (refl, h)
 both false b h = absurd (cc)
 
 -- bytes that stand as themselves
-pub escaped_plain : (bytes : List ℕ) → list_all is_plain bytes ≡ true → escaped bytes ≡ bytes
+pub escaped_plain : (bytes : List ℕ) → list_all is_printable bytes ≡ true → escaped bytes ≡ bytes
 escaped_plain [] plain = refl
 escaped_plain (byte ∷ bytes) plain =
-    let each = both (is_plain byte) (list_all is_plain bytes) plain in
+    let each = both (is_printable byte) (list_all is_printable bytes) plain in
     ap (λ (l : List ℕ). l ++ escaped bytes) (ap (shown_by byte) each.0) ∙ ap (λ (l : List ℕ). byte ∷ l) (escaped_plain bytes each.1)
 
 -- a text up to its first byte that does not stand as itself, that byte, and the remainder
-pub escaped_step : (bytes : List ℕ) (run : ℕ) → list_all is_plain (take run bytes) ≡ true → run < length bytes → is_plain (slice_index bytes run) ≡ false
+pub escaped_step : (bytes : List ℕ) (run : ℕ) → list_all is_printable (take run bytes) ≡ true → run < length bytes → is_printable (slice_index bytes run) ≡ false
     → escaped bytes ≡ ((take run bytes ++ codes "\\x") ++ encode_lower (take 1 (drop run bytes))) ++ escaped (drop 1 (drop run bytes))
 escaped_step bytes run plain within other =
     let rest : drop run bytes ≡ slice_index bytes run ∷ drop (run + 1) bytes = drop_more bytes run 0 within in
@@ -51,7 +51,7 @@ escaped_step bytes run plain within other =
     )
 
 -- a text that ends before such a byte
-pub escaped_end : (bytes : List ℕ) (run : ℕ) → list_all is_plain (take run bytes) ≡ true → length (drop run bytes) ≡ 0 → escaped bytes ≡ take run bytes
+pub escaped_end : (bytes : List ℕ) (run : ℕ) → list_all is_printable (take run bytes) ≡ true → length (drop run bytes) ≡ 0 → escaped bytes ≡ take run bytes
 escaped_end bytes run plain none =
     escaped_parts run bytes
     ∙ ap (λ (l : List ℕ). l ++ escaped (drop run bytes)) (escaped_plain (take run bytes) plain)
@@ -82,7 +82,7 @@ regroup w a b c d = simp append_assoc
 pub escape_turn : (start waits left front rest other later w1 w2 w3 : List ℕ) (run : ℕ) → waits ++ escaped left ≡ start
     → front ≡ take run left → rest ≡ drop run left → other ≡ take 1 rest → later ≡ drop 1 rest
     → w1 ≡ waits ++ front → w2 ≡ w1 ++ codes "\\x" → w3 ≡ w2 ++ encode_lower other
-    → list_all is_plain (take run left) ≡ true → run < length left → is_plain (slice_index left run) ≡ false
+    → list_all is_printable (take run left) ≡ true → run < length left → is_printable (slice_index left run) ≡ false
     → w3 ++ escaped later ≡ start
 escape_turn start waits left front rest other later w1 w2 w3 run whole is-front is-rest is-other is-later is-1 is-2 is-3 plain within end =
     let at : w3 ≡ ((waits ++ take run left) ++ codes "\\x") ++ encode_lower (take 1 (drop run left)) =

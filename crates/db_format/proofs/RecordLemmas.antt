@@ -110,11 +110,6 @@ pub none-counted : (read : Option (List Datum)) → None ≡ option_map (λ valu
 none-counted None is = refl
 none-counted (Some values) is = cc
 
-pub counted-is : (read : Option (List Datum)) (n : ℕ) → option_map (λ values. length values) read ≡ Some n
-    → n ≡ length (unwrap_or read [])
-counted-is None n is = cc
-counted-is (Some values) n is = cc
-
 -- ---- a value by its place
 
 -- the first of the values and the later ones

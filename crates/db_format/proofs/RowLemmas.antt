@@ -6,14 +6,14 @@ use Rattle.std.specs.Prelude.{Result, Ok, Err, OnOk, OnErr, flat_map, unwrap_or}
 use Rattle.db_format.specs.Varint.{varint_bytes, varint_size}
 use Rattle.db_format.specs.Value.{Datum}
 use Rattle.db_format.specs.Record.{AreColumns, Column, IsRecordOf, body_of, types_of, values_in, values_of}
-use Rattle.db_format.specs.Row.{ArePieces, AreStorable, IsStorable, body_written, bytes_of, header_size, record_bytes, type_of, types_written, values_held}
+use Rattle.db_format.specs.Row.{ArePieces, AreStorable, IsStorable, body_written, datum_bytes, header_size, record_bytes, type_of, types_written, values_held}
 use Rattle.db_format.proofs.VarintLemmas.{IsVarintOf-varint_bytes, length-varint_bytes, varint_size-holds, varint_size-least, varint_size-most, varint_size-shortest}
 use Rattle.db_format.proofs.SerialLemmas.{is_written}
 use Rattle.db_format.proofs.RelationLemmas.{values_in-columns}
 
 -- a value as a column
 abbrev column_of : Datum → Column
-column_of value = record { spelling = varint_bytes (type_of value); serial = type_of value; bytes = bytes_of value }
+column_of value = record { spelling = varint_bytes (type_of value); serial = type_of value; bytes = datum_bytes value }
 
 abbrev columns_of : List Datum → List Column
 columns_of values = map column_of values
@@ -24,7 +24,7 @@ types_of-columns_of (value ∷ values) = ap (λ types. varint_bytes (type_of val
 
 body_of-columns_of : (values : List Datum) → body_of (columns_of values) ≡ body_written values
 body_of-columns_of [] = refl
-body_of-columns_of (value ∷ values) = ap (λ body. bytes_of value ++ body) (body_of-columns_of values)
+body_of-columns_of (value ∷ values) = ap (λ body. datum_bytes value ++ body) (body_of-columns_of values)
 
 columns_of-each : (values : List Datum) → AreStorable values → AreColumns (columns_of values)
 columns_of-each [] storable = tt
@@ -81,14 +81,14 @@ pub record IsPushed (types body new_types new_body : List ℕ) (value : Datum) :
   pub values : values_held new_types new_body ≡ values_held types body ++ value ∷ []
 
 pub is_pushed : (types body new_types new_body : List ℕ) (value : Datum) → ArePieces types body → IsStorable value
-    → new_types ≡ types ++ varint_bytes (type_of value) → new_body ≡ body ++ bytes_of value → IsPushed types body new_types new_body value
+    → new_types ≡ types ++ varint_bytes (type_of value) → new_body ≡ body ++ datum_bytes value → IsPushed types body new_types new_body value
 is_pushed types body new_types new_body value are is types_are body_is =
     let values = values_held types body in
     let more = values ++ value ∷ [] in
     let types_more : new_types ≡ types_written more =
     types_are ∙ ap (λ xs. xs ++ varint_bytes (type_of value)) are.types_are ∙ sym (flat_map-push (λ v. varint_bytes (type_of v)) values value) in
     let body_more : new_body ≡ body_written more =
-    body_is ∙ ap (λ xs. xs ++ bytes_of value) are.body_is ∙ sym (flat_map-push bytes_of values value) in
+    body_is ∙ ap (λ xs. xs ++ datum_bytes value) are.body_is ∙ sym (flat_map-push datum_bytes values value) in
     let storable = storable-push values value are.storable is in
     record {
       pieces = pieces_of new_types new_body more types_more body_more storable;
@@ -97,7 +97,7 @@ is_pushed types body new_types new_body value are is types_are body_is =
 
 -- one value more, or those that there were
 pub pushed : {T E : Type 0} (result : Result T E) (types body new_types new_body : List ℕ) (value : Datum) → ArePieces types body
-    → OnOk result (new_types ≡ types ++ varint_bytes (type_of value)) → OnOk result (new_body ≡ body ++ bytes_of value)
+    → OnOk result (new_types ≡ types ++ varint_bytes (type_of value)) → OnOk result (new_body ≡ body ++ datum_bytes value)
     → OnOk result (IsStorable value) → OnErr result ((new_types ≡ types) × (new_body ≡ body))
     → ArePieces new_types new_body × OnOk result (values_held new_types new_body ≡ values_held types body ++ value ∷ [])
 pushed (Ok _) types body new_types new_body value are types_are body_is storable same =

@@ -8,7 +8,7 @@ use Rattle.std.specs.Int.{w64, byte_at, bytes_high_first, cast_unsigned}
 use Rattle.std.specs.Prelude.{nat_lt, if◌then◌else◌}
 use Rattle.db_format.specs.Value.{Datum}
 use Rattle.db_format.specs.Value.Datum.{null, int, float, text, blob}
-use Rattle.db_format.specs.Row.{IsStorable, bytes_of, integer_type, steps, type_of}
+use Rattle.db_format.specs.Row.{IsStorable, datum_bytes, integer_type, steps, type_of}
 use Rattle.db_format.specs.Serial.{big_endian, is_type, size_of, value_of}
 
 -- a number of whole bytes has one bit for its sign
@@ -70,8 +70,8 @@ sign_back (negsuc n) half low near is which =
 pub record IsWritten (value : Datum) : Type 0 where
   pub small : type_of value < 2 ^ 64
   pub typed : is_type (type_of value) ≡ true
-  pub sized : size_of (type_of value) ≡ length (bytes_of value)
-  pub reads : value_of (type_of value) (bytes_of value) ≡ value
+  pub sized : size_of (type_of value) ≡ length (datum_bytes value)
+  pub reads : value_of (type_of value) (datum_bytes value) ≡ value
 
 -- an integer at one of the six widths
 at_width : (z : ℤ) (serial size : ℕ) → integer_type z ≡ serial → serial < 10 → size_of serial ≡ size

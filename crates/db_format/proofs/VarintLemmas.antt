@@ -76,10 +76,6 @@ varint-cut bytes n short end more =
     let size : varint_len bytes ≡ n + 1 = varint_len-long bytes n short all more in
     sym (rw (size, lt-leb (n + 1) (length bytes) (omega arith)) refl)
 
--- seven more bits fit 64 bits
-pub fits-more : (high n byte : ℕ) → n < 8 → high < 128 ^ n → byte < 128 → high * 128 + byte < 128 ^ (n + 1)
-fits-more high n byte few small low = rw (add-one, pow-suc 128 n) (omega arith)
-
 pub power-fits : (n : ℕ) → n ≤ 8 → 128 ^ n ≤ 2 ^ 56
 power-fits n few = pow-le-pow_right {n = 128} (omega arith) few
 

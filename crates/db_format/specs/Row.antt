@@ -27,18 +27,18 @@ type_of (text bytes) = 13 + 2 * length bytes
 type_of (blob bytes) = 12 + 2 * length bytes
 
 -- the bytes of a value in the body
-abbrev pub bytes_of : Datum → List ℕ
-bytes_of null = []
-bytes_of (int number) = bytes_high_first (size_of (integer_type number)) (cast_unsigned w64 number)
-bytes_of (float bytes) = bytes
-bytes_of (text bytes) = bytes
-bytes_of (blob bytes) = bytes
+abbrev pub datum_bytes : Datum → List ℕ
+datum_bytes null = []
+datum_bytes (int number) = bytes_high_first (size_of (integer_type number)) (cast_unsigned w64 number)
+datum_bytes (float bytes) = bytes
+datum_bytes (text bytes) = bytes
+datum_bytes (blob bytes) = bytes
 
 abbrev pub types_written : List Datum → List ℕ
 types_written values = flat_map (λ value. varint_bytes (type_of value)) values
 
 abbrev pub body_written : List Datum → List ℕ
-body_written values = flat_map bytes_of values
+body_written values = flat_map datum_bytes values
 
 -- the length of a header with so many bytes of types: they and the shortest varint that holds the whole length
 abbrev pub header_size : ℕ → ℕ

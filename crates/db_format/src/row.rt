@@ -5,7 +5,7 @@ ghost use Rattle.db_format.specs.Value.{Datum, datum_of};
 ghost use Rattle.db_format.specs.Varint.{varint_bytes, varint_size};
 ghost use Rattle.db_format.specs.Serial.{size_of};
 ghost use Rattle.db_format.specs.Record.{IsRecordOf, columns};
-ghost use Rattle.db_format.specs.Row.{ArePieces, IsStorable, bytes_of, header_size, integer_type, record_bytes, type_of, values_held};
+ghost use Rattle.db_format.specs.Row.{ArePieces, IsStorable, datum_bytes, header_size, integer_type, record_bytes, type_of, values_held};
 
 use crate::memory::OutOfMemory;
 use crate::serial::{integer_size, integer_type};
@@ -76,7 +76,7 @@ fn header_size(types: u64) -> u64
 // Appends the type and the bytes of a value, or leaves both as they were.
 fn push_column(value: Value<'_>, types: &mut Vec<u8>, body: &mut Vec<u8>) -> Result<(), OutOfMemory>
     ensures types { OnOk result (types.new.items ≡ types.old.items ++ varint_bytes (type_of (datum_of value.entry))) }
-    ensures body { OnOk result (body.new.items ≡ body.old.items ++ bytes_of (datum_of value.entry)) }
+    ensures body { OnOk result (body.new.items ≡ body.old.items ++ datum_bytes (datum_of value.entry)) }
     ensures storable { OnOk result (IsStorable (datum_of value.entry)) }
     ensures err { OnErr result ((types.new.items ≡ types.old.items) × (body.new.items ≡ body.old.items)) }
 {
@@ -105,7 +105,7 @@ fn push_type(value: Value<'_>, types: &mut Vec<u8>) -> Result<(), OutOfMemory>
 }
 
 fn push_bytes(value: Value<'_>, body: &mut Vec<u8>) -> Result<(), OutOfMemory>
-    ensures ok { OnOk result (body.new.items ≡ body.old.items ++ bytes_of (datum_of value.entry)) }
+    ensures ok { OnOk result (body.new.items ≡ body.old.items ++ datum_bytes (datum_of value.entry)) }
     ensures err { OnErr result (body.new.items ≡ body.old.items) }
 {
     match value {

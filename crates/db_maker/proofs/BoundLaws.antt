@@ -11,7 +11,7 @@ use Rattle.btree_page.specs.Payload.{local_len, most_local}
 use Rattle.btree_page.specs.declared.kind.Family.TheVariants.{Index, Table}
 use Rattle.bulk_load.specs.Bound.{chain_pages, tree_pages, weights}
 use Rattle.bulk_load.specs.Count.{overflow_pages, pages_for}
-use Rattle.db_format.specs.Row.{body_written, bytes_of, record_bytes}
+use Rattle.db_format.specs.Row.{body_written, datum_bytes, record_bytes}
 use Rattle.db_format.specs.Value.Datum.{int}
 use Rattle.db_maker.specs.Pages.{made_pages, part_pages}
 use Rattle.db_maker.specs.Parts.{entries_in, entry_in, family_in}
@@ -27,7 +27,7 @@ item_len : (i : ℕ) → length (entry_in Items i).payload ≤ 4568
 item_len i =
     let long : length (data_bytes i) ≡ i % 10 * 500 = length-map-range_with_len (data_byte i) 0 (data_len i) in
     let few : i % 10 < 10 = omega arith in
-    let number : length (bytes_of (int (pos (data_len i)))) ≤ 8 = number_short (data_len i) (omega (arith, few)) in
+    let number : length (datum_bytes (int (pos (data_len i)))) ≤ 8 = number_short (data_len i) (omega (arith, few)) in
     let name : length (item_name i) ≡ 15 = refl in
     let whole : length (record_bytes (item_values i)) ≤ 9 + 9 * 4 + length (body_written (item_values i)) = record_short (item_values i) in
     omega (
@@ -36,22 +36,22 @@ item_len i =
       number,
       long,
       few,
-      length-append (item_name i) (data_bytes i ++ (bytes_of (int (pos (data_len i))) ++ [])),
-      length-append (data_bytes i) (bytes_of (int (pos (data_len i))) ++ []),
-      length-append (bytes_of (int (pos (data_len i)))) [],
+      length-append (item_name i) (data_bytes i ++ (datum_bytes (int (pos (data_len i))) ++ [])),
+      length-append (data_bytes i) (datum_bytes (int (pos (data_len i))) ++ []),
+      length-append (datum_bytes (int (pos (data_len i)))) [],
     )
 
 name_len : (i : ℕ) → i < 2 ^ 63 → length (entry_in Names i).payload ≤ 50
 name_len i small =
-    let number : length (bytes_of (int (pos i))) ≤ 8 = number_short i small in
+    let number : length (datum_bytes (int (pos i))) ≤ 8 = number_short i small in
     let whole : length (record_bytes (name_values i)) ≤ 9 + 9 * 2 + length (body_written (name_values i)) = record_short (name_values i) in
-    omega (arith, whole, number, length-append (item_name i) (bytes_of (int (pos i)) ++ []), length-append (bytes_of (int (pos i))) [])
+    omega (arith, whole, number, length-append (item_name i) (datum_bytes (int (pos i)) ++ []), length-append (datum_bytes (int (pos i))) [])
 
 code_len : (i : ℕ) → i < 2 ^ 63 → length (entry_in Codes i).payload ≤ 50
 code_len i small =
-    let number : length (bytes_of (int (pos i))) ≤ 8 = number_short i small in
+    let number : length (datum_bytes (int (pos i))) ≤ 8 = number_short i small in
     let whole : length (record_bytes (code_values i)) ≤ 9 + 9 * 2 + length (body_written (code_values i)) = record_short (code_values i) in
-    omega (arith, whole, number, length-append (code_name i) (bytes_of (int (pos i)) ++ []), length-append (bytes_of (int (pos i))) [])
+    omega (arith, whole, number, length-append (code_name i) (datum_bytes (int (pos i)) ++ []), length-append (datum_bytes (int (pos i))) [])
 
 -- ---- its overflow pages
 

@@ -10,7 +10,7 @@ use Rattle.bulk_load.proofs.DatabaseLemmas.{IsSchemaTree, items_held, tight_held
 use Rattle.bulk_load.proofs.NamedLemmas.{root_is}
 use Rattle.db_maker.specs.declared.part.Part.{Part}
 use Rattle.db_maker.specs.declared.part.Part.TheVariants.{Items, Names, Codes}
-use Rattle.db_maker.specs.Made.{HasPart, IsMade}
+use Rattle.db_maker.specs.Made.{HasPart, IsFilled}
 use Rattle.db_maker.specs.Parts.{entries_in, family_in, part_values, schema_entries, schema_entry, view_values}
 use Rattle.btree_model.specs.Schema.{at_page, root_of}
 use Rattle.db_maker.proofs.EntryLaws.{entries_read, row_read, view_read}
@@ -95,7 +95,7 @@ module _ (pages : Pages) (rows items names codes_root : ℕ) (of_items of_names 
     );
   }
 
-  pub database_is : IsMade pages rows
+  pub database_is : IsFilled pages rows
   database_is = items_held pages of_schema (plans rows items names codes_root of_items of_names of_codes) schema_is
 
   -- where each page is one of the four

@@ -6,7 +6,7 @@ use Rattle.std.specs.List.{list_all, range_with_len}
 use Rattle.std.proofs.lemmas.List.FromFn.{length-map-range_with_len}
 use Rattle.db_format.specs.Record.{columns}
 use Rattle.btree_page.specs.Payload.{max_payload}
-use Rattle.db_format.specs.Row.{AreStorable, body_written, bytes_of, record_bytes, types_written}
+use Rattle.db_format.specs.Row.{AreStorable, body_written, datum_bytes, record_bytes, types_written}
 use Rattle.db_format.specs.Value.{Datum}
 use Rattle.db_format.specs.Value.Datum.{int}
 use Rattle.db_format.proofs.RelationLemmas.{columns-IsRecordOf}
@@ -42,26 +42,26 @@ pub entry_short : (part : Part) (i : ℕ) → i < 2 ^ 63 → length (entry_in pa
 entry_short Items i small =
     let long : length (data_bytes i) ≡ i % 10 * 500 = length-map-range_with_len (data_byte i) 0 (data_len i) in
     let few : i % 10 < 10 = omega arith in
-    let number : length (bytes_of (int (pos (data_len i)))) ≤ 8 = number_short (data_len i) (data_small i) in
+    let number : length (datum_bytes (int (pos (data_len i)))) ≤ 8 = number_short (data_len i) (data_small i) in
     let name : length (item_name i) ≡ 15 = refl in
-    let body : length (body_written (item_values i)) ≡ length (item_name i) + (length (data_bytes i) + (length (bytes_of (int (pos (data_len i)))) + 0)) =
-    length-append (item_name i) (data_bytes i ++ (bytes_of (int (pos (data_len i))) ++ []))
+    let body : length (body_written (item_values i)) ≡ length (item_name i) + (length (data_bytes i) + (length (datum_bytes (int (pos (data_len i)))) + 0)) =
+    length-append (item_name i) (data_bytes i ++ (datum_bytes (int (pos (data_len i))) ++ []))
     ∙ ap (λ n. length (item_name i) + n)
-    (length-append (data_bytes i) (bytes_of (int (pos (data_len i))) ++ []) ∙ ap (λ n. length (data_bytes i) + n) (length-append (bytes_of (int (pos (data_len i)))) [])) in
+    (length-append (data_bytes i) (datum_bytes (int (pos (data_len i))) ++ []) ∙ ap (λ n. length (data_bytes i) + n) (length-append (datum_bytes (int (pos (data_len i)))) [])) in
     let whole : length (record_bytes (item_values i)) ≤ 9 + 9 * 4 + length (body_written (item_values i)) = record_short (item_values i) in
     omega arith
 entry_short Names i small =
-    let number : length (bytes_of (int (pos i))) ≤ 8 = number_short i small in
+    let number : length (datum_bytes (int (pos i))) ≤ 8 = number_short i small in
     let name : length (item_name i) ≡ 15 = refl in
-    let body : length (body_written (name_values i)) ≡ length (item_name i) + (length (bytes_of (int (pos i))) + 0) =
-    length-append (item_name i) (bytes_of (int (pos i)) ++ []) ∙ ap (λ n. length (item_name i) + n) (length-append (bytes_of (int (pos i))) []) in
+    let body : length (body_written (name_values i)) ≡ length (item_name i) + (length (datum_bytes (int (pos i))) + 0) =
+    length-append (item_name i) (datum_bytes (int (pos i)) ++ []) ∙ ap (λ n. length (item_name i) + n) (length-append (datum_bytes (int (pos i))) []) in
     let whole : length (record_bytes (name_values i)) ≤ 9 + 9 * 2 + length (body_written (name_values i)) = record_short (name_values i) in
     omega arith
 entry_short Codes i small =
-    let number : length (bytes_of (int (pos i))) ≤ 8 = number_short i small in
+    let number : length (datum_bytes (int (pos i))) ≤ 8 = number_short i small in
     let name : length (code_name i) ≡ 11 = refl in
-    let body : length (body_written (code_values i)) ≡ length (code_name i) + (length (bytes_of (int (pos i))) + 0) =
-    length-append (code_name i) (bytes_of (int (pos i)) ++ []) ∙ ap (λ n. length (code_name i) + n) (length-append (bytes_of (int (pos i))) []) in
+    let body : length (body_written (code_values i)) ≡ length (code_name i) + (length (datum_bytes (int (pos i))) + 0) =
+    length-append (code_name i) (datum_bytes (int (pos i)) ++ []) ∙ ap (λ n. length (code_name i) + n) (length-append (datum_bytes (int (pos i))) []) in
     let whole : length (record_bytes (code_values i)) ≤ 9 + 9 * 2 + length (body_written (code_values i)) = record_short (code_values i) in
     omega arith
 

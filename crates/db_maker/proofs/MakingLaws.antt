@@ -3,12 +3,12 @@ use Rattle.std.proofs.Common.{◌≡◌, ◌≤◌, ◌<◌, ℕ, ◌^◌, ◌&&
 use Rattle.std.specs.Prelude.{nat_le}
 use Rattle.db_format.specs.Pages.{Pages, Test}
 use Rattle.btree_page.specs.declared.kind.Family.TheVariants.{Table, Index}
-use Rattle.bulk_load.specs.Out.{AreAllPut, Faults, Follows, Keeps, is_new}
+use Rattle.bulk_load.specs.Out.{AreAllPut, Faults, Follows, KeepsPages, is_new}
 use Rattle.bulk_load.specs.Own.{between, only}
 use Rattle.bulk_load.proofs.PutLemmas.{follows_all, still_free}
 use Rattle.db_maker.specs.declared.part.Part.TheVariants.{Items, Names, Codes}
 use Rattle.bulk_load.specs.Found.{HasTree, IsTightBehind}
-use Rattle.db_maker.specs.Made.{HasPart, IsMade}
+use Rattle.db_maker.specs.Made.{HasPart, IsFilled}
 use Rattle.db_maker.specs.Parts.{entries_in, schema_entries}
 use Rattle.db_maker.proofs.DatabaseLaws.{AreApart, database_is, database_tight}
 use Rattle.bulk_load.proofs.FoundLemmas.{tree_kept}
@@ -47,8 +47,8 @@ module _ {S : Type 0} (pages : S → Pages) (limit : S → ℕ) (faults : S → 
       follows_all pages limit faults well true a b e ab (follows_all pages limit faults well true b c e bc (follows_all pages limit faults well true c d e cd de))
 
   -- page 1 is put by the last of them
-  pub none_first : (a b c d : S) → 1 ≤ (pages a).count → Keeps pages limit faults well false a b → Keeps pages limit faults well false b c
-      → Keeps pages limit faults well false c d → (pages a).accepts 1 ≡ false → (pages d).accepts 1 ≡ false
+  pub none_first : (a b c d : S) → 1 ≤ (pages a).count → KeepsPages pages limit faults well false a b → KeepsPages pages limit faults well false b c
+      → KeepsPages pages limit faults well false c d → (pages a).accepts 1 ≡ false → (pages d).accepts 1 ≡ false
   none_first a b c d some ab bc cd free =
       let one : (pages a).count ≤ (pages b).count = ab.count in
       let two : (pages b).count ≤ (pages c).count = bc.count in
@@ -56,7 +56,7 @@ module _ {S : Type 0} (pages : S → Pages) (limit : S → ℕ) (faults : S → 
 
   -- what the four loads came to
   module _ (a b c d e : S) (start : ℕ) (well_a : well start a) (some : 1 ≤ (pages a).count) (ab : Follows pages limit faults well false a b)
-      (bc : Follows pages limit faults well false b c) (cd : Follows pages limit faults well false c d) (de : Keeps pages limit faults well true d e)
+      (bc : Follows pages limit faults well false b c) (cd : Follows pages limit faults well false c d) (de : KeepsPages pages limit faults well true d e)
       (rows items names codes_root : ℕ) (few : rows < 2 ^ 32) (items_few : items < 2 ^ 32) (names_few : names < 2 ^ 32) (codes_few : codes_root < 2 ^ 32)
       (t : HasPart (only (is_new (pages a) (pages b)) (pages b)) Items items rows) (u : HasPart (only (is_new (pages b) (pages c)) (pages c)) Names names rows)
       (v : HasPart (only (is_new (pages c) (pages d)) (pages d)) Codes codes_root rows)
@@ -102,7 +102,7 @@ module _ {S : Type 0} (pages : S → Pages) (limit : S → ℕ) (faults : S → 
           schema_within = λ n is other. schema_in (pages d).count (pages e).count n (omega arith) is other;
         }
 
-    pub made_of : IsMade (pages e) rows
+    pub made_of : IsFilled (pages e) rows
     made_of =
         database_is (pages e) rows items names codes_root (is_new (pages a) (pages b)) (is_new (pages b) (pages c)) (is_new (pages c) (pages d)) (of_schema (pages d) (pages e)) apart few
 

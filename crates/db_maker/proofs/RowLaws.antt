@@ -7,7 +7,7 @@ use Rattle.btree_page.specs.Payload.{max_payload}
 use Rattle.db_format.specs.Serial.{size_of}
 use Rattle.db_format.specs.Value.{Datum}
 use Rattle.db_format.specs.Value.Datum.{int}
-use Rattle.db_format.specs.Row.{body_written, bytes_of, header_size, integer_type, record_bytes, steps, type_of, types_written}
+use Rattle.db_format.specs.Row.{body_written, datum_bytes, header_size, integer_type, record_bytes, steps, type_of, types_written}
 use Rattle.db_format.specs.Varint.{varint_bytes}
 use Rattle.db_format.proofs.SerialLemmas.{is_written}
 use Rattle.db_format.proofs.VarintLemmas.{length-varint_bytes, varint_size-most}
@@ -49,9 +49,9 @@ type_small : (z : ℤ) → integer_type z ≤ 6
 unfolding integer_type
 type_small z = omega (arith, place_most (λ bits. nat_lt (steps z) (2 ^ bits)) (7 ∷ 15 ∷ 23 ∷ 31 ∷ 47 ∷ []))
 
-pub number_short : (n : ℕ) → n < 2 ^ 63 → length (bytes_of (int (pos n))) ≤ 8
+pub number_short : (n : ℕ) → n < 2 ^ 63 → length (datum_bytes (int (pos n))) ≤ 8
 number_short n small =
-    let size : size_of (integer_type (pos n)) ≡ length (bytes_of (int (pos n))) = (is_written (int (pos n)) small).sized in
+    let size : size_of (integer_type (pos n)) ≡ length (datum_bytes (int (pos n))) = (is_written (int (pos n)) small).sized in
     let most : size_of (integer_type (pos n)) ≤ 8 = size_small (integer_type (pos n)) (type_small (pos n)) in
     omega arith
 
@@ -59,7 +59,7 @@ number_short n small =
 pub row_short : (kind name table sql : List ℕ) (root : ℕ) → root < 2 ^ 63
     → length (record_bytes (schema_values kind name table root sql)) ≤ 62 + (length kind + (length name + (length table + length sql)))
 row_short kind name table sql root small =
-    let number : List ℕ = bytes_of (int (pos root)) in
+    let number : List ℕ = datum_bytes (int (pos root)) in
     let whole : length (record_bytes (schema_values kind name table root sql)) ≤ 9 + 9 * 5 + length (kind ++ (name ++ (table ++ (number ++ (sql ++ []))))) =
     record_short (schema_values kind name table root sql) in
     let most : length number ≤ 8 = number_short root small in

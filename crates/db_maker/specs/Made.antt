@@ -20,5 +20,5 @@ abbrev pub made_items : ℕ → List SchemaItem
 made_items rows = made_item 1 Items rows ∷ made_item 2 Names rows ∷ made_item 3 Codes rows ∷ alone (pos 4) (record_bytes view_values) ∷ []
 
 -- The pages are a database of so many rows, whichever header without a freelist stands in front of page 1.
-abbrev pub IsMade : Pages → ℕ → Type 0
-IsMade pages rows = HoldsItems pages (made_items rows)
+abbrev pub IsFilled : Pages → ℕ → Type 0
+IsFilled pages rows = HoldsItems pages (made_items rows)

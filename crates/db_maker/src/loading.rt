@@ -3,7 +3,7 @@ ghost use Rattle.std.specs.Prelude.{◌≡◌, ◌≤◌, ◌+◌, ◌^◌, ℕ,
 ghost use Rattle.db_format.specs.Pages.{IsUsable, Pages, Test};
 ghost use Rattle.btree_model.specs.Content.{Entry};
 ghost use Rattle.load_model.specs.Stands.{IsNonePut, last_after};
-ghost use Rattle.bulk_load.specs.Out.{Follows, HasEndCause, HasLoadCause, Keeps};
+ghost use Rattle.bulk_load.specs.Out.{Follows, HasEndCause, HasLoadCause, KeepsPages};
 ghost use Rattle.bulk_load.specs.Own.{Covers, CoversNew, only};
 ghost use Rattle.bulk_load.specs.Loader.{IsLoader, Loaded, family_of_loader, is_late};
 ghost use Rattle.db_maker.specs.Made.{HasPart};
@@ -31,7 +31,7 @@ pub(crate) fn load_part<P: PageOut>(
     ensures few { (P.pages out.new).count ≤ (P.pages out.old).count + part_pages (P.pages out.old).usable part rows }
     ensures asked { IfErr result (λ error. is_load_refusal error ≡ true → (P.pages out.new).count + 1 ≤ (P.pages out.old).count + part_pages (P.pages out.old).usable part rows) }
     ensures deep { result ≡ Err LoadError.TooDeep → 2 ^ 28 ≤ (P.pages out.new).count }
-    ensures keeps { Keeps P.pages P.limit P.faults P.well false out.old out.new }
+    ensures keeps { KeepsPages P.pages P.limit P.faults P.well false out.old out.new }
     ensures follows { OnOk result (Follows P.pages P.limit P.faults P.well false out.old out.new) }
     ensures fresh { P.only_fresh out.old out.new }
 {
@@ -78,7 +78,7 @@ fn push_rows<P: PageOut>(
         → OnOk result (TookFew (family_in part) (P.pages out.old).usable (P.pages out.old).count (entries_in part rows) (P.pages out.new).count loader.new) }
     ensures few { TookFew (family_in part) (P.pages out.old).usable (P.pages out.old).count [] (P.pages out.old).count loader.old
         → OnErr result ((P.pages out.new).count + 1 ≤ (P.pages out.old).count + part_pages (P.pages out.old).usable part rows) }
-    ensures keeps { Keeps P.pages P.limit P.faults P.well false out.old out.new }
+    ensures keeps { KeepsPages P.pages P.limit P.faults P.well false out.old out.new }
     ensures follows { OnOk result (Follows P.pages P.limit P.faults P.well false out.old out.new) }
     ensures fresh { P.only_fresh out.old out.new }
 {
@@ -111,7 +111,7 @@ fn push_row<P: PageOut>(
         → OnOk result (TookFew (family_in part) (P.pages out.old).usable from (entries ++ entry_in part i ∷ []) (P.pages out.new).count loader.new) }
     ensures few { (from : ℕ) (entries : List Entry) → TookFew (family_in part) (P.pages out.old).usable from entries (P.pages out.old).count loader.old
         → OnErr result ((P.pages out.new).count + 1 ≤ from + load_pages (family_in part) (P.pages out.old).usable (entries ++ entry_in part i ∷ [])) }
-    ensures keeps { Keeps P.pages P.limit P.faults P.well false out.old out.new }
+    ensures keeps { KeepsPages P.pages P.limit P.faults P.well false out.old out.new }
     ensures follows { OnOk result (Follows P.pages P.limit P.faults P.well false out.old out.new) }
     ensures fresh { P.only_fresh out.old out.new }
 {

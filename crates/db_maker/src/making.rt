@@ -1,8 +1,8 @@
 // A whole database.
 ghost use Rattle.std.specs.Prelude.{◌≡◌, ◌≤◌, ◌+◌, ◌^◌, ℕ, false, true, Err, IfOk, IfErr, OnOk};
 ghost use Rattle.bulk_load.specs.Found.{IsTightBehind};
-ghost use Rattle.bulk_load.specs.Out.{AreAllPut, Follows, HasEndCause, Keeps, is_load_refusal};
-ghost use Rattle.db_maker.specs.Made.{IsMade};
+ghost use Rattle.bulk_load.specs.Out.{AreAllPut, Follows, HasEndCause, KeepsPages, is_load_refusal};
+ghost use Rattle.db_maker.specs.Made.{IsFilled};
 ghost use Rattle.db_maker.specs.Pages.{filled_pages};
 ghost use Rattle.db_maker.specs.Rows.{total_len};
 
@@ -26,7 +26,7 @@ pub struct Made {
 /// put before. The first 100 bytes of page 1 are left for the header.
 pub fn fill<P: PageOut>(alloc: Global, out: &mut P, n: u32) -> Result<Made, LoadError>
     requires free { (P.pages out.old).accepts 1 ≡ false }
-    ensures made { (start : ℕ) → P.well start out.old → OnOk result (IsMade (P.pages out.new) n) }
+    ensures made { (start : ℕ) → P.well start out.old → OnOk result (IsFilled (P.pages out.new) n) }
     // where no number had been taken before, it has no page beside the schema and the trees
     ensures tight { (start : ℕ) → P.well start out.old → (P.pages out.old).count ≡ 1 → OnOk result (IsTightBehind (P.pages out.new)) }
     ensures told { IfOk result (λ made. (made.rows ≡ n) × (made.bytes ≡ total_len n)) }
@@ -38,7 +38,7 @@ pub fn fill<P: PageOut>(alloc: Global, out: &mut P, n: u32) -> Result<Made, Load
     ensures deep { result ≡ Err LoadError.TooDeep → 2 ^ 28 ≤ (P.pages out.new).count }
     // and no page is missing
     ensures whole { (P.pages out.old).count ≡ 1 → OnOk result (AreAllPut (P.pages out.new)) }
-    ensures keeps { Keeps P.pages P.limit P.faults P.well true out.old out.new }
+    ensures keeps { KeepsPages P.pages P.limit P.faults P.well true out.old out.new }
     ensures follows { OnOk result (Follows P.pages P.limit P.faults P.well true out.old out.new) }
     ensures fresh { P.only_fresh out.old out.new }
 {

@@ -6,7 +6,7 @@ ghost use Rattle.btree_model.specs.Content.{Entry};
 ghost use Rattle.db_format.specs.Row.{record_bytes};
 ghost use Rattle.db_format.specs.Pages.{Test};
 ghost use Rattle.bulk_load.specs.Few.{TookFew, load_pages};
-ghost use Rattle.bulk_load.specs.Out.{Follows, HasEndCause, HasLoadCause, Keeps, is_load_refusal};
+ghost use Rattle.bulk_load.specs.Out.{Follows, HasEndCause, HasLoadCause, KeepsPages, is_load_refusal};
 ghost use Rattle.bulk_load.specs.Own.{Covers, CoversNew, only};
 ghost use Rattle.bulk_load.specs.Loader.{IsLoader, Loaded, family_of_loader, is_late};
 ghost use Rattle.bulk_load.specs.Found.{HasTree};
@@ -42,7 +42,7 @@ pub(crate) fn load_schema<P: PageOut>(
     ensures few { (P.pages out.new).count ≤ (P.pages out.old).count + schema_pages }
     ensures asked { IfErr result (λ error. is_load_refusal error ≡ true → (P.pages out.new).count + 1 ≤ (P.pages out.old).count + schema_pages) }
     ensures deep { result ≡ Err LoadError.TooDeep → 2 ^ 28 ≤ (P.pages out.new).count }
-    ensures keeps { Keeps P.pages P.limit P.faults P.well true out.old out.new }
+    ensures keeps { KeepsPages P.pages P.limit P.faults P.well true out.old out.new }
     ensures follows { OnOk result (Follows P.pages P.limit P.faults P.well true out.old out.new) }
     ensures fresh { P.only_fresh out.old out.new }
 {
@@ -74,7 +74,7 @@ fn push_schema<P: PageOut>(
         → OnOk result (TookFew Table (P.pages out.old).usable (P.pages out.old).count (schema_entries items names codes) (P.pages out.new).count loader.new) }
     ensures few { TookFew Table (P.pages out.old).usable (P.pages out.old).count [] (P.pages out.old).count loader.old
         → OnErr result ((P.pages out.new).count + 1 ≤ (P.pages out.old).count + load_pages Table (P.pages out.old).usable (schema_entries items names codes)) }
-    ensures keeps { Keeps P.pages P.limit P.faults P.well false out.old out.new }
+    ensures keeps { KeepsPages P.pages P.limit P.faults P.well false out.old out.new }
     ensures follows { OnOk result (Follows P.pages P.limit P.faults P.well false out.old out.new) }
     ensures fresh { P.only_fresh out.old out.new }
 {
@@ -110,7 +110,7 @@ fn push_part<P: PageOut>(
         → OnOk result (TookFew Table (P.pages out.old).usable from (entries ++ record { rowid = Some rowid; payload = record_bytes (part_values part root) } ∷ []) (P.pages out.new).count loader.new) }
     ensures few { (from : ℕ) (entries : List Entry) → TookFew Table (P.pages out.old).usable from entries (P.pages out.old).count loader.old
         → OnErr result ((P.pages out.new).count + 1 ≤ from + load_pages Table (P.pages out.old).usable (entries ++ record { rowid = Some rowid; payload = record_bytes (part_values part root) } ∷ [])) }
-    ensures keeps { Keeps P.pages P.limit P.faults P.well false out.old out.new }
+    ensures keeps { KeepsPages P.pages P.limit P.faults P.well false out.old out.new }
     ensures follows { OnOk result (Follows P.pages P.limit P.faults P.well false out.old out.new) }
     ensures fresh { P.only_fresh out.old out.new }
 {
@@ -138,7 +138,7 @@ fn push_view<P: PageOut>(alloc: Global, loader: &mut Loader, out: &mut P) -> Res
         → OnOk result (TookFew Table (P.pages out.old).usable from (entries ++ schema_entry 4 view_values ∷ []) (P.pages out.new).count loader.new) }
     ensures few { (from : ℕ) (entries : List Entry) → TookFew Table (P.pages out.old).usable from entries (P.pages out.old).count loader.old
         → OnErr result ((P.pages out.new).count + 1 ≤ from + load_pages Table (P.pages out.old).usable (entries ++ schema_entry 4 view_values ∷ [])) }
-    ensures keeps { Keeps P.pages P.limit P.faults P.well false out.old out.new }
+    ensures keeps { KeepsPages P.pages P.limit P.faults P.well false out.old out.new }
     ensures follows { OnOk result (Follows P.pages P.limit P.faults P.well false out.old out.new) }
     ensures fresh { P.only_fresh out.old out.new }
 {
@@ -228,7 +228,7 @@ fn push<P: PageOut>(
         → OnOk result (TookFew Table (P.pages out.old).usable from (entries ++ record { rowid = Some rowid; payload = row.now } ∷ []) (P.pages out.new).count loader.new) }
     ensures few { (from : ℕ) (entries : List Entry) → TookFew Table (P.pages out.old).usable from entries (P.pages out.old).count loader.old
         → OnErr result ((P.pages out.new).count + 1 ≤ from + load_pages Table (P.pages out.old).usable (entries ++ record { rowid = Some rowid; payload = row.now } ∷ [])) }
-    ensures keeps { Keeps P.pages P.limit P.faults P.well false out.old out.new }
+    ensures keeps { KeepsPages P.pages P.limit P.faults P.well false out.old out.new }
     ensures follows { OnOk result (Follows P.pages P.limit P.faults P.well false out.old out.new) }
     ensures fresh { P.only_fresh out.old out.new }
 {

@@ -1,6 +1,6 @@
 -- In an image of a disk in memory a file may be as it reads, whatever the other files are.
 use Rattle.std.proofs.Common.{◌≡◌, ◌⊎◌, ⊎_elim, inl, inr, ℕ, ◌<◌, List, [], ◌∷◌, length, take, Option, Some, None, refl, sym, ◌∙◌, ap, subst, arith}
-use Rattle.edge_model.specs.Files.{File, Files, file_at, put_at, number_of, with_bytes, empty_file, written, created, removed, renamed, Torn, Shorter}
+use Rattle.edge_model.specs.Files.{File, Files, file_at, put_at, number_of, with_file_bytes, empty_file, written, created, removed, renamed, Torn, Shorter}
 use Rattle.edge_model.specs.Images.{Changes, Renames, HasSynced, SameNames, AreApart, IsNumbered}
 use Rattle.edge_model.specs.Bytes.{torn_written, shorter_cut}
 use Rattle.edge_model.specs.Log.{files_of, next_number, reads_after, ImagesAfter}
@@ -97,11 +97,11 @@ renames_number change role now d c keeps (inr made) = ap (λ (x : Files). number
 
 module _ (step : List ℕ → List ℕ → Type 0) (change : List ℕ → List ℕ) (takes : (b : List ℕ) → step b (change b)) where
   later_reads : Role → Files → Files
-  later_reads role now = put_at now role (with_bytes change (file_at now role))
+  later_reads role now = put_at now role (with_file_bytes change (file_at now role))
 
   -- a change of bytes goes on, with one role as it reads
   role_changes : (role other : Role) (now d c : Files) → Changes other step now d c
-      → Changes other step now (put_at d role (file_at now role)) (put_at c role (file_at (put_at now other (with_bytes change (file_at now other))) role))
+      → Changes other step now (put_at d role (file_at now role)) (put_at c role (file_at (put_at now other (with_file_bytes change (file_at now other))) role))
   role_changes Main Main now d c ch = (may_changed step change takes now.main, ch.1, ch.2)
   role_changes Main Journal now d c ch = (refl, ch.1, ch.2)
   role_changes Main Fresh now d c ch = (refl, ch.1, ch.2)
@@ -114,14 +114,14 @@ module _ (step : List ℕ → List ℕ → Type 0) (change : List ℕ → List �
 
   -- where Fresh in the image is what Main is now
   moved_changes : (role : Role) (now d c : Files) → Changes role step now d c
-      → Changes role step now (put_at d Fresh now.main) (put_at c Fresh (put_at now role (with_bytes change (file_at now role))).main)
+      → Changes role step now (put_at d Fresh now.main) (put_at c Fresh (put_at now role (with_file_bytes change (file_at now role))).main)
   moved_changes Main now d c ch = (ch.0, ch.1, may_changed step change takes now.main)
   moved_changes Journal now d c ch = (ch.0, ch.1, refl)
   moved_changes Fresh now d c ch = (ch.0, ch.1, inl refl)
 
-  now_names : (role : Role) (now : Files) → SameNames now (put_at now role (with_bytes change (file_at now role)))
+  now_names : (role : Role) (now : Files) → SameNames now (put_at now role (with_file_bytes change (file_at now role)))
   now_names role now =
-      changes_names step role now now (put_at now role (with_bytes change (file_at now role))) (changed_whole step change takes role now)
+      changes_names step role now now (put_at now role (with_file_bytes change (file_at now role))) (changed_whole step change takes role now)
 
 -- the file that was created has its number
 made_here : (role : Role) (next : ℕ) (now d c : Files) → IsNumbered next d
@@ -148,10 +148,10 @@ module _ (start : Contents) where
 
   past_bytes : (step : List ℕ → List ℕ → Type 0) (change : List ℕ → List ℕ) (takes : (b : List ℕ) → step b (change b)) (role other : Role) (earlier : List Call)
       → AsRead role earlier → (c : Files) → (left : (d : Files) × Images earlier d × Changes other step (Reads earlier) d c)
-      → number_of (file_at c role) ≡ number_of (file_at (put_at (Reads earlier) other (with_bytes change (file_at (Reads earlier) other))) role)
+      → number_of (file_at c role) ≡ number_of (file_at (put_at (Reads earlier) other (with_file_bytes change (file_at (Reads earlier) other))) role)
       → (d : Files) × Images earlier d
       × Changes other step (Reads earlier) d
-      (put_at c role (file_at (put_at (Reads earlier) other (with_bytes change (file_at (Reads earlier) other))) role))
+      (put_at c role (file_at (put_at (Reads earlier) other (with_file_bytes change (file_at (Reads earlier) other))) role))
   past_bytes step change takes role other earlier before c left same =
       let now = Reads earlier in
       let names = names_at role _ _ (changes_names step other now left.0 c left.2) in

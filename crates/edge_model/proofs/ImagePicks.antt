@@ -3,7 +3,7 @@ use Rattle.std.proofs.Common.{◌≡◌, ◌⊎◌, inl, inr, ⊎_elim, ℕ, ◌
 use Rattle.std.proofs.Math.ListN.{get_or-append}
 use Rattle.std.proofs.lemmas.List.{length-replicate, length-map}
 use Rattle.std.proofs.lemmas.Bool.{eqb-true}
-use Rattle.edge_model.specs.Files.{File, Files, file_at, put_at, number_of, bytes_of, with_bytes, spliced, written, Torn, Shorter}
+use Rattle.edge_model.specs.Files.{File, Files, file_at, put_at, number_of, bytes_of, with_file_bytes, spliced, written, Torn, Shorter}
 use Rattle.edge_model.specs.Images.{MayStep, Changes, IsAsRead, HasSynced, SameNames}
 use Rattle.edge_model.specs.Bytes.{shorter_cut, torn_not, length-spliced, spliced_below, spliced_above}
 use Rattle.edge_model.specs.Log.{shown_of, files_of, reads_after, ImagesAfter}
@@ -102,10 +102,10 @@ put_names Main file other now c is same = record { main = is; journal = same.jou
 put_names Journal file other now c is same = record { main = same.main; journal = is; fresh = same.fresh }
 put_names Fresh file other now c is same = record { main = same.main; journal = same.journal; fresh = is }
 
-changed_now : (change : List ℕ → List ℕ) (role : Role) (now c : Files) → SameNames now c → SameNames (put_at now role (with_bytes change (file_at now role))) c
+changed_now : (change : List ℕ → List ℕ) (role : Role) (now c : Files) → SameNames now c → SameNames (put_at now role (with_file_bytes change (file_at now role))) c
 changed_now change role now c same =
     let names =
-    changes_names (λ a b. b ≡ change a) role now now (put_at now role (with_bytes change (file_at now role)))
+    changes_names (λ a b. b ≡ change a) role now now (put_at now role (with_file_bytes change (file_at now role)))
     (changed_whole (λ a b. b ≡ change a) change (λ b. refl) role now) in
     record { main = same.main ∙ sym names.main; journal = same.journal ∙ sym names.journal; fresh = same.fresh ∙ sym names.fresh }
 
@@ -171,30 +171,30 @@ torn_takes at (byte ∷ bytes) old =
 
 -- a step of the file in the role, in an image with all names
 step_whole : (step : List ℕ → List ℕ → Type 0) (change : List ℕ → List ℕ) → ((b : List ℕ) → step b (change b))
-    → (role : Role) (now d : Files) → SameNames now d → Changes role step now d (put_at d role (with_bytes change (file_at d role)))
+    → (role : Role) (now d : Files) → SameNames now d → Changes role step now d (put_at d role (with_file_bytes change (file_at d role)))
 step_whole step change takes Main now d same = (may_change now.main d.main same.main, refl, inl refl)
   where
-    may_change : (now file : Option File) → number_of file ≡ number_of now → MayStep step now file (with_bytes change file)
+    may_change : (now file : Option File) → number_of file ≡ number_of now → MayStep step now file (with_file_bytes change file)
     may_change now None same = inl refl
     may_change now (Some f) same =
         inr (record { number = f.number; before = f.bytes; after = change f.bytes; is_now = sym same; was = refl; is = refl; took = takes f.bytes })
 step_whole step change takes Journal now d same = (refl, may_change now.journal d.journal same.journal, refl)
   where
-    may_change : (now file : Option File) → number_of file ≡ number_of now → MayStep step now file (with_bytes change file)
+    may_change : (now file : Option File) → number_of file ≡ number_of now → MayStep step now file (with_file_bytes change file)
     may_change now None same = inl refl
     may_change now (Some f) same =
         inr (record { number = f.number; before = f.bytes; after = change f.bytes; is_now = sym same; was = refl; is = refl; took = takes f.bytes })
 step_whole step change takes Fresh now d same = (refl, refl, may_change now.fresh d.fresh same.fresh)
   where
-    may_change : (now file : Option File) → number_of file ≡ number_of now → MayStep step now file (with_bytes change file)
+    may_change : (now file : Option File) → number_of file ≡ number_of now → MayStep step now file (with_file_bytes change file)
     may_change now None same = inl refl
     may_change now (Some f) same =
         inr (record { number = f.number; before = f.bytes; after = change f.bytes; is_now = sym same; was = refl; is = refl; took = takes f.bytes })
 
-changed_image : (change : List ℕ → List ℕ) (role : Role) (now c : Files) → SameNames now c → SameNames now (put_at c role (with_bytes change (file_at c role)))
+changed_image : (change : List ℕ → List ℕ) (role : Role) (now c : Files) → SameNames now c → SameNames now (put_at c role (with_file_bytes change (file_at c role)))
 changed_image change role now c same =
     let names =
-    changes_names (λ a b. b ≡ change a) role c c (put_at c role (with_bytes change (file_at c role)))
+    changes_names (λ a b. b ≡ change a) role c c (put_at c role (with_file_bytes change (file_at c role)))
     (changed_whole (λ a b. b ≡ change a) change (λ b. refl) role c) in
     record { main = names.main ∙ same.main; journal = names.journal ∙ same.journal; fresh = names.fresh ∙ same.fresh }
 

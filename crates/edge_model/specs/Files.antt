@@ -1,5 +1,5 @@
 -- Three roles, each with no file or with one, what a call does to a file's bytes, and what a crash leaves of that.
-use Rattle.std.specs.Prelude.{◌≡◌, ℕ, ◌+◌, ◌-◌, ◌<◌, ◌≤◌, min, max, List, [], ◌∷◌, ◌++◌, length, take, drop, replicate, slice_index, Option, Some, None}
+use Rattle.std.specs.Prelude.{◌≡◌, ℕ, ◌+◌, ◌-◌, ◌<◌, ◌≤◌, min, max, List, [], ◌∷◌, ◌++◌, length, take, drop, replicate, slice_index, Option, Some, None, unwrap_or}
 use Rattle.edge_model.specs.declared.role.Role.{Role}
 use Rattle.edge_model.specs.declared.role.Role.TheVariants.{Main, Journal, Fresh}
 
@@ -32,6 +32,14 @@ abbrev pub bytes_of : Option File → Option (List ℕ)
 bytes_of None = None
 bytes_of (Some file) = Some file.bytes
 
+-- the bytes of a file; none where there is no file
+abbrev pub contents : Option File → List ℕ
+contents file = unwrap_or (bytes_of file) []
+
+-- the bytes of Main
+abbrev pub main_of : Files → List ℕ
+main_of files = contents files.main
+
 abbrev pub length_of : Option File → Option ℕ
 length_of None = None
 length_of (Some file) = Some (length file.bytes)
@@ -41,13 +49,13 @@ abbrev pub empty_file : ℕ → Option File
 empty_file number = Some (record { number = number; bytes = [] })
 
 -- the same file with other bytes
-abbrev pub with_bytes : (List ℕ → List ℕ) → Option File → Option File
-with_bytes change None = None
-with_bytes change (Some file) = Some (record { number = file.number; bytes = change file.bytes })
+abbrev pub with_file_bytes : (List ℕ → List ℕ) → Option File → Option File
+with_file_bytes change None = None
+with_file_bytes change (Some file) = Some (record { number = file.number; bytes = change file.bytes })
 
 -- no role has a file
-abbrev pub nothing : Files
-nothing = record { main = None; journal = None; fresh = None }
+abbrev pub no_files : Files
+no_files = record { main = None; journal = None; fresh = None }
 
 -- the role has this empty file
 abbrev pub created : Role → ℕ → Files → Files
@@ -69,7 +77,7 @@ filled_to end bytes = bytes ++ replicate (end - length bytes) 0
 abbrev pub spliced : ℕ → List ℕ → List ℕ → List ℕ
 spliced at bytes old = take at old ++ bytes ++ drop (at + length bytes) old
 
--- the bytes stand at the offset, and a gap past the old end is zeros; a write of no bytes changes nothing
+-- the bytes stand at the offset, and a gap past the old end is zeros; a write of no bytes changes no_files
 abbrev pub written : ℕ → List ℕ → List ℕ → List ℕ
 written at [] old = old
 written at (byte ∷ bytes) old = spliced at (byte ∷ bytes) (filled_to (at + length (byte ∷ bytes)) old)

@@ -33,17 +33,17 @@ abbrev pub listing : List ℕ → Plan → Plan
 listing calls plan = record plan { failing = plan.failing ++ map (λ k. call_number plan k) calls }
 
 -- what an object in memory counts: its calls, those that failed, and how often memory was refused
-pub record Counts : Type 0 where
+pub record CallCounts : Type 0 where
   pub plan : Plan
   pub faults : ℕ
   pub starved : ℕ
 
 -- no call so far, and these to fail
-abbrev pub at_first : List ℕ → Counts
+abbrev pub at_first : List ℕ → CallCounts
 at_first failing = record { plan = record { calls = 0; stop = None; failing = failing }; faults = 0; starved = 0 }
 
 -- A call is counted, and a fault exactly where it was not done. One that was done was not refused memory.
-pub record IsCounted (done : Bool) (old new : Counts) : Type 0 where
+pub record IsCounted (done : Bool) (old new : CallCounts) : Type 0 where
   pub call : new.plan ≡ called old.plan
   pub faults : new.faults ≡ (if done then old.faults else min (old.faults + 1) (2 ^ 64 - 1))
   pub starved : IsTrue done → new.starved ≡ old.starved

@@ -1,7 +1,7 @@
 -- What a disk in memory reads as, and what a crash may leave of it: from the files at its start and the calls that were done since.
 use Rattle.std.specs.Prelude.{◌≡◌, ◌⊎◌, ℕ, ◌+◌, ◌≤◌, List, [], ◌∷◌, length, take, reverse, Option, Some, None, Vec}
 use Rattle.std.specs.declared.alloc.Global.{Global}
-use Rattle.edge_model.specs.Files.{File, Files, file_at, put_at, bytes_of, with_bytes, written, created, removed, renamed, Torn, Shorter}
+use Rattle.edge_model.specs.Files.{File, Files, file_at, put_at, bytes_of, with_file_bytes, written, created, removed, renamed, Torn, Shorter}
 use Rattle.edge_model.specs.Images.{Changes, Renames, HasSynced, SameNames}
 use Rattle.edge_model.specs.declared.role.Role.{Role}
 use Rattle.edge_model.specs.declared.role.Role.TheVariants.{Main, Journal, Fresh}
@@ -13,9 +13,9 @@ abbrev pub file_of : ℕ → Option (Vec ℕ Global) → Option File
 file_of number None = None
 file_of number (Some bytes) = Some (record { number = number; bytes = bytes.items })
 
-abbrev pub shown : Option (Vec ℕ Global) → Option (List ℕ)
-shown None = None
-shown (Some bytes) = Some bytes.items
+abbrev pub items_of : Option (Vec ℕ Global) → Option (List ℕ)
+items_of None = None
+items_of (Some bytes) = Some bytes.items
 
 -- what each role has, without the numbers
 pub record Shown : Type 0 where
@@ -24,7 +24,7 @@ pub record Shown : Type 0 where
   pub fresh : Option (List ℕ)
 
 abbrev pub showing : Contents → Shown
-showing now = record { main = shown now.main; journal = shown now.journal; fresh = shown now.fresh }
+showing now = record { main = items_of now.main; journal = items_of now.journal; fresh = items_of now.fresh }
 
 abbrev pub shown_of : Files → Shown
 shown_of files = record { main = bytes_of files.main; journal = bytes_of files.journal; fresh = bytes_of files.fresh }
@@ -53,8 +53,8 @@ next_number calls = 3 + length calls
 
 -- what is read after a call
 abbrev pub after : Call → ℕ → Files → Files
-after (Write role at bytes) number now = put_at now role (with_bytes (written at bytes.items) (file_at now role))
-after (Cut role len) number now = put_at now role (with_bytes (take len) (file_at now role))
+after (Write role at bytes) number now = put_at now role (with_file_bytes (written at bytes.items) (file_at now role))
+after (Cut role len) number now = put_at now role (with_file_bytes (take len) (file_at now role))
 after (Sync role) number now = now
 after (Create role) number now = created role number now
 after (Remove role) number now = removed role now

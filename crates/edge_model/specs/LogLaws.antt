@@ -1,7 +1,7 @@
 -- What holds of the images of a disk in memory, after any calls.
 use Rattle.std.specs.Prelude.{◌≡◌, ℕ, ◌+◌, ◌≤◌, List, [], ◌∷◌, length, take, Vec, Option, Some, None, refl}
 use Rattle.std.proofs.Common.{inl, inr, arith, sym, ◌∙◌, ap, subst}
-use Rattle.edge_model.specs.Files.{File, Files, file_at, put_at, with_bytes, written, number_of, created, removed, renamed, Torn, Shorter}
+use Rattle.edge_model.specs.Files.{File, Files, file_at, put_at, with_file_bytes, written, number_of, created, removed, renamed, Torn, Shorter}
 use Rattle.edge_model.specs.Images.{MayStep, Changes, Renames, IsAsRead, HasSynced, SameNames, AreApart, IsNumbered}
 use Rattle.edge_model.specs.Bytes.{torn_written, shorter_cut}
 use Rattle.std.specs.declared.alloc.Global.{Global}
@@ -165,14 +165,14 @@ numbered_after start (Rename ∷ earlier) c left =
 numbered_after start (SyncFolder ∷ earlier) c left = numbered_more (next_number earlier) _ c (omega arith) (numbered_after start earlier c left.0)
 
 pub may_changed : (step : List ℕ → List ℕ → Type 0) (change : List ℕ → List ℕ) → ((b : List ℕ) → step b (change b)) → (now : Option File)
-    → MayStep step now now (with_bytes change now)
+    → MayStep step now now (with_file_bytes change now)
 may_changed step change takes None = inl refl
 may_changed step change takes (Some file) =
     inr (record { number = file.number; before = file.bytes; after = change file.bytes; is_now = refl; was = refl; is = refl; took = takes file.bytes })
 
 -- a step that is taken whole
 pub changed_whole : (step : List ℕ → List ℕ → Type 0) (change : List ℕ → List ℕ) → ((b : List ℕ) → step b (change b)) → (role : Role) (now : Files)
-    → Changes role step now now (put_at now role (with_bytes change (file_at now role)))
+    → Changes role step now now (put_at now role (with_file_bytes change (file_at now role)))
 changed_whole step change takes Main now = (may_changed step change takes now.main, refl, inl refl)
 changed_whole step change takes Journal now = (refl, may_changed step change takes now.journal, refl)
 changed_whole step change takes Fresh now = (refl, refl, may_changed step change takes now.fresh)

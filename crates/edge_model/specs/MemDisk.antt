@@ -1,7 +1,7 @@
 -- What contracts see of a disk in memory.
 use Rattle.std.specs.Prelude.{◌≡◌, ℕ, Bool, false, List}
 use Rattle.edge_model.specs.Files.{Files}
-use Rattle.edge_model.specs.Gate.{Counts, IsCounted}
+use Rattle.edge_model.specs.Gate.{CallCounts, IsCounted}
 use Rattle.edge_model.specs.Log.{files_of, next_number, reads_after, ImagesAfter, newest_first}
 use Rattle.edge_model.specs.Picks.{picked}
 use Rattle.edge_model.specs.declared.mem_disk.contents.Call.{Call}
@@ -17,7 +17,7 @@ abbrev pub mem_history : MemDisk → History
 mem_history m = record { start = files_of m.store.start; calls = newest_first m.store.calls.items }
 
 -- which calls fail, and how often that and want of memory came
-abbrev pub mem_counts : MemDisk → Counts
+abbrev pub mem_counts : MemDisk → CallCounts
 mem_counts m = m.gate
 
 -- its member `faults`

@@ -1,6 +1,6 @@
 -- Three images of a disk in memory.
 use Rattle.std.specs.Prelude.{ℕ, ◌+◌, ◌-◌, List, [], ◌∷◌, ◌++◌, length, take, map, replicate, Option, Some, None, if◌then◌else◌, ◌==◌}
-use Rattle.edge_model.specs.Files.{File, Files, file_at, put_at, with_bytes, spliced, created, removed, renamed}
+use Rattle.edge_model.specs.Files.{File, Files, file_at, put_at, with_file_bytes, spliced, created, removed, renamed}
 use Rattle.edge_model.specs.Log.{next_number, reads_after}
 use Rattle.edge_model.specs.declared.mem_disk.contents.Call.{Call}
 use Rattle.edge_model.specs.declared.mem_disk.contents.Call.TheVariants.{Write, Cut, Sync, Create, Remove, Rename, SyncFolder}
@@ -48,8 +48,8 @@ torn_write at (byte ∷ bytes) old = let all = map (λ b. 255 - b) (byte ∷ byt
 
 -- all that was done, with each unsynced byte b turned into 255 - b
 abbrev pub torn_step : Call → ℕ → Files → Files → Files
-torn_step (Write role at bytes) number now d = put_at d role (with_bytes (torn_write at bytes.items) (file_at d role))
-torn_step (Cut role len) number now d = put_at d role (with_bytes (take len) (file_at d role))
+torn_step (Write role at bytes) number now d = put_at d role (with_file_bytes (torn_write at bytes.items) (file_at d role))
+torn_step (Cut role len) number now d = put_at d role (with_file_bytes (take len) (file_at d role))
 torn_step (Sync role) number now d = as_synced role now d
 torn_step (Create role) number now d = created role number d
 torn_step (Remove role) number now d = removed role d

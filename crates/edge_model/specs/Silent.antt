@@ -1,10 +1,10 @@
--- The members of a disk that tells nothing.
+-- The members of a disk that tells no_files.
 use Rattle.std.specs.Prelude.{◌≡◌, ℕ}
 use Rattle.std.proofs.Common.{sym, subst}
-use Rattle.edge_model.specs.Files.{Files, nothing}
+use Rattle.edge_model.specs.Files.{Files, no_files}
 use Rattle.edge_model.specs.Images.{IsNumbered}
 
-nothing_is : (next : ℕ) → IsNumbered next nothing
+nothing_is : (next : ℕ) → IsNumbered next no_files
 nothing_is next =
     record {
       main = λ n is. cc;
@@ -15,5 +15,5 @@ nothing_is next =
       journal_fresh = λ n is too. cc;
     }
 
-pub nothing_numbered : (c : Files) → c ≡ nothing → IsNumbered 0 c
+pub nothing_numbered : (c : Files) → c ≡ no_files → IsNumbered 0 c
 nothing_numbered c is = subst (IsNumbered 0) (sym is) (nothing_is 0)

@@ -1,7 +1,7 @@
 // Which calls of an object in memory fail, and how many have.
 ghost use Rattle.std.specs.Prelude.{◌≡◌, ◌⊎◌, ◌+◌, ◌-◌, ◌^◌, ◌↔◌, min, [], Err, Ok, IfOk, IsErr, IsTrue, OnErr, OnOk, if◌then◌else◌, is_ok};
 ghost use Rattle.edge_model.specs.Causes.{HasCause, Rose};
-ghost use Rattle.edge_model.specs.Gate.{Counts, at_first, called, is_next_due, listing, stopping};
+ghost use Rattle.edge_model.specs.Gate.{CallCounts, at_first, called, is_next_due, listing, stopping};
 
 use crate::{Failed, OutOfMemory};
 use std::alloc::Global;
@@ -27,7 +27,7 @@ pub struct Gate {
 }
 
 impl Model for Gate {
-    ghost Value = { Counts };
+    ghost Value = { CallCounts };
 
     ghost view = { λ gate. record { plan = record { calls = gate.calls; stop = gate.stop; failing = gate.failing.items }; faults = gate.faults; starved = gate.starved } };
 }

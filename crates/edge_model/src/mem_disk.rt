@@ -1,7 +1,7 @@
 // A disk in memory.
 ghost use Rattle.std.specs.Prelude.{◌≡◌, ◌⊎◌, [], true, length, None, IsTrue, IsErr, IfOk, OnOk, OnErr, is_ok};
 ghost use Rattle.std.specs.Option.{option_map};
-ghost use Rattle.edge_model.specs.Files.{Files, bytes_of, created, file_at, nothing, renamed};
+ghost use Rattle.edge_model.specs.Files.{Files, bytes_of, created, file_at, no_files, renamed};
 ghost use Rattle.edge_model.specs.Images.{Each};
 ghost use Rattle.edge_model.specs.Gate.{IsCounted, at_first, is_next_due, listing, stopping};
 ghost use Rattle.edge_model.specs.Causes.{HasCause, Rose};
@@ -33,8 +33,8 @@ impl MemDisk {
 
     /// No role has a file.
     pub fn new(alloc: Global) -> MemDisk
-        ensures reads { mem_reads result ≡ nothing }
-        ensures synced { Each (mem_images result) (λ c. c ≡ nothing) }
+        ensures reads { mem_reads result ≡ no_files }
+        ensures synced { Each (mem_images result) (λ c. c ≡ no_files) }
         ensures counts { mem_counts result ≡ at_first [] }
     {
         MemDisk {

@@ -1,7 +1,7 @@
 // An entropy in memory.
 ghost use Rattle.std.specs.Prelude.{◌≡◌, ◌⊎◌, ◌<◌, false, true, length, IfOk, IsTrue};
 ghost use Rattle.edge_model.specs.Gate.{is_next_due, IsCounted};
-ghost use Rattle.edge_model.specs.Memory.{Feed, full_feed, IsDrawn};
+ghost use Rattle.edge_model.specs.Memory.{Feed, full_feed, IsFeedDrawn};
 
 use crate::gate::Gate;
 use crate::supply::Supply;
@@ -47,7 +47,7 @@ impl Entropy for MemEntropy {
 
     ghost excuse = { λ old new asked. IsTrue (is_next_due old.counts.plan) ⊎ (length old.left < length asked) };
 
-    ghost counted = { IsDrawn };
+    ghost counted = { IsFeedDrawn };
 
     fn fill(&mut self, buf: &mut [u8]) -> Result<(), Failed> {
         self.gate.admit()?;

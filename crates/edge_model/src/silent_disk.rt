@@ -1,7 +1,7 @@
 // A disk that tells nothing.
 ghost use Rattle.std.specs.Prelude.{◌≡◌, ◌⊎◌, ◌≤◌, length, take, None, Some, IfOk, OnOk, OnErr, IsErr, IsTrue, false, is_ok, refl};
 ghost use Rattle.edge_model.specs.Causes.{HasCause, Rose};
-ghost use Rattle.edge_model.specs.Files.{bytes_of, created, file_at, length_of, nothing, put_at, read_from, removed, renamed, with_bytes, written};
+ghost use Rattle.edge_model.specs.Files.{bytes_of, created, file_at, length_of, no_files, put_at, read_from, removed, renamed, with_file_bytes, written};
 ghost use Rattle.edge_model.specs.Gate.{is_next_due};
 ghost use Rattle.edge_model.specs.Images.{Each, HasSynced, SameNames};
 ghost use Rattle.edge_model.specs.MemDisk.{IsCalled, mem_counts, mem_faults, mem_images, mem_next, mem_reads};
@@ -19,13 +19,13 @@ pub struct SilentDisk {
 impl Disk for SilentDisk {
     ghost tells = { false };
 
-    ghost reads = { λ _. nothing };
+    ghost reads = { λ _. no_files };
 
-    ghost images = { λ _ c. c ≡ nothing };
+    ghost images = { λ _ c. c ≡ no_files };
 
     ghost moment = { λ _. 0 };
 
-    ghost since = { λ _ _ c. c ≡ nothing };
+    ghost since = { λ _ _ c. c ≡ no_files };
 
     ghost next = { λ _. 0 };
 
@@ -58,7 +58,7 @@ impl Disk for SilentDisk {
 
     fn read_at(&mut self, role: Role, at: u64, buf: &mut [u8]) -> Result<usize, Failed>
         ensures count { IfOk result (λ count. count ≤ length buf.old) }
-        ensures inner { IfOk result (λ count. bytes_of (with_bytes (read_from at (length buf.old)) (file_at (mem_reads self.old.inner) role)) ≡ Some (take count buf.new)) }
+        ensures inner { IfOk result (λ count. bytes_of (with_file_bytes (read_from at (length buf.old)) (file_at (mem_reads self.old.inner) role)) ≡ Some (take count buf.new)) }
         ensures inner_same { mem_reads self.new.inner ≡ mem_reads self.old.inner }
         ensures due { IsTrue (is_next_due (mem_counts self.old.inner).plan) → IsErr result }
         ensures excuse { OnErr result (IsTrue (is_next_due (mem_counts self.old.inner).plan) ⊎ (file_at (mem_reads self.old.inner) role ≡ None)) }
@@ -69,7 +69,7 @@ impl Disk for SilentDisk {
     }
 
     fn write_at(&mut self, role: Role, at: u64, bytes: &[u8]) -> Result<(), Failed>
-        ensures inner { OnOk result (mem_reads self.new.inner ≡ put_at (mem_reads self.old.inner) role (with_bytes (written at bytes.now) (file_at (mem_reads self.old.inner) role))) }
+        ensures inner { OnOk result (mem_reads self.new.inner ≡ put_at (mem_reads self.old.inner) role (with_file_bytes (written at bytes.now) (file_at (mem_reads self.old.inner) role))) }
         ensures due { IsTrue (is_next_due (mem_counts self.old.inner).plan) → IsErr result }
         ensures excuse { OnErr result ((IsTrue (is_next_due (mem_counts self.old.inner).plan) ⊎ Rose (mem_counts self.old.inner).starved (mem_counts self.new.inner).starved) ⊎ (file_at (mem_reads self.old.inner) role ≡ None)) }
         ensures counted { IsCalled (is_ok result) self.old.inner self.new.inner }
@@ -79,7 +79,7 @@ impl Disk for SilentDisk {
     }
 
     fn cut(&mut self, role: Role, len: u64) -> Result<(), Failed>
-        ensures inner { OnOk result (mem_reads self.new.inner ≡ put_at (mem_reads self.old.inner) role (with_bytes (take len) (file_at (mem_reads self.old.inner) role))) }
+        ensures inner { OnOk result (mem_reads self.new.inner ≡ put_at (mem_reads self.old.inner) role (with_file_bytes (take len) (file_at (mem_reads self.old.inner) role))) }
         ensures due { IsTrue (is_next_due (mem_counts self.old.inner).plan) → IsErr result }
         ensures excuse { OnErr result ((IsTrue (is_next_due (mem_counts self.old.inner).plan) ⊎ Rose (mem_counts self.old.inner).starved (mem_counts self.new.inner).starved) ⊎ (file_at (mem_reads self.old.inner) role ≡ None)) }
         ensures counted { IsCalled (is_ok result) self.old.inner self.new.inner }

@@ -6,7 +6,7 @@ use Rattle.db_format.specs.Seen.{open_count}
 use Rattle.btree_page.specs.declared.kind.Family.{Family}
 use Rattle.btree_model.specs.Tree.{root_family, tree_walk}
 use Rattle.btree_walk.specs.declared.cursor.Cursor.{Cursor}
-use Rattle.btree_walk.specs.Cursor.{IsMade, family_or, walked}
+use Rattle.btree_walk.specs.Cursor.{IsCursorMade, family_or, walked}
 use Rattle.btree_walk.specs.Turn.{work}
 
 pub walked_is : (pages : Pages) (taken : Test) (cursor : Cursor) (root : ℕ) (asked : Option Family) → cursor.root ≡ root → cursor.asked ≡ asked
@@ -27,7 +27,7 @@ open_most (false ∷ marks) =
     omega arith
 
 -- what is left of a walk that has not begun
-pub work_first : (seen : List Bool) (root : ℕ) (asked : Option Family) (cursor : Cursor) → IsMade root asked cursor → length seen ≤ 2 ^ 32
+pub work_first : (seen : List Bool) (root : ℕ) (asked : Option Family) (cursor : Cursor) → IsCursorMade root asked cursor → length seen ≤ 2 ^ 32
     → work seen cursor.path ≤ 2 ^ 53
 work_first seen root asked cursor made short =
     let is : work seen cursor.path ≡ 2 ^ 21 * open_count seen = ap (work seen) made.path ∙ (omega arith) in

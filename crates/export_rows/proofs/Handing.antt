@@ -9,7 +9,7 @@ use Rattle.btree_walk.specs.Causes.{IsAmong, IsGivenBy, is_failure}
 use Rattle.btree_walk.proofs.CauseLemmas.{given_later, rose_later}
 use Rattle.btree_walk.specs.declared.error.WalkError.{WalkError}
 use Rattle.btree_walk.specs.declared.error.WalkError.TheVariants.{Defect, Source, OutOfMemory}
-use Rattle.export_rows.specs.Causes.{IfWalk, IsLate, after_check, is_defect}
+use Rattle.export_rows.specs.Causes.{IfWalk, IsLateWalk, after_check, is_export_defect}
 use Rattle.export_rows.specs.declared.error.ExportError.{ExportError}
 use Rattle.export_rows.specs.declared.error.ExportError.TheVariants.{Walk, OutputFault}
 
@@ -54,8 +54,8 @@ walk_checked P (Walk OutOfMemory) checked starved same is = subst (IfWalk P) (sy
 walk_checked P OutputFault checked starved same is = subst (IfWalk P) (sym same) tt
 
 pub late_checked : {R : Type 0} (refuses : Pages → ℕ → R → Type 0) (pages : Pages) (tells : Type 0) (error checked : ExportError R) → checked ≡ after_check error
-    → IfWalk (λ e. tells → IsLate refuses pages e) error → IfWalk (λ e. tells → IsLate refuses pages e) checked
-late_checked refuses pages tells error checked = walk_checked (λ e. tells → IsLate refuses pages e) error checked (λ told. tt)
+    → IfWalk (λ e. tells → IsLateWalk refuses pages e) error → IfWalk (λ e. tells → IsLateWalk refuses pages e) checked
+late_checked refuses pages tells error checked = walk_checked (λ e. tells → IsLateWalk refuses pages e) error checked (λ told. tt)
 
 pub given_checked : {T R : Type 0} (read : T → T → Type 0) (plain : T → Pages) (refuses : Pages → ℕ → R → Type 0) (before : T) (error checked : ExportError R) → checked ≡ after_check error
     → IfWalk (IsGivenBy read plain refuses before) error → IfWalk (IsGivenBy read plain refuses before) checked
@@ -65,7 +65,7 @@ pub fault_checked : {R : Type 0} (is_fault : R → Bool) (before now : ℕ) (err
     → IfWalk (λ e. IsTrue (is_failure is_fault e) → Rose before now) error → IfWalk (λ e. IsTrue (is_failure is_fault e) → Rose before now) checked
 fault_checked is_fault before now error checked = walk_checked (λ e. IsTrue (is_failure is_fault e) → Rose before now) error checked (λ failed. cc)
 
-pub none_checked : {R : Type 0} (error : ExportError R) → is_defect (after_check error) ≡ false
+pub none_checked : {R : Type 0} (error : ExportError R) → is_export_defect (after_check error) ≡ false
 none_checked (Walk (Defect d)) = refl
 none_checked (Walk (Source refusal)) = refl
 none_checked (Walk OutOfMemory) = refl

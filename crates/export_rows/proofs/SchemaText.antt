@@ -19,11 +19,11 @@ use Rattle.btree_walk.specs.declared.error.WalkError.TheVariants.{Defect, Source
 use Rattle.schema_map.specs.Root.{number_of, root_number}
 use Rattle.schema_map.specs.Schema.{schema_row}
 use Rattle.schema_map.specs.declared.schema.SchemaRow.{SchemaRow}
-use Rattle.export_rows.specs.Causes.{IfWalk, IsLate}
+use Rattle.export_rows.specs.Causes.{IfWalk, IsLateWalk}
 use Rattle.row_text.specs.Out.{Moves, MovesPart}
 use Rattle.export_rows.specs.Report.{item_at, item_count, item_text}
 use Rattle.schema_map.specs.Alone.{tree_rows}
-use Rattle.export_rows.specs.Schema.{IsSchemaOf, kept_text, row_count, rows_text}
+use Rattle.export_rows.specs.Schema.{IsSchemaOf, kept_text, row_count, schema_rows_text}
 use Rattle.schema_map.specs.Alone.{schema_rows}
 use Rattle.export_rows.specs.declared.error.ExportError.{ExportError}
 use Rattle.export_rows.specs.declared.error.ExportError.TheVariants.{Walk, OutputFault}
@@ -42,10 +42,10 @@ module _ (pages : Pages) (row : Row) where
   kept_is = kept_by (columns row.payload)
 
 pub text_of_content : (pages : Pages) (rows : List Row)
-    → rows_text pages (map schema_row rows) ≡ flat_map item_text (map (λ row. item_of pages row (columns row.payload)) rows)
+    → schema_rows_text pages (map schema_row rows) ≡ flat_map item_text (map (λ row. item_of pages row (columns row.payload)) rows)
 text_of_content pages [] = refl
 text_of_content pages (row ∷ rows) =
-    ap (λ item. item_text item ++ rows_text pages (map schema_row rows)) (kept_is pages row)
+    ap (λ item. item_text item ++ schema_rows_text pages (map schema_row rows)) (kept_is pages row)
     ∙ ap (λ l. item_text (item_of pages row (columns row.payload)) ++ l) (text_of_content pages rows)
 
 pub count_of_content : (pages : Pages) (rows : List Row)
@@ -133,7 +133,7 @@ kept_at pages rows i kept schema less is = subst (IsKeptRow pages) (sym is) (row
 -- ---- why it stops
 
 late_stop : {R : Type 0} (refuses : Pages → ℕ → R → Type 0) (pages : Pages) (root : ℕ) (error : WalkError R) → is_database pages ≡ true → Contains (roots (schema_rows pages)) root
-    → IsAmong refuses pages (root_part pages root) error → IsLate refuses pages error
+    → IsAmong refuses pages (root_part pages root) error → IsLateWalk refuses pages error
 late_stop refuses pages root (Defect d) sound listed among =
     none_contained d (subst (λ l. Contains l d) (sound_faults (root_part pages root) (All-contains (λ n. is_sound (root_part pages n) ≡ true) (roots (schema_rows pages)) root (database_trees pages sound) listed)) among)
 late_stop refuses pages root (Source refusal) sound listed among =
@@ -150,7 +150,7 @@ late_stop refuses pages root OutOfMemory sound listed among = tt
 
 pub walk_late : {R : Type 0} (refuses : Pages → ℕ → R → Type 0) (before middle : Pages) (tells : Type 0) (kept : SchemaRow) (error : ExportError R)
     → (tells → middle ≡ before) → (tells → is_database before ≡ true) → (tells → IsKeptRow before kept)
-    → IfWalk (λ e. tells → (kept.root ≢ 0) × IsAmong refuses middle (root_part middle kept.root) e) error → IfWalk (λ e. tells → IsLate refuses before e) error
+    → IfWalk (λ e. tells → (kept.root ≢ 0) × IsAmong refuses middle (root_part middle kept.root) e) error → IfWalk (λ e. tells → IsLateWalk refuses before e) error
 walk_late refuses before middle tells kept (Walk error) same sound here among = λ told.
     late_stop refuses before kept.root error (sound told) ((here told).listed (among told).0)
     (subst (λ p. IsAmong refuses p (root_part p kept.root) error) (same told) (among told).1)
@@ -159,23 +159,23 @@ walk_late refuses before middle tells kept OutputFault same sound here among = t
 -- ---- the lines so far
 
 pub record IsWritten (pages : Pages) (rows : List SchemaRow) (i count : ℕ) (told : Bool) (before waiting after left : List ℕ) : Type 0 where
-  pub moved : IsTrue told → Moves (rows_text pages (take i rows)) before waiting after left
+  pub moved : IsTrue told → Moves (schema_rows_text pages (take i rows)) before waiting after left
   pub counted : count ≡ sum_by (row_count pages) (take i rows)
 
 pub written_none : (pages : Pages) (rows : List SchemaRow) (told : Bool) (before waiting : List ℕ) → IsWritten pages rows 0 0 told before waiting before waiting
 written_none pages rows told before waiting = record { moved = λ t. waits before (sym (append-nil waiting)); counted = refl }
 
 module _ (pages : Pages) (rows : List SchemaRow) (i count : ℕ) (told : Bool) (before waiting after left : List ℕ) (so : IsWritten pages rows i count told before waiting after left) where
-  whole : rows_text pages rows ≡ rows_text pages (take i rows) ++ rows_text pages (drop i rows)
-  whole = ap (rows_text pages) (sym (take-append-drop i rows)) ∙ flat_map-append (kept_text pages) (take i rows) (drop i rows)
+  whole : schema_rows_text pages rows ≡ schema_rows_text pages (take i rows) ++ schema_rows_text pages (drop i rows)
+  whole = ap (schema_rows_text pages) (sym (take-append-drop i rows)) ∙ flat_map-append (kept_text pages) (take i rows) (drop i rows)
 
   -- a failure before the next row
-  pub written_stopped : IsTrue told → MovesPart (rows_text pages rows) before waiting after
-  written_stopped t = restated_part (sym whole) (cut (rows_text pages (drop i rows)) (record { lost = left; moves = so.moved t }))
+  pub written_stopped : IsTrue told → MovesPart (schema_rows_text pages rows) before waiting after
+  written_stopped t = restated_part (sym whole) (cut (schema_rows_text pages (drop i rows)) (record { lost = left; moves = so.moved t }))
 
   -- the end
-  pub written_all : length rows ≤ i → IsTrue told → Moves (rows_text pages rows) before waiting after left
-  written_all end t = restated (ap (rows_text pages) (take_all i rows end)) (so.moved t)
+  pub written_all : length rows ≤ i → IsTrue told → Moves (schema_rows_text pages rows) before waiting after left
+  written_all end t = restated (ap (schema_rows_text pages) (take_all i rows end)) (so.moved t)
 
   pub written_count : length rows ≤ i → count ≡ sum_by (row_count pages) rows
   written_count end = so.counted ∙ ap (sum_by (row_count pages)) (take_all i rows end)
@@ -184,19 +184,19 @@ module _ (pages : Pages) (rows : List SchemaRow) (i count : ℕ) (told : Bool) (
     one_more : take (i + 1) rows ≡ take i rows ++ kept ∷ []
     one_more = take_more rows i kept less ∙ ap (λ (r : SchemaRow). take i rows ++ r ∷ []) (sym is)
 
-    text_more : rows_text pages (take (i + 1) rows) ≡ rows_text pages (take i rows) ++ kept_text pages kept
+    text_more : schema_rows_text pages (take (i + 1) rows) ≡ schema_rows_text pages (take i rows) ++ kept_text pages kept
     text_more =
-        ap (rows_text pages) one_more ∙ flat_map-append (kept_text pages) (take i rows) (kept ∷ [])
-        ∙ ap (λ l. rows_text pages (take i rows) ++ l) (append-nil (kept_text pages kept))
+        ap (schema_rows_text pages) one_more ∙ flat_map-append (kept_text pages) (take i rows) (kept ∷ [])
+        ∙ ap (λ l. schema_rows_text pages (take i rows) ++ l) (append-nil (kept_text pages kept))
 
     -- a failure in the next row
-    pub written_failed : (after' : List ℕ) → (IsTrue told → MovesPart (kept_text pages kept) after left after') → IsTrue told → MovesPart (rows_text pages rows) before waiting after'
+    pub written_failed : (after' : List ℕ) → (IsTrue told → MovesPart (kept_text pages kept) after left after') → IsTrue told → MovesPart (schema_rows_text pages rows) before waiting after'
     written_failed after' part t =
         restated_part (
-        ap (λ l. l ++ rows_text pages (drop (i + 1) rows)) (sym text_more)
+        ap (λ l. l ++ schema_rows_text pages (drop (i + 1) rows)) (sym text_more)
         ∙ sym (flat_map-append (kept_text pages) (take (i + 1) rows) (drop (i + 1) rows))
-        ∙ ap (rows_text pages) (take-append-drop (i + 1) rows)
-        ) (cut (rows_text pages (drop (i + 1) rows)) (then_part (so.moved t) (part t)))
+        ∙ ap (schema_rows_text pages) (take-append-drop (i + 1) rows)
+        ) (cut (schema_rows_text pages (drop (i + 1) rows)) (then_part (so.moved t) (part t)))
 
     count_more : sum_by (row_count pages) (take (i + 1) rows) ≡ sum_by (row_count pages) (take i rows) + row_count pages kept
     count_more =

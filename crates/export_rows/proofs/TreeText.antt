@@ -10,7 +10,7 @@ use Rattle.db_format.specs.Value.{Datum}
 use Rattle.btree_model.specs.Finding.{Row, entries}
 use Rattle.btree_model.specs.Tree.{root_family, tree_walk}
 use Rattle.btree_walk.specs.declared.cursor.Cursor.{Cursor}
-use Rattle.btree_walk.specs.Cursor.{IsAt, IsMade, IsNext, walked}
+use Rattle.btree_walk.specs.Cursor.{IsCursorAt, IsCursorMade, IsNext, walked}
 use Rattle.btree_walk.proofs.CursorLemmas.{at_made}
 use Rattle.row_text.specs.Lines.{entry_line}
 use Rattle.row_text.specs.Out.{Moves, MovesPart}
@@ -23,18 +23,18 @@ pub record IsSoFar (pages : Pages) (root : ℕ) (cursor : Cursor) (seen : Test) 
   pub given : List Row
   pub more : List Row
   pub order : tree_rows pages root ≡ given ++ more
-  pub at : IsAt pages nothing given cursor seen
+  pub at : IsCursorAt pages nothing given cursor seen
   pub count : rows ≡ length given
   pub moved : IsTrue told → Moves (flat_map row_text given) before waiting after left
 
-pub so_far_made : (pages : Pages) (root : ℕ) (cursor : Cursor) (seen : Test) (told : Bool) (before waiting : List ℕ) → IsMade root None cursor → seen ≡ nothing
+pub so_far_made : (pages : Pages) (root : ℕ) (cursor : Cursor) (seen : Test) (told : Bool) (before waiting : List ℕ) → IsCursorMade root None cursor → seen ≡ nothing
     → IsSoFar pages root cursor seen 0 told before waiting before waiting
 so_far_made pages root cursor seen told before waiting made none =
     record {
       given = [];
       more = tree_rows pages root;
       order = refl;
-      at = subst (λ t. IsAt pages nothing [] cursor t) (sym none) (at_made root None cursor made pages nothing);
+      at = subst (λ t. IsCursorAt pages nothing [] cursor t) (sym none) (at_made root None cursor made pages nothing);
       count = refl;
       moved = λ t. waits before (sym (append-nil waiting));
     }

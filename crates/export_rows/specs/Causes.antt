@@ -14,17 +14,17 @@ IfWalk P (Walk error) = P error
 IfWalk P OutputFault = ⊤
 
 -- after the whole database was checked: no defect is found, and a refusal is one of a page of its parts
-abbrev pub IsLate : {R : Type 0} → (Pages → ℕ → R → Type 0) → Pages → WalkError R → Type 0
-IsLate refuses pages (Defect defect) = ⊥
-IsLate refuses pages (Source refusal) = IsRefusedEarly refuses pages (parts pages) refusal
-IsLate refuses pages OutOfMemory = ⊤
+abbrev pub IsLateWalk : {R : Type 0} → (Pages → ℕ → R → Type 0) → Pages → WalkError R → Type 0
+IsLateWalk refuses pages (Defect defect) = ⊥
+IsLateWalk refuses pages (Source refusal) = IsRefusedEarly refuses pages (parts pages) refusal
+IsLateWalk refuses pages OutOfMemory = ⊤
 
 -- the error is a defect
-abbrev pub is_defect : {R : Type 0} → ExportError R → Bool
-is_defect (Walk (Defect defect)) = true
-is_defect (Walk (Source refusal)) = false
-is_defect (Walk OutOfMemory) = false
-is_defect OutputFault = false
+abbrev pub is_export_defect : {R : Type 0} → ExportError R → Bool
+is_export_defect (Walk (Defect defect)) = true
+is_export_defect (Walk (Source refusal)) = false
+is_export_defect (Walk OutOfMemory) = false
+is_export_defect OutputFault = false
 
 -- why an export stops whose database was checked, and had no defect
 abbrev pub after_check : {R : Type 0} → ExportError R → ExportError R

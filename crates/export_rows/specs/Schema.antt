@@ -17,8 +17,8 @@ pub record IsSchemaOf (pages : Pages) (rows : List SchemaRow) : Type 0 where
 abbrev pub kept_text : Pages → SchemaRow → List ℕ
 kept_text pages row = item_text (item_at pages row.rowid row.payload)
 
-abbrev pub rows_text : Pages → List SchemaRow → List ℕ
-rows_text pages rows = flat_map (kept_text pages) rows
+abbrev pub schema_rows_text : Pages → List SchemaRow → List ℕ
+schema_rows_text pages rows = flat_map (kept_text pages) rows
 
 abbrev pub row_count : Pages → SchemaRow → ℕ
 row_count pages row = item_count (item_at pages row.rowid row.payload)

@@ -8,11 +8,11 @@ ghost use Rattle.btree_model.specs.Content.{content};
 ghost use Rattle.btree_model.specs.Parts.{is_database, parts};
 ghost use Rattle.btree_walk.specs.Causes.{IsGivenBy, is_failure};
 ghost use Rattle.schema_map.specs.Parts.{IsEarliest};
-ghost use Rattle.export_rows.specs.Causes.{IfWalk, IsLate, after_check, is_defect};
+ghost use Rattle.export_rows.specs.Causes.{IfWalk, IsLateWalk, after_check, is_export_defect};
 ghost use Rattle.export_rows.specs.Lines.{database_line, end_line, kept_of};
 ghost use Rattle.row_text.specs.Out.{Moves, MovesPart};
 ghost use Rattle.export_rows.specs.Report.{entry_count, export_report};
-ghost use Rattle.export_rows.specs.Schema.{IsSchemaOf, row_count, rows_text};
+ghost use Rattle.export_rows.specs.Schema.{IsSchemaOf, row_count, schema_rows_text};
 
 use crate::error::ExportError;
 use crate::item::put_item;
@@ -42,7 +42,7 @@ pub fn export<S: PageSource, K: Sink>(
     // no byte is put before the whole database was checked
     ensures sound { OnOk result (IsTrue S.tells → is_database (S.plain source.old) ≡ true) }
     ensures checked { OnErr result (IsTrue S.tells → (out.new ≡ out.old) ⊎ (is_database (S.plain source.old) ≡ true)) }
-    ensures defect { IfErr result (λ error. is_defect error ≡ true → out.new ≡ out.old) }
+    ensures defect { IfErr result (λ error. is_export_defect error ≡ true → out.new ≡ out.old) }
     // why it stopped
     ensures causes { IfErr result (IfWalk (λ error. IsTrue S.tells → IsEarliest S.refuses (S.plain source.old) (parts (S.plain source.old)) error)) }
     ensures given { IfErr result (IfWalk (IsGivenBy S.only_read S.plain S.refuses source.old)) }
@@ -78,13 +78,13 @@ fn put_content<S: PageSource, K: Sink>(
     requires high { All (λ row. row.root ≤ (S.plain source.old).count) rows.now }
     requires schema { IsTrue S.tells → IsSchemaOf (S.plain source.old) rows.now }
     ensures text { OnOk result (IsTrue S.tells → IsTrue K.tells → K.taken out.new ≡ K.taken out.old
-        ++ (database_line (kept_of header.now) ++ rows_text (S.plain source.old) rows.now ++ end_line)) }
+        ++ (database_line (kept_of header.now) ++ schema_rows_text (S.plain source.old) rows.now ++ end_line)) }
     ensures part { OnErr result (IsTrue S.tells → IsTrue K.tells → MovesPart
-        (database_line (kept_of header.now) ++ rows_text (S.plain source.old) rows.now ++ end_line) (K.taken out.old) [] (K.taken out.new)) }
+        (database_line (kept_of header.now) ++ schema_rows_text (S.plain source.old) rows.now ++ end_line) (K.taken out.old) [] (K.taken out.new)) }
     ensures count { IfOk result (λ count. IsTrue S.tells → count ≡ sum_by (row_count (S.plain source.old)) rows.now) }
     // why it stopped
-    ensures no_defect { IfErr result (λ error. is_defect error ≡ false) }
-    ensures causes { IfErr result (IfWalk (λ error. IsTrue S.tells → IsLate S.refuses (S.plain source.old) error)) }
+    ensures no_defect { IfErr result (λ error. is_export_defect error ≡ false) }
+    ensures causes { IfErr result (IfWalk (λ error. IsTrue S.tells → IsLateWalk S.refuses (S.plain source.old) error)) }
     ensures given { IfErr result (IfWalk (IsGivenBy S.only_read S.plain S.refuses source.old)) }
     ensures fault { IfErr result (IfWalk (λ error. IsTrue (is_failure S.is_fault error) → Rose (S.faults source.old) (S.faults source.new))) }
     ensures output { result ≡ Err ExportError.OutputFault → Rose (K.faults out.old) (K.faults out.new) }
@@ -122,12 +122,12 @@ fn put_items<S: PageSource, K: Sink>(
     requires unpinned { S.pins source.old ≡ no_pins }
     requires high { All (λ row. row.root ≤ (S.plain source.old).count) rows.now }
     requires schema { IsTrue S.tells → IsSchemaOf (S.plain source.old) rows.now }
-    ensures text { OnOk result (IsTrue S.tells → IsTrue K.tells → Moves (rows_text (S.plain source.old) rows.now) (K.taken out.old) line.old (K.taken out.new) line.new) }
-    ensures part { OnErr result (IsTrue S.tells → IsTrue K.tells → MovesPart (rows_text (S.plain source.old) rows.now) (K.taken out.old) line.old (K.taken out.new)) }
+    ensures text { OnOk result (IsTrue S.tells → IsTrue K.tells → Moves (schema_rows_text (S.plain source.old) rows.now) (K.taken out.old) line.old (K.taken out.new) line.new) }
+    ensures part { OnErr result (IsTrue S.tells → IsTrue K.tells → MovesPart (schema_rows_text (S.plain source.old) rows.now) (K.taken out.old) line.old (K.taken out.new)) }
     ensures count { IfOk result (λ count. IsTrue S.tells → count ≡ sum_by (row_count (S.plain source.old)) rows.now) }
     // why it stopped
-    ensures no_defect { IfErr result (λ error. is_defect error ≡ false) }
-    ensures causes { IfErr result (IfWalk (λ error. IsTrue S.tells → IsLate S.refuses (S.plain source.old) error)) }
+    ensures no_defect { IfErr result (λ error. is_export_defect error ≡ false) }
+    ensures causes { IfErr result (IfWalk (λ error. IsTrue S.tells → IsLateWalk S.refuses (S.plain source.old) error)) }
     ensures given { IfErr result (IfWalk (IsGivenBy S.only_read S.plain S.refuses source.old)) }
     ensures fault { IfErr result (IfWalk (λ error. IsTrue (is_failure S.is_fault error) → Rose (S.faults source.old) (S.faults source.new))) }
     ensures output { result ≡ Err ExportError.OutputFault → Rose (K.faults out.old) (K.faults out.new) }

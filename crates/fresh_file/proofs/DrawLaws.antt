@@ -10,10 +10,10 @@ use Rattle.cipher_profile.specs.declared.profile.Profile.{Profile}
 use Rattle.page_codec.specs.Page.{FileKeys, keys_of, keys_with_salt, magic, salt_of}
 use Rattle.fresh_file.specs.Sealed.{IsSealedWith}
 use Rattle.pager.specs.File.{whole_pages}
-use Rattle.pager.specs.Pages.{is_number}
-use Rattle.transaction.specs.Draws.{OwnDraws}
+use Rattle.pager.specs.Pages.{is_page_number}
+use Rattle.atomic_commit.specs.Draws.{OwnDraws}
 use Rattle.fresh_file.specs.Draws.{AreOwnDraws, HasOwnDraws, HasSaltAndDraws}
-use Rattle.fresh_file.specs.Beside.{IsSalted}
+use Rattle.fresh_file.specs.Salted.{IsSalted}
 
 -- the keys with the salt of a file are that file's
 pub keys_are : (profile : Profile) (secret : Secret) (salt file : List ℕ) (keys : FileKeys) → keys ≡ keys_with_salt profile secret salt
@@ -73,7 +73,7 @@ drawn_with keys file salt before mid after long is begins drew grown own ciphere
         record {
           enough = omega (arith, long, ap (λ (l : List ℕ). length l) drawn_is, length-append salt rest);
           salt = begins ∙ is ∙ sym (ap (λ (l : List ℕ). take 16 l) drawn_is ∙ take_at salt rest 16 long);
-          pages = own_after keys.profile.reserve 16 before drawn (is_number (whole_pages keys.profile file)) (IsSealedWith keys file)
+          pages = own_after keys.profile.reserve 16 before drawn (is_page_number (whole_pages keys.profile file)) (IsSealedWith keys file)
               (subst (λ (l : List ℕ). AreOwnDraws keys file (length before + 16) l) all_is (subst (λ (k : ℕ). AreOwnDraws keys file k after) mid_long own));
         }
 

@@ -7,7 +7,7 @@ use Rattle.std.proofs.lemmas.Bool.Decides.{nat_tests}
 use Rattle.std.proofs.lemmas.List.{length-take, take-append-le, take_at}
 use Rattle.std.proofs.Math.Nat.{mul-le-mul_right}
 use Rattle.edge_model.specs.Files.{written, Torn}
-use Rattle.disk_side.specs.Torn.{MayTear}
+use Rattle.fresh_disk.specs.Torn.{MayTear}
 use Rattle.cipher_profile.specs.Profile.{is_plain}
 use Rattle.page_codec.specs.Page.{FileKeys, magic, opened, sealed}
 use Rattle.db_format.specs.declared.header.Header.{Header}
@@ -16,12 +16,12 @@ use Rattle.db_format.specs.Pages.{Pages, Test, also, is_page, nothing}
 use Rattle.db_format.specs.Seen.{marked}
 use Rattle.page_build.specs.Draft.{laid}
 use Rattle.bulk_load.specs.Out.{AreAllPut}
-use Rattle.transaction.specs.Draws.{OwnDraws}
-use Rattle.transaction.proofs.OwnDraws.{own_next, own_none, same_or}
+use Rattle.atomic_commit.specs.Draws.{OwnDraws}
+use Rattle.atomic_commit.proofs.OwnDraws.{own_next, own_none, same_or}
 use Rattle.fresh_file.specs.Sealed.{IsSealed, IsSealedWith, IsSealing, plain_page}
 use Rattle.fresh_file.specs.declared.state.FreshState.{FreshState}
-use Rattle.fresh_file.specs.State.{pages_of}
-use Rattle.fresh_file.specs.Fresh.{IsFinished, IsOwned, IsPaged, IsWell, contents, fresh_page, sized, with_head}
+use Rattle.fresh_file.specs.State.{fresh_pages}
+use Rattle.fresh_file.specs.Fresh.{IsFinished, IsOwned, IsPaged, IsWell, fresh_contents, fresh_page, sized_page, with_head}
 use Rattle.fresh_file.proofs.SaltLaws.{salt_first}
 use Rattle.fresh_file.proofs.PageLaws.{opens_here, page_end, page_stays, sealed_here, sealed_stays, torn_page}
 
@@ -60,7 +60,7 @@ module _ (keys : FileKeys) (put : Test) (n : ℕ) (plain draw : List ℕ) (fresh
         where
           no_file : after ≡ None → after ≡ Some file → ⊥
           no_file none some = search rules
-      go (Some old) was = (old, was, ap contents (sym now ∙ after_is old was))
+      go (Some old) was = (old, was, ap fresh_contents (sym now ∙ after_is old was))
 
   sealed_next : (file : List ℕ) → ((m : ℕ) → put m ≡ true → IsSealed keys file m) → (m : ℕ) → also (n ∷ []) put m ≡ true → IsSealed keys (change file) m
   sealed_next file was m has = go (same_or m n)
@@ -101,30 +101,30 @@ module _ (keys : FileKeys) (put : Test) (n : ℕ) (plain draw : List ℕ) (fresh
   well_next count start tells draws_tell drawn now le grown was =
       record { told = was.told; paged = paged_next count le was.paged; owned = λ tell. owned_next start drawn now (grown tell) (was.owned tell) }
 
-  pub here_next : (count : ℕ) → IsPaged keys put count fresh → plain_page keys n (contents after) ≡ plain
+  pub here_next : (count : ℕ) → IsPaged keys put count fresh → plain_page keys n (fresh_contents after) ≡ plain
   here_next count was =
-      ap (λ (o : Option (List ℕ)). plain_page keys n (contents o)) (after_is was.file was.is) ∙ opens_here keys n plain draw was.file sealing
+      ap (λ (o : Option (List ℕ)). plain_page keys n (fresh_contents o)) (after_is was.file was.is) ∙ opens_here keys n plain draw was.file sealing
 
 -- ---- the other pages, whatever became of a write to page n
 
 pub others_stay : (keys : FileKeys) (put : Test) (count n : ℕ) (fresh after : Option (List ℕ)) → 1 ≤ n → MayTear ((n - 1) * keys.profile.page_size) keys.profile.page_size fresh after
-    → IsPaged keys put count fresh → (m : ℕ) → put m ≡ true → m ≢ n → plain_page keys m (contents after) ≡ plain_page keys m (contents fresh)
-others_stay keys put count n fresh after one (inl same) was m has other = ap (λ (o : Option (List ℕ)). plain_page keys m (contents o)) same
+    → IsPaged keys put count fresh → (m : ℕ) → put m ≡ true → m ≢ n → plain_page keys m (fresh_contents after) ≡ plain_page keys m (fresh_contents fresh)
+others_stay keys put count n fresh after one (inl same) was m has other = ap (λ (o : Option (List ℕ)). plain_page keys m (fresh_contents o)) same
 others_stay keys put count n fresh after one (inr torn) was m has other =
     let stood = (was.sealed m has).1 in
-    let old : was.file ≡ torn.before = ap contents (sym was.is ∙ torn.was) in
+    let old : was.file ≡ torn.before = ap fresh_contents (sym was.is ∙ torn.was) in
     let whole = subst (λ (l : List ℕ). m * keys.profile.page_size ≤ length l) old stood.whole in
-    ap (λ (o : Option (List ℕ)). plain_page keys m (contents o)) torn.is
+    ap (λ (o : Option (List ℕ)). plain_page keys m (fresh_contents o)) torn.is
     ∙ ap (λ (l : List ℕ). opened keys m l) (page_stays keys.profile.page_size m n torn.before torn.after stood.numbered one whole other torn.torn)
-    ∙ sym (ap (λ (o : Option (List ℕ)). plain_page keys m (contents o)) torn.was)
+    ∙ sym (ap (λ (o : Option (List ℕ)). plain_page keys m (fresh_contents o)) torn.was)
 
 -- what is read of a page that was put, but of page 1
 pub page_here : (keys : FileKeys) (first : List ℕ) (put : Test) (held : ℕ → List ℕ → List ℕ) (fresh : Option (List ℕ)) (n : ℕ) → (n ≡ 1 → ⊥) → put n ≡ true
-    → fresh_page keys first put held fresh n ≡ held n (plain_page keys n (contents fresh))
+    → fresh_page keys first put held fresh n ≡ held n (plain_page keys n (fresh_contents fresh))
 page_here keys first put held fresh n high has = go (n == 1) (put n) refl has
   where
     go : (a b : Bool) → (n == 1) ≡ a → b ≡ true
-        → (if a then first else (if b then held n (plain_page keys n (contents fresh)) else [])) ≡ held n (plain_page keys n (contents fresh))
+        → (if a then first else (if b then held n (plain_page keys n (fresh_contents fresh)) else [])) ≡ held n (plain_page keys n (fresh_contents fresh))
     go true b low at = absurd (high (eqb-true n 1 low))
     go false true low at = refl
     go false false low at = absurd (search rules)
@@ -194,7 +194,7 @@ all_marked first put count all n high le = sym (ap (λ b. if b then first else p
     within k h g = grind (arith, nat_tests, h, g)
 
 -- so are two pages
-pub two_put : (state : FreshState) (fresh : Option (List ℕ)) → state.taken ≡ 1 → state.has_first ≡ true → marked state.put 2 ≡ true → AreAllPut (pages_of state fresh)
+pub two_put : (state : FreshState) (fresh : Option (List ℕ)) → state.taken ≡ 1 → state.has_first ≡ true → marked state.put 2 ≡ true → AreAllPut (fresh_pages state fresh)
 two_put state fresh taken first second n is = by_first (n == 1) refl
   where
     is_two : (k p : ℕ) → p ≡ 1 → (nat_le 1 k && nat_le k (p + 1)) ≡ true → (k == 1) ≡ false → k ≡ 2
@@ -206,7 +206,7 @@ two_put state fresh taken first second n is = by_first (n == 1) refl
         ap (λ b. if b then state.has_first else marked state.put n) other ∙ ap (marked state.put) (is_two n state.taken taken is other) ∙ second
 
 pub head_first : (head rest bytes magic : List ℕ) → length head ≡ 100 → bytes ≡ head ++ rest → take 16 head ≡ magic → take 16 bytes ≡ magic
-head_first head rest bytes magic sized is begins = ap (λ (l : List ℕ). take 16 l) is ∙ take-append-le 16 head rest (omega (arith, sized)) ∙ begins
+head_first head rest bytes magic sized_page is begins = ap (λ (l : List ℕ). take 16 l) is ∙ take-append-le 16 head rest (omega (arith, sized_page)) ∙ begins
 
 -- a page with a header in front begins with the magic
 header_first : (h : Header) (page : List ℕ) → take 16 (with_head (header_bytes h) page) ≡ magic
@@ -225,9 +225,9 @@ own_fewer reserve start drawn put other seals fewer own = record {
 
 module _ (keys : FileKeys) (header : Header) (page : ℕ → List ℕ) (head : List ℕ) (put accepts : Test) (count usable start : ℕ) (tells draws_tell : Bool) (mid after : Option (List ℕ)) (drawn now : List ℕ) (one : 1 ≤ count)
     (well : IsWell keys (also (1 ∷ []) put) count start tells draws_tell mid drawn)
-    (here : plain_page keys 1 (contents mid) ≡ with_head head (page 1))
-    (stays : (m : ℕ) → put m ≡ true → (m ≡ 1 → ⊥) → plain_page keys m (contents mid) ≡ page m)
-    (is_head : head ≡ header_bytes (sized header count))
+    (here : plain_page keys 1 (fresh_contents mid) ≡ with_head head (page 1))
+    (stays : (m : ℕ) → put m ≡ true → (m ≡ 1 → ⊥) → plain_page keys m (fresh_contents mid) ≡ page m)
+    (is_head : head ≡ header_bytes (sized_page header count))
     (all : (n : ℕ) → 2 ≤ n → n ≤ count → put n ≡ true)
     (salt : length keys.salt ≡ 16) (room : 16 ≤ keys.profile.page_size) (plainly : is_plain keys.profile ≡ true → keys.salt ≡ magic)
     (same : after ≡ mid) (no_draw : now ≡ drawn) where
@@ -244,8 +244,8 @@ module _ (keys : FileKeys) (header : Header) (page : ℕ → List ℕ) (head : L
       go (inl at) = subst (λ (k : ℕ). also (1 ∷ []) put k ≡ true) (sym at) (also_here 1 put)
       go (inr off) = also_more 1 n put off ∙ all n (omega (arith, range.0, off)) range.1
 
-  file_is : contents mid ≡ well.paged.file
-  file_is = ap contents well.paged.is
+  file_is : fresh_contents mid ≡ well.paged.file
+  file_is = ap fresh_contents well.paged.is
 
   last_put : also (1 ∷ []) put count ≡ true
   last_put = put_of count (whole_range count one)
@@ -259,7 +259,7 @@ module _ (keys : FileKeys) (header : Header) (page : ℕ → List ℕ) (head : L
     is = same ∙ well.paged.is;
     salt = salt_first keys well.paged.file (well.paged.sealed 1 (also_here 1 put)) salt room
         (λ plain. ap (λ (l : List ℕ). take 16 (plain_page keys 1 l)) (sym file_is) ∙ ap (λ (l : List ℕ). take 16 l) here
-        ∙ ap (λ (l : List ℕ). take 16 (with_head l (page 1))) is_head ∙ header_first (sized header count) (page 1) ∙ sym (plainly plain));
+        ∙ ap (λ (l : List ℕ). take 16 (with_head l (page 1))) is_head ∙ header_first (sized_page header count) (page 1) ∙ sym (plainly plain));
     size = omega (arith, (well.paged.sealed count last_put).1.whole, well.paged.short);
     sealed = λ n is. well.paged.sealed n (put_of n is);
     first = ap (λ (l : List ℕ). plain_page keys 1 l) (sym file_is) ∙ here ∙ ap (λ (l : List ℕ). with_head l (page 1)) is_head;
@@ -278,8 +278,8 @@ laid_start head page = ap (λ (k : ℕ). head ++ drop k page) (let e : 0 + lengt
 
 -- what is written back over as many bytes is all there is
 pub written_is : (n : ℕ) (new old : List ℕ) → length new ≡ n → take n (new ++ drop (length new) old) ≡ new
-written_is n new old sized = take_at new (drop (length new) old) n sized
+written_is n new old sized_page = take_at new (drop (length new) old) n sized_page
 
 -- as many bytes are written back as there were
 pub written_back : (n : ℕ) (new old : List ℕ) → length new ≡ n → length (take n (new ++ drop (length new) old)) ≡ n
-written_back n new old sized = omega (arith, length-take n (new ++ drop (length new) old), length-append new (drop (length new) old), sized)
+written_back n new old sized_page = omega (arith, length-take n (new ++ drop (length new) old), length-append new (drop (length new) old), sized_page)

@@ -7,7 +7,7 @@ use Rattle.db_format.specs.Header.{header_bytes}
 use Rattle.db_format.specs.Pages.{Pages, is_page}
 use Rattle.page_codec.specs.Page.{FileKeys, accepts, stored_page}
 use Rattle.bulk_load.specs.Headed.{IsHeaded}
-use Rattle.fresh_file.specs.Fresh.{IsFinished, sized}
+use Rattle.fresh_file.specs.Fresh.{IsFinished, sized_page}
 use Rattle.fresh_file.specs.Sealed.{plain_page}
 
 low : (n count : ℕ) → (nat_le 2 n && nat_le n count) ≡ true → 2 ≤ n
@@ -27,7 +27,7 @@ pub finished_headed : (keys : FileKeys) (header : Header) (pages : Pages) (start
     (f : IsFinished keys header pages start draws_tell fresh drawn) (whole : Pages) → 1 ≤ pages.count → whole.count ≡ pages.count → whole.usable ≡ pages.usable
     → ((n : ℕ) → is_page pages n ≡ true → whole.page n ≡ plain_page keys n f.file)
     → ((n : ℕ) → is_page pages n ≡ true → IsTrue (accepts keys n (stored_page keys.profile.page_size n f.file)) → whole.accepts n ≡ true)
-    → IsHeaded (header_bytes (sized header pages.count)) pages whole
+    → IsHeaded (header_bytes (sized_page header pages.count)) pages whole
 finished_headed keys header pages start draws_tell fresh drawn f whole some count usable opens lent = record {
   count = count;
   usable = usable;

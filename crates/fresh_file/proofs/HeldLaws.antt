@@ -10,17 +10,17 @@ use Rattle.cipher_profile.specs.Profile.{IsListed, usable}
 use Rattle.cipher_profile.specs.declared.profile.Profile.{Profile}
 use Rattle.cipher_profile.proofs.Layouts.{IsListed-laid_out}
 use Rattle.edge_model.specs.Files.{written, Torn}
-use Rattle.disk_side.specs.Torn.{MayTear}
+use Rattle.fresh_disk.specs.Torn.{MayTear}
 use Rattle.db_format.specs.Pages.{Test, also}
 use Rattle.db_format.specs.Seen.{marked}
 use Rattle.page_codec.specs.Page.{FileKeys, accepts, opened, sealed}
-use Rattle.page_codec.specs.Pages.{page_at, sealed_page}
+use Rattle.page_codec.specs.Pages.{nth_page, sealed_page}
 use Rattle.pager.proofs.TxnLemmas.{listed_large}
 use Rattle.fresh_file.specs.Added.{AreSame}
-use Rattle.fresh_file.specs.Fresh.{IsWell, contents, fresh_page}
+use Rattle.fresh_file.specs.Fresh.{IsWell, fresh_contents, fresh_page}
 use Rattle.fresh_file.specs.Held.{AreSealing, IsCutShort, IsSealedAs, IsWellOnce, draw_at, held_or, is_among, plain_at, sealed_at, settled, with_pages}
 use Rattle.fresh_file.specs.Sealed.{IsSealing, plain_page}
-use Rattle.fresh_file.specs.State.{held_page}
+use Rattle.fresh_file.specs.State.{page_as_held}
 use Rattle.fresh_file.specs.declared.held.HeldPages.{HeldPages}
 use Rattle.fresh_file.proofs.FreshLaws.{also_more, well_next}
 use Rattle.fresh_file.proofs.PageLaws.{opens_here, page_stays, sealed_here, torn_page}
@@ -159,35 +159,35 @@ over keys numbers room (suc k) sealing fresh file is =
 -- ---- held pages, sealed
 
 pub sealings : (keys : FileKeys) (numbers room stored : List ℕ) (held : ℕ)
-    → ((k : ℕ) → k < held → IsSealedAs keys (slice_index numbers k) (page_at keys.profile.page_size room k) (page_at keys.profile.page_size stored k))
+    → ((k : ℕ) → k < held → IsSealedAs keys (slice_index numbers k) (nth_page keys.profile.page_size room k) (nth_page keys.profile.page_size stored k))
     → AreSealing keys numbers room held
 sealings keys numbers room stored held each k lt = (each k lt).sealing
 
 -- the stored pages that are written are those
 pub stored_same : (keys : FileKeys) (numbers room stored : List ℕ) (held : ℕ)
-    → ((k : ℕ) → k < held → IsSealedAs keys (slice_index numbers k) (page_at keys.profile.page_size room k) (page_at keys.profile.page_size stored k))
+    → ((k : ℕ) → k < held → IsSealedAs keys (slice_index numbers k) (nth_page keys.profile.page_size room k) (nth_page keys.profile.page_size stored k))
     → (k : ℕ) → k ≤ held → (fresh : Option (List ℕ))
-    → with_pages keys.profile.page_size numbers (λ j. page_at keys.profile.page_size stored j) k fresh ≡ settled keys numbers room k fresh
+    → with_pages keys.profile.page_size numbers (λ j. nth_page keys.profile.page_size stored j) k fresh ≡ settled keys numbers room k fresh
 stored_same keys numbers room stored held each k le fresh =
-    with_same numbers numbers (sealed_at keys numbers room) (λ j. page_at keys.profile.page_size stored j) keys.profile.page_size k fresh
+    with_same numbers numbers (sealed_at keys numbers room) (λ j. nth_page keys.profile.page_size stored j) keys.profile.page_size k fresh
     (λ j lt. (refl, (each j (omega (arith, lt, le))).is))
 
 -- the same of equal lists and counts
 module _ (keys : FileKeys) (numbers room stored new_numbers : List ℕ) (held count size : ℕ) (wide : size ≡ keys.profile.page_size) (equal : new_numbers ≡ numbers) (many : count ≡ held)
-    (each : (k : ℕ) → k < held → IsSealedAs keys (slice_index numbers k) (page_at keys.profile.page_size room k) (page_at keys.profile.page_size stored k)) (fresh : Option (List ℕ)) where
-  pub done_as : with_pages size new_numbers (λ k. page_at size stored k) count fresh ≡ settled keys numbers room held fresh
+    (each : (k : ℕ) → k < held → IsSealedAs keys (slice_index numbers k) (nth_page keys.profile.page_size room k) (nth_page keys.profile.page_size stored k)) (fresh : Option (List ℕ)) where
+  pub done_as : with_pages size new_numbers (λ k. nth_page size stored k) count fresh ≡ settled keys numbers room held fresh
   done_as =
-      (λ i. with_pages (wide i) (equal i) (λ k. page_at (wide i) stored k) (many i) fresh)
+      (λ i. with_pages (wide i) (equal i) (λ k. nth_page (wide i) stored k) (many i) fresh)
       ∙ stored_same keys numbers room stored held each held (omega arith) fresh
 
-  pub cut_as : (after : Option (List ℕ)) → IsCutShort size new_numbers (λ k. page_at size stored k) count fresh after
+  pub cut_as : (after : Option (List ℕ)) → IsCutShort size new_numbers (λ k. nth_page size stored k) count fresh after
       → IsCutShort keys.profile.page_size numbers (sealed_at keys numbers room) held fresh after
   cut_as after cut =
       let page_size = keys.profile.page_size in
-      let here : IsCutShort page_size numbers (λ k. page_at page_size stored k) held fresh after =
-      subst (λ (z : ℕ). IsCutShort z numbers (λ k. page_at z stored k) held fresh after) wide
-      (subst (λ (l : List ℕ). IsCutShort size l (λ k. page_at size stored k) held fresh after) equal
-      (subst (λ (h : ℕ). IsCutShort size new_numbers (λ k. page_at size stored k) h fresh after) many cut)) in
+      let here : IsCutShort page_size numbers (λ k. nth_page page_size stored k) held fresh after =
+      subst (λ (z : ℕ). IsCutShort z numbers (λ k. nth_page z stored k) held fresh after) wide
+      (subst (λ (l : List ℕ). IsCutShort size l (λ k. nth_page size stored k) held fresh after) equal
+      (subst (λ (h : ℕ). IsCutShort size new_numbers (λ k. nth_page size stored k) h fresh after) many cut)) in
       record {
         at = here.at;
         within = here.within;
@@ -198,12 +198,12 @@ module _ (keys : FileKeys) (numbers room stored new_numbers : List ℕ) (held co
 -- ---- what a page reads as
 
 pub page_moves : (keys : FileKeys) (first : List ℕ) (put : Test) (held held' : ℕ → List ℕ → List ℕ) (fresh after : Option (List ℕ)) (n : ℕ)
-    → (put n ≡ true → held' n (plain_page keys n (contents after)) ≡ held n (plain_page keys n (contents fresh)))
+    → (put n ≡ true → held' n (plain_page keys n (fresh_contents after)) ≡ held n (plain_page keys n (fresh_contents fresh)))
     → fresh_page keys first put held' after n ≡ fresh_page keys first put held fresh n
 page_moves keys first put held held' fresh after n same = go (n == 1) (put n) refl
   where
     go : (a b : Bool) → put n ≡ b
-        → (if a then first else (if b then held' n (plain_page keys n (contents after)) else [])) ≡ (if a then first else (if b then held n (plain_page keys n (contents fresh)) else []))
+        → (if a then first else (if b then held' n (plain_page keys n (fresh_contents after)) else [])) ≡ (if a then first else (if b then held n (plain_page keys n (fresh_contents fresh)) else []))
     go true b has = refl
     go false true has = same has
     go false false has = refl
@@ -211,18 +211,18 @@ page_moves keys first put held held' fresh after n same = go (n == 1) (put n) re
 pub page_marks : (keys : FileKeys) (first : List ℕ) (put other : Test) (held : ℕ → List ℕ → List ℕ) (fresh : Option (List ℕ)) (n : ℕ) → other n ≡ put n
     → fresh_page keys first other held fresh n ≡ fresh_page keys first put held fresh n
 page_marks keys first put other held fresh n same =
-    ap (λ (b : Bool). if n == 1 then first else (if b then held n (plain_page keys n (contents fresh)) else [])) same
+    ap (λ (b : Bool). if n == 1 then first else (if b then held n (plain_page keys n (fresh_contents fresh)) else [])) same
 
 module _ (keys : FileKeys) (numbers room : List ℕ) (held : ℕ) (sealing : AreSealing keys numbers room held) (fresh after : Option (List ℕ)) (file : List ℕ) (is : fresh ≡ Some file)
     (n : ℕ) (there : IsThere keys numbers held file n) where
   -- once all were written, a page reads in the file as it did before
   pub reads_settled : after ≡ settled keys numbers room held fresh
-      → plain_page keys n (contents after) ≡ held_or numbers (plain_at keys room) held n (plain_page keys n (contents fresh))
+      → plain_page keys n (fresh_contents after) ≡ held_or numbers (plain_at keys room) held n (plain_page keys n (fresh_contents fresh))
   reads_settled done =
       let all = over keys numbers room held sealing fresh file is in
-      ap (λ (o : Option (List ℕ)). plain_page keys n (contents o)) (done ∙ all.is)
+      ap (λ (o : Option (List ℕ)). plain_page keys n (fresh_contents o)) (done ∙ all.is)
       ∙ all.opens n there
-      ∙ ap (λ (o : Option (List ℕ)). held_or numbers (plain_at keys room) held n (plain_page keys n (contents o))) (sym is)
+      ∙ ap (λ (o : Option (List ℕ)). held_or numbers (plain_at keys room) held n (plain_page keys n (fresh_contents o))) (sym is)
 
   module _ (k : ℕ) (less : k < held) (tears : MayTear ((slice_index numbers k - 1) * keys.profile.page_size) keys.profile.page_size (settled keys numbers room k fresh) after) where
     some : IsOver keys numbers room k fresh file
@@ -237,26 +237,26 @@ module _ (keys : FileKeys) (numbers room : List ℕ) (held : ℕ) (sealing : Are
           some.opens n (λ _. there none)
           ∙ held_none numbers (plain_at keys room) k n (plain_page keys n file) (λ j lt. others j (omega (arith, lt, less)))
 
-      by_tear : MayTear ((slice_index numbers k - 1) * keys.profile.page_size) keys.profile.page_size (settled keys numbers room k fresh) after → plain_page keys n (contents after) ≡ plain_page keys n some.after
-      by_tear (inl same) = ap (λ (o : Option (List ℕ)). plain_page keys n (contents o)) (same ∙ some.is)
+      by_tear : MayTear ((slice_index numbers k - 1) * keys.profile.page_size) keys.profile.page_size (settled keys numbers room k fresh) after → plain_page keys n (fresh_contents after) ≡ plain_page keys n some.after
+      by_tear (inl same) = ap (λ (o : Option (List ℕ)). plain_page keys n (fresh_contents o)) (same ∙ some.is)
       by_tear (inr torn) =
-          let old : some.after ≡ torn.before = ap contents (sym some.is ∙ torn.was) in
+          let old : some.after ≡ torn.before = ap fresh_contents (sym some.is ∙ torn.was) in
           let there_now = some.whole n (λ _. there none) in
           let whole = subst (λ (l : List ℕ). n * keys.profile.page_size ≤ length l) old there_now.1 in
-          ap (λ (o : Option (List ℕ)). plain_page keys n (contents o)) torn.is
+          ap (λ (o : Option (List ℕ)). plain_page keys n (fresh_contents o)) torn.is
           ∙ ap (λ (l : List ℕ). opened keys n l)
           (page_stays keys.profile.page_size n (slice_index numbers k) torn.before torn.after there_now.0 (sealing k less).numbered whole (λ same. eqb-false _ n (others k less) (sym same)) torn.torn)
           ∙ ap (λ (l : List ℕ). plain_page keys n l) (sym old)
 
-      elsewhere : plain_page keys n (contents after) ≡ plain_page keys n (contents fresh)
-      elsewhere = by_tear tears ∙ stands ∙ ap (λ (o : Option (List ℕ)). plain_page keys n (contents o)) (sym is)
+      elsewhere : plain_page keys n (fresh_contents after) ≡ plain_page keys n (fresh_contents fresh)
+      elsewhere = by_tear tears ∙ stands ∙ ap (λ (o : Option (List ℕ)). plain_page keys n (fresh_contents o)) (sym is)
 
     -- and so it does as long as they are held, wherever their writing ended
-    pub reads_torn : held_or numbers (plain_at keys room) held n (plain_page keys n (contents after)) ≡ held_or numbers (plain_at keys room) held n (plain_page keys n (contents fresh))
+    pub reads_torn : held_or numbers (plain_at keys room) held n (plain_page keys n (fresh_contents after)) ≡ held_or numbers (plain_at keys room) held n (plain_page keys n (fresh_contents fresh))
     reads_torn = go (either (is_among numbers held n))
       where
         go : (is_among numbers held n ≡ true) ⊎ (is_among numbers held n ≡ false)
-            → held_or numbers (plain_at keys room) held n (plain_page keys n (contents after)) ≡ held_or numbers (plain_at keys room) held n (plain_page keys n (contents fresh))
+            → held_or numbers (plain_at keys room) held n (plain_page keys n (fresh_contents after)) ≡ held_or numbers (plain_at keys room) held n (plain_page keys n (fresh_contents fresh))
         go (inl has) = held_any numbers (plain_at keys room) held n _ _ has
         go (inr none) = ap (λ (l : List ℕ). held_or numbers (plain_at keys room) held n l) (elsewhere none)
 
@@ -300,8 +300,8 @@ module _ (keys new_keys : FileKeys) (held new_held : HeldPages) (put new_put : L
       })))
 
   pub page_as : (first : List ℕ) (fresh : Option (List ℕ)) (n : ℕ)
-      → fresh_page new_keys first (marked new_put) (held_page new_keys new_held) fresh n ≡ fresh_page keys first (marked put) (held_page keys held) fresh n
-  page_as first fresh n = (λ i. fresh_page (same_keys i) first (marked (same_put i)) (held_page (same_keys i) (same_held i)) fresh n)
+      → fresh_page new_keys first (marked new_put) (page_as_held new_keys new_held) fresh n ≡ fresh_page keys first (marked put) (page_as_held keys held) fresh n
+  page_as first fresh n = (λ i. fresh_page (same_keys i) first (marked (same_put i)) (page_as_held (same_keys i) (same_held i)) fresh n)
 
 -- whatever page 1 is, the others read as they did
 pub page_but_first : (keys : FileKeys) (first last : List ℕ) (put : Test) (held : ℕ → List ℕ → List ℕ) (fresh : Option (List ℕ)) (n k : ℕ) → n ≡ 1 → (n == k) ≡ false
@@ -314,12 +314,12 @@ page_but_first keys first last put held fresh n k one apart =
     turned a b one apart = grind (arith, nat_tests, one, apart)
 
     read : List ℕ
-    read = if put k then held k (plain_page keys k (contents fresh)) else []
+    read = if put k then held k (plain_page keys k (fresh_contents fresh)) else []
 
 -- ---- one more is held
 
 module _ (keys : FileKeys) (numbers room new_numbers new_room : List ℕ) (held n : ℕ) (plain draw : List ℕ) (long : length plain ≡ usable keys.profile)
-    (number : slice_index new_numbers held ≡ n) (here : page_at keys.profile.page_size new_room held ≡ plain ++ draw)
+    (number : slice_index new_numbers held ≡ n) (here : nth_page keys.profile.page_size new_room held ≡ plain ++ draw)
     (others : AreSame keys.profile.page_size held numbers room new_numbers new_room) where
   abbrev page_size : ℕ
   page_size = keys.profile.page_size

@@ -6,6 +6,4 @@ pub mod HeldLaws
 pub mod LimitLaws
 pub mod OpeningLaws
 pub mod PageLaws
-pub mod PlaceLaws
-pub mod RunLaws
 pub mod SaltLaws

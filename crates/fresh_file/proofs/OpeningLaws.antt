@@ -17,12 +17,12 @@ use Rattle.page_codec.specs.Page.{FileKeys, accepts, bears_sign, fits, magic, op
 use Rattle.page_codec.proofs.Parts.{opened_plain_file}
 use Rattle.pager.specs.File.{first_page, page_stored, whole_pages}
 use Rattle.pager.specs.Opening.{file_header, file_opened}
-use Rattle.pager.specs.Pages.{is_number, opened_pages}
+use Rattle.pager.specs.Pages.{is_page_number, opened_pages}
 use Rattle.pager.proofs.BatchLemmas.{number_is}
 use Rattle.pager.proofs.TxnLemmas.{listed_large}
-use Rattle.transaction.specs.Draws.{OwnDraws}
+use Rattle.atomic_commit.specs.Draws.{OwnDraws}
 use Rattle.fresh_file.specs.Draws.{AreOwnDraws}
-use Rattle.fresh_file.specs.Fresh.{IsFinished, contents, sized}
+use Rattle.fresh_file.specs.Fresh.{IsFinished, fresh_contents, sized_page}
 use Rattle.fresh_file.specs.Sealed.{IsSealedWith}
 use Rattle.fresh_file.specs.State.{most_pages}
 use Rattle.fresh_file.proofs.HeadedLaws.{finished_headed}
@@ -106,7 +106,7 @@ module _ (keys : FileKeys) (header : Header) (start : ℕ) (pages : Pages) (draw
   count = pages.count
 
   abbrev new_header : Header
-  new_header = sized header count
+  new_header = sized_page header count
 
   abbrev head : List ℕ
   head = header_bytes new_header
@@ -123,13 +123,13 @@ module _ (keys : FileKeys) (header : Header) (start : ℕ) (pages : Pages) (draw
   first : plain_1 ≡ head ++ rest
   first = done.first
 
-  pub accepted : (n : ℕ) → is_number count n ≡ true → accepts keys n (page_stored keys file n) ≡ true
+  pub accepted : (n : ℕ) → is_page_number count n ≡ true → accepts keys n (page_stored keys file n) ≡ true
   accepted n is = (done.sealed n is).1.accepted
 
-  one_is : is_number count 1 ≡ true
+  one_is : is_page_number count 1 ≡ true
   one_is = number_is count 1 (omega arith) one
 
-  module _ (for : IsHeaderFor keys.profile header) (read : header_read (header_bytes (sized header pages.count)) header.page_size header.reserve ≡ Ok (sized header pages.count))
+  module _ (for : IsHeaderFor keys.profile header) (read : header_read (header_bytes (sized_page header pages.count)) header.page_size header.reserve ≡ Ok (sized_page header pages.count))
       (most : pages.count ≤ most_pages keys.profile) where
     fit : fits keys (page_stored keys file 1) ≡ true
     fit = by_kind (is_plain keys.profile) refl
@@ -160,7 +160,7 @@ module _ (keys : FileKeys) (header : Header) (start : ℕ) (pages : Pages) (draw
     sized_few : count * new_header.page_size ≡ count * keys.profile.page_size
     sized_few = ap (λ (n : ℕ). count * n) for.page_size
 
-    pub opens : file_opened keys file ≡ Ok (record { header = sized header pages.count; count = pages.count })
+    pub opens : file_opened keys file ≡ Ok (record { header = sized_page header pages.count; count = pages.count })
     opens =
         let long : keys.profile.page_size ≤ length file = omega (arith, (done.sealed 1 one_is).1.whole) in
         opens_by keys file new_header count
@@ -176,13 +176,13 @@ module _ (keys : FileKeys) (header : Header) (start : ℕ) (pages : Pages) (draw
     abbrev file_pages : Pages
     file_pages = opened_pages keys file count
 
-    is_lent : (n : ℕ) → is_number count n ≡ true → IsTrue (accepts keys n (page_stored keys file n)) → file_pages.accepts n ≡ true
-    is_lent n is accepted = both (is_number count n) (accepts keys n (page_stored keys file n)) is accepted
+    is_lent : (n : ℕ) → is_page_number count n ≡ true → IsTrue (accepts keys n (page_stored keys file n)) → file_pages.accepts n ≡ true
+    is_lent n is accepted = both (is_page_number count n) (accepts keys n (page_stored keys file n)) is accepted
 
-    pub is_headed : IsHeaded (header_bytes (sized header pages.count)) pages (opened_pages keys done.file pages.count)
+    pub is_headed : IsHeaded (header_bytes (sized_page header pages.count)) pages (opened_pages keys done.file pages.count)
     is_headed =
         finished_headed keys header pages start draws_tell fresh drawn done file_pages one refl (sym usable_is)
-        (λ n is. yes (is_number count n) (opened keys n (page_stored keys file n)) [] is) is_lent
+        (λ n is. yes (is_page_number count n) (opened keys n (page_stored keys file n)) [] is) is_lent
 
   -- and what they were sealed with
   whole : whole_pages keys.profile file ≡ count
@@ -191,7 +191,7 @@ module _ (keys : FileKeys) (header : Header) (start : ℕ) (pages : Pages) (draw
   pub own_draws : IsTrue draws_tell → (there : List ℕ) → fresh ≡ Some there → AreOwnDraws keys there start drawn
   own_draws tell there is =
       subst (λ (l : List ℕ). AreOwnDraws keys l start drawn) (same_file (sym done.is ∙ is))
-      (subst (λ (n : ℕ). OwnDraws keys.profile.reserve start drawn (is_number n) (IsSealedWith keys file)) (sym whole) (done.own tell))
+      (subst (λ (n : ℕ). OwnDraws keys.profile.reserve start drawn (is_page_number n) (IsSealedWith keys file)) (sym whole) (done.own tell))
     where
       same_file : Some file ≡ Some there → file ≡ there
-      same_file same = ap contents same
+      same_file same = ap fresh_contents same

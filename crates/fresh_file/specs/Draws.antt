@@ -3,7 +3,7 @@ use Rattle.std.specs.Prelude.{◌≡◌, false, ◌≤◌, ◌/◌, ◌&&◌, �
 use Rattle.cipher_profile.specs.Profile.{is_plain}
 use Rattle.db_format.specs.Pages.{Test}
 use Rattle.page_codec.specs.Page.{FileKeys, salt_of}
-use Rattle.transaction.specs.Draws.{OwnDraws}
+use Rattle.atomic_commit.specs.Draws.{OwnDraws}
 use Rattle.fresh_file.specs.Sealed.{IsSealedWith}
 
 -- the number of a page of the file

@@ -5,9 +5,9 @@ use Rattle.std.specs.Option.{option_map}
 use Rattle.cipher_profile.specs.Profile.{usable}
 use Rattle.edge_model.specs.Files.{written}
 use Rattle.db_format.specs.Pages.{Test}
-use Rattle.disk_side.specs.Torn.{MayTear}
+use Rattle.fresh_disk.specs.Torn.{MayTear}
 use Rattle.page_codec.specs.Page.{FileKeys, sealed}
-use Rattle.page_codec.specs.Pages.{page_at, sealed_page}
+use Rattle.page_codec.specs.Pages.{nth_page, sealed_page}
 use Rattle.fresh_file.specs.Fresh.{IsWell}
 use Rattle.fresh_file.specs.Sealed.{IsSealing}
 
@@ -39,11 +39,11 @@ pub record IsCutShort (size : ℕ) (numbers : List ℕ) (page : ℕ → List ℕ
 
 -- the content of the held page at this place
 abbrev pub plain_at : FileKeys → List ℕ → ℕ → List ℕ
-plain_at keys room k = take (usable keys.profile) (page_at keys.profile.page_size room k)
+plain_at keys room k = take (usable keys.profile) (nth_page keys.profile.page_size room k)
 
 -- the bytes that were drawn for it
 abbrev pub draw_at : FileKeys → List ℕ → ℕ → List ℕ
-draw_at keys room k = drop (usable keys.profile) (page_at keys.profile.page_size room k)
+draw_at keys room k = drop (usable keys.profile) (nth_page keys.profile.page_size room k)
 
 -- it, sealed
 abbrev pub sealed_at : FileKeys → List ℕ → List ℕ → ℕ → List ℕ

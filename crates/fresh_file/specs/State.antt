@@ -11,15 +11,15 @@ use Rattle.page_codec.specs.Page.{FileKeys}
 use Rattle.fresh_file.specs.declared.held.HeldPages.{HeldPages}
 
 -- what a page reads as that would read as these bytes in the file: the last that is held of it, or else they
-abbrev pub held_page : FileKeys → HeldPages → ℕ → List ℕ → List ℕ
-held_page keys held n other = held_or held.numbers.items (plain_at keys held.room.items) held.count n other
+abbrev pub page_as_held : FileKeys → HeldPages → ℕ → List ℕ → List ℕ
+page_as_held keys held n other = held_or held.numbers.items (plain_at keys held.room.items) held.count n other
 
 -- Its pages: their count is one more than that of the numbers that were taken, and those are accepted that were put.
-abbrev pub pages_of : FreshState → Option (List ℕ) → Pages
-pages_of state fresh = record {
+abbrev pub fresh_pages : FreshState → Option (List ℕ) → Pages
+fresh_pages state fresh = record {
   count = state.taken + 1;
   usable = usable state.codec.profile;
-  page = fresh_page state.codec state.first.items (marked state.put) (held_page state.codec state.held) fresh;
+  page = fresh_page state.codec state.first.items (marked state.put) (page_as_held state.codec state.held) fresh;
   accepts = λ n. if n == 1 then state.has_first else marked state.put n;
 }
 

@@ -4,7 +4,7 @@ ghost use Rattle.std.specs.Prelude.{◌≡◌, ◌≤◌, ◌+◌, ℕ, refl};
 use crate::sealing::CommitFault;
 use crate::state::FreshState;
 use bulk_load::{OutError, PageOut};
-use disk_side::Side;
+use fresh_disk::Side;
 
 /// A new file, together with the side through which it is written.
 #[derive(Drop)]
@@ -14,9 +14,9 @@ pub struct FreshOut<'a, T: Side> {
 }
 
 impl<'a, T: Side> PageOut for FreshOut<'a, T> {
-    ghost use Rattle.fresh_file.specs.State.{IsWellAs, pages_of};
+    ghost use Rattle.fresh_file.specs.State.{IsWellAs, fresh_pages};
 
-    ghost pages = { λ s. pages_of s.state.now (T.Side.fresh s.side.now) };
+    ghost pages = { λ s. fresh_pages s.state.now (T.Side.fresh s.side.now) };
 
     ghost limit = { λ s. s.state.now.limit };
 

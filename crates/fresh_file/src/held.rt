@@ -2,12 +2,12 @@
 ghost use Rattle.std.specs.Prelude.{◌≡◌, ◌==◌, ◌≤◌, ◌<◌, ◌+◌, ◌-◌, ◌*◌, ◌++◌, ℕ, All, length, slice_index, IsTrue, IfOk, OnOk, OnErr, Err};
 ghost use Rattle.cipher_profile.specs.Profile.{usable};
 ghost use Rattle.edge_model.specs.Causes.{Rose};
-ghost use Rattle.page_codec.specs.Pages.{page_at};
+ghost use Rattle.page_codec.specs.Pages.{nth_page};
 ghost use Rattle.fresh_file.specs.Held.{IsCutShort, IsSealedAs, with_pages};
 
 use crate::sealing::{CommitFault, write_to};
 use db_format::OutOfMemory;
-use disk_side::Side;
+use fresh_disk::Side;
 use page_codec::Codec;
 use std::alloc::Global;
 
@@ -87,7 +87,7 @@ impl HeldPages {
     pub(crate) fn seal(&mut self, codec: &Codec)
         requires size { codec.now.profile.page_size ≡ self.old.size }
         ensures sealed { (k : ℕ) → k < self.old.count → IsSealedAs codec.now (slice_index self.old.numbers.items k)
-            (page_at codec.now.profile.page_size self.old.room.items k) (page_at codec.now.profile.page_size self.new.stored.items k) }
+            (nth_page codec.now.profile.page_size self.old.room.items k) (nth_page codec.now.profile.page_size self.new.stored.items k) }
         ensures same { (self.new.size ≡ self.old.size) × (self.new.count ≡ self.old.count) }
         ensures held { (self.new.numbers.items ≡ self.old.numbers.items) × (self.new.room.items ≡ self.old.room.items) }
     {
@@ -107,9 +107,9 @@ impl HeldPages {
     /// Writes each stored page to the place of its number.
     pub(crate) fn write<T: Side>(&self, side: &mut T) -> Result<(), CommitFault>
         ensures done { OnOk result (IsTrue T.tells → T.fresh side.new
-            ≡ with_pages self.now.size self.now.numbers.items (λ k. page_at self.now.size self.now.stored.items k) self.now.count (T.fresh side.old)) }
+            ≡ with_pages self.now.size self.now.numbers.items (λ k. nth_page self.now.size self.now.stored.items k) self.now.count (T.fresh side.old)) }
         ensures torn { OnErr result (IsTrue T.tells
-            → IsCutShort self.now.size self.now.numbers.items (λ k. page_at self.now.size self.now.stored.items k) self.now.count (T.fresh side.old) (T.fresh side.new)) }
+            → IsCutShort self.now.size self.now.numbers.items (λ k. nth_page self.now.size self.now.stored.items k) self.now.count (T.fresh side.old) (T.fresh side.new)) }
         ensures drawn { T.drawn side.new ≡ T.drawn side.old }
         ensures kept { T.only_fresh side.old side.new }
         ensures draws_later { T.draw_faults side.new ≡ T.draw_faults side.old }
@@ -134,7 +134,7 @@ impl HeldPages {
     // Its stored page.
     fn stored_page(&self, k: usize) -> &[u8]
         requires { k < self.now.count }
-        ensures value { result.now ≡ page_at self.now.size self.now.stored.items k }
+        ensures value { result.now ≡ nth_page self.now.size self.now.stored.items k }
         ensures size { length result.now ≡ self.now.size }
     {
         let size = self.size as usize;
@@ -176,8 +176,8 @@ pub(crate) fn zeros(alloc: Global, len: usize) -> Result<Vec<u8>, OutOfMemory>
 // Page k of these is this plain page, with its drawn bytes behind it.
 fn lay(pages: &mut [u8], k: usize, plain: &[u8], draw: &[u8])
     requires room { (length plain.now + length draw.now) * k + (length plain.now + length draw.now) ≤ length pages.old }
-    ensures here { page_at (length plain.now + length draw.now) pages.new k ≡ plain.now ++ draw.now }
-    ensures earlier { (j : ℕ) → j < k → page_at (length plain.now + length draw.now) pages.new j ≡ page_at (length plain.now + length draw.now) pages.old j }
+    ensures here { nth_page (length plain.now + length draw.now) pages.new k ≡ plain.now ++ draw.now }
+    ensures earlier { (j : ℕ) → j < k → nth_page (length plain.now + length draw.now) pages.new j ≡ nth_page (length plain.now + length draw.now) pages.old j }
     ensures size { length pages.new ≡ length pages.old }
 {
     let size = plain.len() + draw.len();
@@ -201,7 +201,7 @@ fn seal_all(codec: &Codec, numbers: &[u32], room: &[u8], stored: &mut [u8])
     requires room { length room.now ≡ codec.now.profile.page_size * length numbers.now }
     requires size { length stored.old ≡ length room.now }
     ensures sealed { (k : ℕ) → k < length numbers.now → IsSealedAs codec.now (slice_index numbers.now k)
-        (page_at codec.now.profile.page_size room.now k) (page_at codec.now.profile.page_size stored.new k) }
+        (nth_page codec.now.profile.page_size room.now k) (nth_page codec.now.profile.page_size stored.new k) }
     ensures size { length stored.new ≡ length stored.old }
 {
     let _usable = codec.profile().usable();
@@ -216,7 +216,7 @@ fn seal_each(codec: &Codec, numbers: &[u32], count: usize, room: &[u8], stored: 
     requires room { length room.now ≡ codec.now.profile.page_size * length numbers.now }
     requires size { length stored.old ≡ length room.now }
     ensures sealed { (k : ℕ) → k < count → IsSealedAs codec.now (slice_index numbers.now k)
-        (page_at codec.now.profile.page_size room.now k) (page_at codec.now.profile.page_size stored.new k) }
+        (nth_page codec.now.profile.page_size room.now k) (nth_page codec.now.profile.page_size stored.new k) }
     ensures size { length stored.new ≡ length stored.old }
 {
     let size = codec.profile().page_size as usize;

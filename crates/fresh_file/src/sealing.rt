@@ -5,10 +5,10 @@ ghost use Rattle.cipher_profile.specs.Profile.{usable};
 ghost use Rattle.edge_model.specs.Causes.{Rose};
 ghost use Rattle.edge_model.specs.Files.{written};
 ghost use Rattle.page_codec.specs.Page.{magic, sealed};
-ghost use Rattle.disk_side.specs.Torn.{MayTear};
+ghost use Rattle.fresh_disk.specs.Torn.{MayTear};
 ghost use Rattle.fresh_file.specs.Sealed.{IsSealing};
 
-use disk_side::Side;
+use fresh_disk::Side;
 use page_codec::Codec;
 
 /// Why a page was not written, or a file not finished.

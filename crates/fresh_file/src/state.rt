@@ -12,7 +12,7 @@ use crate::sealing::{CommitFault, draw_for};
 use bulk_load::OutError;
 use cipher_profile::Profile;
 use db_format::{OutOfMemory, Seen};
-use disk_side::Side;
+use fresh_disk::Side;
 use page_codec::Codec;
 use std::alloc::Global;
 
@@ -60,7 +60,7 @@ pub struct FreshState {
 }
 
 impl FreshState {
-    ghost use Rattle.fresh_file.specs.State.{IsWellAs, pages_of};
+    ghost use Rattle.fresh_file.specs.State.{IsWellAs, fresh_pages};
 
     /// A new Fresh without a page. One that an earlier stop left is removed first.
     pub fn start<T: Side>(
@@ -70,7 +70,7 @@ impl FreshState {
     ) -> Result<FreshState, StartError>
         ensures codec { IfOk result (λ s. s.codec ≡ codec) }
         ensures limit { IfOk result (λ s. s.limit ≡ 2 ^ 30 / codec.profile.page_size) }
-        ensures none { IfOk result (λ s. ((pages_of s (T.fresh side.new)).count ≡ 1) × ((n : ℕ) → (pages_of s (T.fresh side.new)).accepts n ≡ false)) }
+        ensures none { IfOk result (λ s. ((fresh_pages s (T.fresh side.new)).count ≡ 1) × ((n : ℕ) → (fresh_pages s (T.fresh side.new)).accepts n ≡ false)) }
         ensures well { IfOk result (λ s. IsTrue T.tells → IsWellAs s (length (T.drawn side.old)) T.tells T.draws_tell (T.fresh side.new) (T.drawn side.new)) }
         ensures drawn { T.drawn side.new ≡ T.drawn side.old }
         ensures kept { T.only_fresh side.old side.new }
@@ -192,9 +192,9 @@ impl FreshState {
         ensures not_put { OnErr result (self.new.put ≡ self.old.put) }
         ensures well { (start : ℕ) → IsWellAs self.old start T.tells T.draws_tell (T.fresh side.old) (T.drawn side.old)
             → OnOk result (IsWellAs self.new start T.tells T.draws_tell (T.fresh side.new) (T.drawn side.new)) }
-        ensures here { OnOk result ((pages_of self.new (T.fresh side.new)).page n ≡ plain.now) }
+        ensures here { OnOk result ((fresh_pages self.new (T.fresh side.new)).page n ≡ plain.now) }
         ensures others { (start : ℕ) → IsWellAs self.old start T.tells T.draws_tell (T.fresh side.old) (T.drawn side.old)
-            → (k : ℕ) → (n == k) ≡ false → (pages_of self.new (T.fresh side.new)).page k ≡ (pages_of self.old (T.fresh side.old)).page k }
+            → (k : ℕ) → (n == k) ≡ false → (fresh_pages self.new (T.fresh side.new)).page k ≡ (fresh_pages self.old (T.fresh side.old)).page k }
         ensures kept { T.only_fresh side.old side.new }
         ensures disk_later { T.disk_faults side.old ≤ T.disk_faults side.new }
         ensures draws_later { T.draw_faults side.old ≤ T.draw_faults side.new }
@@ -215,7 +215,7 @@ impl FreshState {
         ensures well { (start : ℕ) → IsWellAs self.old start T.tells T.draws_tell (T.fresh side.old) (T.drawn side.old)
             → OnOk result (IsWellAs self.new start T.tells T.draws_tell (T.fresh side.new) (T.drawn side.new)) }
         ensures pages { (start : ℕ) → IsWellAs self.old start T.tells T.draws_tell (T.fresh side.old) (T.drawn side.old)
-            → (k : ℕ) → (pages_of self.new (T.fresh side.new)).page k ≡ (pages_of self.old (T.fresh side.old)).page k }
+            → (k : ℕ) → (fresh_pages self.new (T.fresh side.new)).page k ≡ (fresh_pages self.old (T.fresh side.old)).page k }
         ensures kept { T.only_fresh side.old side.new }
         ensures draws_later { T.draw_faults side.new ≡ T.draw_faults side.old }
         ensures disk_later { T.disk_faults side.old ≤ T.disk_faults side.new }
@@ -240,7 +240,7 @@ impl FreshState {
         ensures none_held { (start : ℕ) → IsWellAs self.old start T.tells T.draws_tell (T.fresh side.old) (T.drawn side.old)
             → OnOk result (IsWellAs self.new start T.tells T.draws_tell (T.fresh side.new) (T.drawn side.new)) }
         ensures pages { (start : ℕ) → IsWellAs self.old start T.tells T.draws_tell (T.fresh side.old) (T.drawn side.old)
-            → (k : ℕ) → (pages_of self.new (T.fresh side.new)).page k ≡ (pages_of self.old (T.fresh side.old)).page k }
+            → (k : ℕ) → (fresh_pages self.new (T.fresh side.new)).page k ≡ (fresh_pages self.old (T.fresh side.old)).page k }
         ensures kept { T.only_fresh side.old side.new }
         ensures draws_later { T.draw_faults side.new ≡ T.draw_faults side.old }
         ensures disk_later { T.disk_faults side.old ≤ T.disk_faults side.new }
@@ -266,8 +266,8 @@ impl FreshState {
         ensures not_put { OnErr result (self.new.put ≡ self.old.put) }
         ensures well { (start : ℕ) → IsWellAs self.old start T.tells T.draws_tell (T.fresh side.old) (T.drawn side.old)
             → OnOk result (IsWellAs self.new start T.tells T.draws_tell (T.fresh side.new) (T.drawn side.new)) }
-        ensures here { OnOk result ((pages_of self.new (T.fresh side.new)).page n ≡ plain.now) }
-        ensures others { IsTrue T.tells → (k : ℕ) → (n == k) ≡ false → (pages_of self.new (T.fresh side.new)).page k ≡ (pages_of self.old (T.fresh side.old)).page k }
+        ensures here { OnOk result ((fresh_pages self.new (T.fresh side.new)).page n ≡ plain.now) }
+        ensures others { IsTrue T.tells → (k : ℕ) → (n == k) ≡ false → (fresh_pages self.new (T.fresh side.new)).page k ≡ (fresh_pages self.old (T.fresh side.old)).page k }
         ensures kept { T.only_fresh side.old side.new }
         ensures disk_later { T.disk_faults side.new ≡ T.disk_faults side.old }
         ensures draws_later { T.draw_faults side.old ≤ T.draw_faults side.new }

@@ -1,12 +1,12 @@
 -- What was written reads back.
-use Rattle.std.proofs.Common.{◌≡◌, ℕ, ◌+◌, ◌-◌, ◌*◌, ◌/◌, ◌%◌, ◌<◌, ◌≤◌, Bool, true, ◌&&◌, not, ◌==◌, List, ◌++◌, length, take, get_or, refl, sym, ◌∙◌, ap, arith, length-append}
+use Rattle.std.proofs.Common.{◌≡◌, ℕ, ◌+◌, ◌-◌, ◌*◌, ◌/◌, ◌%◌, ◌<◌, ◌≤◌, Bool, true, ◌&&◌, not, ◌==◌, List, ◌++◌, length, take, get_or, sym, ◌∙◌, ap, arith, length-append}
 use Rattle.std.proofs.lemmas.List.{get_or-append_right}
 use Rattle.std.proofs.Math.Seq.{take-append_seam}
 use Rattle.std.proofs.lemmas.Bool.Decides.{nat_tests}
 use Rattle.journal_format.specs.declared.header.SegmentHeader.{SegmentHeader}
 use Rattle.journal_format.specs.Bytes.{u32_at, u32_bytes}
-use Rattle.journal_format.specs.Header.{HasFields, header_bytes, is_header}
-use Rattle.journal_format.specs.Records.{page_of, image_of, is_sound, sum_of, record_bytes}
+use Rattle.journal_format.specs.Header.{HasFields, journal_header_bytes}
+use Rattle.journal_format.specs.Records.{page_of, image_of, is_sound_record, sum_of, journal_record_bytes}
 
 -- a number of four bytes
 abbrev pub joined : ℕ → ℕ → ℕ → ℕ → ℕ
@@ -15,12 +15,9 @@ joined a b c d = a * 16777216 + b * 65536 + c * 256 + d
 pub u32_back : (n : ℕ) → n < 4294967296 → joined (n / 16777216 % 256) (n / 65536 % 256) (n / 256 % 256) (n % 256) ≡ n
 u32_back n small = omega arith
 
-pub header_is : (count nonce initial sector size : ℕ) → is_header (header_bytes count nonce initial sector size) ≡ true
-header_is count nonce initial sector size = refl
-
 pub header_fields : (header : SegmentHeader) → header.count < 4294967296 → header.nonce < 4294967296 → header.initial < 4294967296
     → header.sector < 4294967296 → header.page_size < 4294967296
-    → HasFields (header_bytes header.count header.nonce header.initial header.sector header.page_size) header
+    → HasFields (journal_header_bytes header.count header.nonce header.initial header.sector header.page_size) header
 header_fields header count nonce initial sector size =
     (sym (u32_back header.count count), sym (u32_back header.nonce nonce), sym (u32_back header.initial initial), sym (u32_back header.sector sector), sym (u32_back header.page_size size))
 
@@ -33,7 +30,7 @@ behind xs ys p k is =
 just_behind : (xs ys : List ℕ) (p : ℕ) → p ≡ length xs → get_or (xs ++ ys) p 0 ≡ get_or ys 0 0
 just_behind xs ys p is = let e : p ≡ p + 0 = omega arith in ap (λ (n : ℕ). get_or (xs ++ ys) n 0) e ∙ behind xs ys p 0 is
 
-pub u32_behind : (xs : List ℕ) (s p : ℕ) → p ≡ length xs → s < 4294967296 → u32_at p (xs ++ u32_bytes s) ≡ s
+pub u32_behind : (xs : List ℕ) (s p : ℕ) → p ≡ length xs → s < 4294967296 → u32_at (xs ++ u32_bytes s) p ≡ s
 u32_behind xs s p is small =
     ap (λ (a : ℕ). joined a (get_or (xs ++ u32_bytes s) (p + 1) 0) (get_or (xs ++ u32_bytes s) (p + 2) 0) (get_or (xs ++ u32_bytes s) (p + 3) 0))
     (just_behind xs (u32_bytes s) p is)
@@ -44,15 +41,15 @@ u32_behind xs s p is small =
     ∙ u32_back s small
 
 module _ (nonce page : ℕ) (image : List ℕ) where
-  pub record_length : length (record_bytes nonce page image) ≡ length image + 8
+  pub record_length : length (journal_record_bytes nonce page image) ≡ length image + 8
   record_length = omega (arith, length-append image (u32_bytes (sum_of nonce image)))
 
-  pub record_image : image_of (record_bytes nonce page image) ≡ image
+  pub record_image : image_of (journal_record_bytes nonce page image) ≡ image
   record_image =
-      let e : length (record_bytes nonce page image) - 8 ≡ length image = omega (arith, record_length) in
+      let e : length (journal_record_bytes nonce page image) - 8 ≡ length image = omega (arith, record_length) in
       ap (λ (n : ℕ). take n (image ++ u32_bytes (sum_of nonce image))) e ∙ take-append_seam image (u32_bytes (sum_of nonce image))
 
-  pub record_page : page < 4294967296 → page_of (record_bytes nonce page image) ≡ page
+  pub record_page : page < 4294967296 → page_of (journal_record_bytes nonce page image) ≡ page
   record_page small = u32_back page small
 
 sum_small : (nonce : ℕ) (image : List ℕ) → sum_of nonce image < 4294967296
@@ -68,19 +65,19 @@ both : (a b : Bool) → a ≡ true → b ≡ true → (a && b) ≡ true
 both a b p q = cc
 
 -- a record that was written is sound
-pub record_sound : (nonce page : ℕ) (image : List ℕ) → 1 ≤ page → page < 4294967296 → is_sound nonce (record_bytes nonce page image) ≡ true
+pub record_sound : (nonce page : ℕ) (image : List ℕ) → 1 ≤ page → page < 4294967296 → is_sound_record nonce (journal_record_bytes nonce page image) ≡ true
 record_sound nonce page image one small =
     let long = record_length nonce page image in
     let numbered = record_page nonce page image small in
-    let last : u32_at (length (record_bytes nonce page image) - 4) (record_bytes nonce page image) ≡ sum_of nonce image =
-    u32_behind (u32_bytes page ++ image) (sum_of nonce image) (length (record_bytes nonce page image) - 4) (omega (arith, long)) (sum_small nonce image) in
-    both _ _ (not_zero (page_of (record_bytes nonce page image)) (omega (arith, numbered)))
+    let last : u32_at (journal_record_bytes nonce page image) (length (journal_record_bytes nonce page image) - 4) ≡ sum_of nonce image =
+    u32_behind (u32_bytes page ++ image) (sum_of nonce image) (length (journal_record_bytes nonce page image) - 4) (omega (arith, long)) (sum_small nonce image) in
+    both _ _ (not_zero (page_of (journal_record_bytes nonce page image)) (omega (arith, numbered)))
     (same_eq _ _ (last ∙ ap (λ (l : List ℕ). sum_of nonce l) (sym (record_image nonce page image))))
 
-pub record_back : (nonce page : ℕ) (image out : List ℕ) → 1 ≤ page → page < 4294967296 → out ≡ record_bytes nonce page image
-    → (is_sound nonce out ≡ true) × (page_of out ≡ page) × (image_of out ≡ image)
+pub record_back : (nonce page : ℕ) (image out : List ℕ) → 1 ≤ page → page < 4294967296 → out ≡ journal_record_bytes nonce page image
+    → (is_sound_record nonce out ≡ true) × (page_of out ≡ page) × (image_of out ≡ image)
 record_back nonce page image out one small is = (
-  ap (λ (l : List ℕ). is_sound nonce l) is ∙ record_sound nonce page image one small,
+  ap (λ (l : List ℕ). is_sound_record nonce l) is ∙ record_sound nonce page image one small,
   ap page_of is ∙ record_page nonce page image small,
   ap image_of is ∙ record_image nonce page image,
 )

@@ -2,8 +2,8 @@
 use Rattle.std.specs.Prelude.{ℕ, ◌+◌, ◌*◌, ◌/◌, ◌%◌, List, [], ◌∷◌, slice_index}
 
 -- the number in the four bytes from `at` on
-abbrev pub u32_at : ℕ → List ℕ → ℕ
-u32_at at bytes =
+abbrev pub u32_at : List ℕ → ℕ → ℕ
+u32_at bytes at =
     slice_index bytes at * 16777216 + slice_index bytes (at + 1) * 65536 + slice_index bytes (at + 2) * 256 + slice_index bytes (at + 3)
 
 -- a number as four bytes

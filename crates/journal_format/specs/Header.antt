@@ -1,7 +1,7 @@
 -- The header of a segment, by its bytes: Database File Format, section 3. Offsets are in bytes.
 --
 -- | offset | length | field                                                                |
--- | 0      | 8      | magic                                                                |
+-- | 0      | 8      | journal_magic                                                                |
 -- | 8      | 4      | count of records; ffffffff: as many whole ones as the file holds     |
 -- | 12     | 4      | nonce of the checksums                                               |
 -- | 16     | 4      | initial size of the database, in pages                               |
@@ -12,12 +12,12 @@ use Rattle.journal_format.specs.declared.header.SegmentHeader.{SegmentHeader}
 use Rattle.journal_format.specs.Bytes.{u32_at, u32_bytes}
 
 -- d9 d5 05 f9 20 a1 63 d7
-abbrev pub magic : List ℕ
-magic = 217 ∷ 213 ∷ 5 ∷ 249 ∷ 32 ∷ 161 ∷ 99 ∷ 215 ∷ []
+abbrev pub journal_magic : List ℕ
+journal_magic = 217 ∷ 213 ∷ 5 ∷ 249 ∷ 32 ∷ 161 ∷ 99 ∷ 215 ∷ []
 
--- 28 bytes or more, of which the first 8 are the magic
+-- 28 bytes or more, of which the first 8 are the journal_magic
 abbrev pub is_header : List ℕ → Bool
-is_header bytes = nat_le 28 (length bytes) && bytes_eq (take 8 bytes) magic
+is_header bytes = nat_le 28 (length bytes) && bytes_eq (take 8 bytes) journal_magic
 
 -- the bytes of a header that stands at this offset of a journal: fewer where the file ends
 abbrev pub head_at : ℕ → List ℕ → List ℕ
@@ -29,19 +29,19 @@ has_header at journal = is_header (head_at at journal)
 
 -- its fields
 abbrev pub count_at : ℕ → List ℕ → ℕ
-count_at at journal = u32_at 8 (head_at at journal)
+count_at at journal = u32_at (head_at at journal) 8
 
 abbrev pub nonce_at : ℕ → List ℕ → ℕ
-nonce_at at journal = u32_at 12 (head_at at journal)
+nonce_at at journal = u32_at (head_at at journal) 12
 
 abbrev pub initial_at : ℕ → List ℕ → ℕ
-initial_at at journal = u32_at 16 (head_at at journal)
+initial_at at journal = u32_at (head_at at journal) 16
 
 abbrev pub sector_at : ℕ → List ℕ → ℕ
-sector_at at journal = u32_at 20 (head_at at journal)
+sector_at at journal = u32_at (head_at at journal) 20
 
 abbrev pub page_size_at : ℕ → List ℕ → ℕ
-page_size_at at journal = u32_at 24 (head_at at journal)
+page_size_at at journal = u32_at (head_at at journal) 24
 
 -- the sector sizes: the powers of two from 32 to 65,536
 abbrev pub is_sector : ℕ → Bool
@@ -50,12 +50,12 @@ is_sector n =
     || n == 8192 || n == 16384 || n == 32768 || n == 65536
 
 -- the 28 bytes of a header with these fields
-abbrev pub header_bytes : ℕ → ℕ → ℕ → ℕ → ℕ → List ℕ
-header_bytes count nonce initial sector page_size =
-    magic ++ u32_bytes count ++ u32_bytes nonce ++ u32_bytes initial ++ u32_bytes sector ++ u32_bytes page_size
+abbrev pub journal_header_bytes : ℕ → ℕ → ℕ → ℕ → ℕ → List ℕ
+journal_header_bytes count nonce initial sector page_size =
+    journal_magic ++ u32_bytes count ++ u32_bytes nonce ++ u32_bytes initial ++ u32_bytes sector ++ u32_bytes page_size
 
 -- the bytes have these fields
 abbrev pub HasFields : List ℕ → SegmentHeader → Type 0
 HasFields bytes header =
-    (header.count ≡ u32_at 8 bytes) × (header.nonce ≡ u32_at 12 bytes) × (header.initial ≡ u32_at 16 bytes)
-    × (header.sector ≡ u32_at 20 bytes) × (header.page_size ≡ u32_at 24 bytes)
+    (header.count ≡ u32_at bytes 8) × (header.nonce ≡ u32_at bytes 12) × (header.initial ≡ u32_at bytes 16)
+    × (header.sector ≡ u32_at bytes 20) × (header.page_size ≡ u32_at bytes 24)

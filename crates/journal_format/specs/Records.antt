@@ -27,29 +27,29 @@ pub record Place : Type 0 where
   pub at : ℕ
 
 -- the bytes that stand there: fewer where the file ends
-abbrev pub bytes_at : ℕ → List ℕ → Place → List ℕ
-bytes_at size journal place = take (size + 8) (drop place.at journal)
+abbrev pub record_bytes_at : ℕ → List ℕ → Place → List ℕ
+record_bytes_at size journal place = take (size + 8) (drop place.at journal)
 
 -- the page's number and the page in the bytes of a record
 abbrev pub page_of : List ℕ → ℕ
-page_of bytes = u32_at 0 bytes
+page_of bytes = u32_at bytes 0
 
 abbrev pub image_of : List ℕ → List ℕ
 image_of bytes = take (length bytes - 8) (drop 4 bytes)
 
 -- the number is not 0, and the checksum is the page's
-abbrev pub is_sound : ℕ → List ℕ → Bool
-is_sound nonce bytes = not (page_of bytes == 0) && u32_at (length bytes - 4) bytes == sum_of nonce (image_of bytes)
+abbrev pub is_sound_record : ℕ → List ℕ → Bool
+is_sound_record nonce bytes = not (page_of bytes == 0) && u32_at bytes (length bytes - 4) == sum_of nonce (image_of bytes)
 
 abbrev pub record_at : ℕ → List ℕ → Place → Record
 record_at size journal place =
-    record { page = page_of (bytes_at size journal place); image = image_of (bytes_at size journal place) }
+    record { page = page_of (record_bytes_at size journal place); image = image_of (record_bytes_at size journal place) }
 
 -- the record is whole and sound
 abbrev pub is_good : ℕ → List ℕ → Place → Bool
 is_good size journal place =
-    length (bytes_at size journal place) == size + 8 && is_sound place.nonce (bytes_at size journal place)
+    length (record_bytes_at size journal place) == size + 8 && is_sound_record place.nonce (record_bytes_at size journal place)
 
 -- the bytes of a record
-abbrev pub record_bytes : ℕ → ℕ → List ℕ → List ℕ
-record_bytes nonce page image = u32_bytes page ++ image ++ u32_bytes (sum_of nonce image)
+abbrev pub journal_record_bytes : ℕ → ℕ → List ℕ → List ℕ
+journal_record_bytes nonce page image = u32_bytes page ++ image ++ u32_bytes (sum_of nonce image)

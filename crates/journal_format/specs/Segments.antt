@@ -2,7 +2,7 @@
 -- its bytes.
 use Rattle.std.specs.Prelude.{ℕ, zero, suc, ◌+◌, ◌-◌, ◌*◌, ◌/◌, ◌%◌, Bool, not, ◌&&◌, ◌==◌, nat_le, nat_lt, if◌then◌else◌, List, [], ◌∷◌, ◌++◌, length, take, drop, filter, bytes_eq}
 use Rattle.journal_format.specs.Bytes.{u32_at}
-use Rattle.journal_format.specs.Header.{magic, has_header, count_at, nonce_at, initial_at, sector_at, is_sector}
+use Rattle.journal_format.specs.Header.{journal_magic, has_header, count_at, nonce_at, initial_at, sector_at, is_sector}
 use Rattle.journal_format.specs.Records.{Record, Place, record_at, is_good}
 
 -- The journal is hot: Main has a byte, and the journal begins with a header whose sector size can be. Every other journal
@@ -19,11 +19,11 @@ abbrev pub has_mark : ℕ → List ℕ → Bool
 has_mark sector front = sector == 512 && bytes_eq (take 16 (drop 28 front)) mark
 
 -- The journal ends in the name of a super-journal, by its sector size, its length, its first 44 bytes and its last 16. These
--- are the length of the name, a checksum and the magic; the name stands before them, behind the first header.
+-- are the length of the name, a checksum and the journal_magic; the name stands before them, behind the first header.
 abbrev pub ends_super_by : ℕ → ℕ → List ℕ → List ℕ → Bool
 ends_super_by sector end front tail =
-    nat_le (sector + 17) end && not (has_mark sector front) && bytes_eq (take 8 (drop 8 tail)) magic
-    && nat_le 1 (u32_at 0 tail) && nat_le (u32_at 0 tail) (end - sector - 16)
+    nat_le (sector + 17) end && not (has_mark sector front) && bytes_eq (take 8 (drop 8 tail)) journal_magic
+    && nat_le 1 (u32_at tail 0) && nat_le (u32_at tail 0) (end - sector - 16)
 
 abbrev pub names_super : List ℕ → Bool
 names_super journal =
@@ -42,12 +42,12 @@ abbrev pub sought : ℕ → ℕ → ℕ → List ℕ → ℕ
 sought size sector at journal =
     if is_open_ended at journal then (length journal - (at + sector)) / (size + 8) else count_at at journal
 
--- so many places of records, one after another
+-- so many record_places of records, one after another
 abbrev pub places_of : ℕ → ℕ → ℕ → ℕ → List Place
 places_of zero size nonce at = []
 places_of (suc n) size nonce at = record { nonce = nonce; at = at } ∷ places_of n size nonce (at + (size + 8))
 
--- The places of records by the headers, from the segment at an offset on. Records begin a sector behind the start of their
+-- The record_places of records by the headers, from the segment at an offset on. Records begin a sector behind the start of their
 -- header, and the next header is at the next multiple of the sector size; behind an open-ended segment there is none. The
 -- first number bounds how many segments there are.
 abbrev pub places_from : ℕ → ℕ → ℕ → ℕ → List ℕ → List Place
@@ -59,11 +59,11 @@ places_from (suc more) size sector at journal =
     else places_from more size sector (rounded_up sector (at + sector + sought size sector at journal * (size + 8))) journal)
     else []
 
--- the places of the whole journal. A segment has a byte, so there are no more of them than bytes.
-abbrev pub places : ℕ → List ℕ → List Place
-places size journal = places_from (length journal) size (sector_at 0 journal) 0 journal
+-- the record_places of the whole journal. A segment has a byte, so there are no more of them than bytes.
+abbrev pub record_places : ℕ → List ℕ → List Place
+record_places size journal = places_from (length journal) size (sector_at 0 journal) 0 journal
 
--- the records at these places, up to the first that is not good
+-- the records at these record_places, up to the first that is not good
 abbrev pub good_front : ℕ → List ℕ → List Place → List Record
 good_front size journal [] = []
 good_front size journal (place ∷ rest) =
@@ -72,4 +72,4 @@ good_front size journal (place ∷ rest) =
 -- What a hot journal plays, in order: the good records up to the first that is not, without those of pages above the initial
 -- size. Sector size and initial size are the first header's.
 abbrev pub played : ℕ → List ℕ → List Record
-played size journal = filter (λ r. nat_le r.page (initial_at 0 journal)) (good_front size journal (places size journal))
+played size journal = filter (λ r. nat_le r.page (initial_at 0 journal)) (good_front size journal (record_places size journal))

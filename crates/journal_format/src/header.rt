@@ -8,7 +8,7 @@
 // | 20     | 4      | sector size, in bytes                                                |
 // | 24     | 4      | page size, in bytes                                                  |
 ghost use Rattle.std.specs.Prelude.{◌≡◌, ◌≤◌, IsTrue, MatchOption, bytes_eq, false, length, take, true};
-ghost use Rattle.journal_format.specs.Header.{HasFields, header_bytes, is_header, is_sector, magic};
+ghost use Rattle.journal_format.specs.Header.{HasFields, journal_header_bytes, is_header, is_sector, journal_magic};
 
 use crate::bytes::u32_at;
 
@@ -32,7 +32,7 @@ const MAGIC: [u8; 8] = [0xd9, 0xd5, 0x05, 0xf9, 0x20, 0xa1, 0x63, 0xd7];
 /// Whether the first eight bytes are the magic.
 pub fn has_magic(bytes: &[u8]) -> bool
     requires { 8 ≤ length bytes.now }
-    ensures { result ≡ bytes_eq (take 8 bytes.now) magic }
+    ensures { result ≡ bytes_eq (take 8 bytes.now) journal_magic }
 {
     &bytes[..8] == MAGIC.as_slice()
 }
@@ -58,7 +58,7 @@ pub fn read_header(bytes: &[u8]) -> Option<SegmentHeader>
 
 /// Writes the 28 bytes of a header.
 pub fn write_header(header: &SegmentHeader, out: &mut [u8; 28])
-    ensures bytes { out.new ≡ header_bytes header.now.count header.now.nonce header.now.initial header.now.sector header.now.page_size }
+    ensures bytes { out.new ≡ journal_header_bytes header.now.count header.now.nonce header.now.initial header.now.sector header.now.page_size }
     ensures reads_back { (is_header out.new ≡ true) × HasFields out.new header.now }
 {
     let count = header.count.to_be_bytes();

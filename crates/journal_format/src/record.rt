@@ -7,7 +7,7 @@
 //
 // S is the page size. The checksum is the nonce of the segment and every 200th byte of the page, counted from its end.
 ghost use Rattle.std.specs.Prelude.{◌≡◌, ◌+◌, ◌≤◌, IfSome, MatchOption, false, length, true};
-ghost use Rattle.journal_format.specs.Records.{image_of, is_sound, page_of, record_bytes, sum_of};
+ghost use Rattle.journal_format.specs.Records.{image_of, is_sound_record, page_of, journal_record_bytes, sum_of};
 
 use crate::bytes::u32_at;
 
@@ -30,7 +30,7 @@ pub fn checksum(nonce: u32, image: &[u8]) -> u32
 /// The page's number of a record of a segment with this nonce. None where the number is 0 or the checksum differs.
 pub fn record_page(nonce: u32, bytes: &[u8]) -> Option<u32>
     requires { 8 ≤ length bytes.now }
-    ensures sound { MatchOption result (is_sound nonce bytes.now ≡ false) (λ page. (is_sound nonce bytes.now ≡ true) × (page ≡ page_of bytes.now)) }
+    ensures sound { MatchOption result (is_sound_record nonce bytes.now ≡ false) (λ page. (is_sound_record nonce bytes.now ≡ true) × (page ≡ page_of bytes.now)) }
     ensures numbered { IfSome result (λ page. 1 ≤ page) }
 {
     let page = u32_at(bytes, 0);
@@ -49,8 +49,8 @@ pub fn record_page(nonce: u32, bytes: &[u8]) -> Option<u32>
 /// Writes the record of page `n`, numbered from 1, for a segment with this nonce.
 pub fn write_record(nonce: u32, n: u32, image: &[u8], out: &mut [u8])
     requires { (1 ≤ n) × (length out.old ≡ length image.now + 8) }
-    ensures bytes { out.new ≡ record_bytes nonce n image.now }
-    ensures reads_back { (is_sound nonce out.new ≡ true) × (page_of out.new ≡ n) × (image_of out.new ≡ image.now) }
+    ensures bytes { out.new ≡ journal_record_bytes nonce n image.now }
+    ensures reads_back { (is_sound_record nonce out.new ≡ true) × (page_of out.new ≡ n) × (image_of out.new ≡ image.now) }
 {
     let (number, rest) = out.split_at_mut(4);
     let (page, sum) = rest.split_at_mut(image.len());

@@ -2,8 +2,8 @@
 mod batched;
 mod whole;
 
+use atomic_commit::PageMarks;
 use std::test::Fail;
-use transaction::PageMarks;
 
 #[test]
 fn a_page_is_marked_once(rt: HostRuntime) -> Result<(), Fail> {

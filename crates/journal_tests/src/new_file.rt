@@ -1,7 +1,7 @@
 // A new file beside Main, stopped after every number of calls.
 use crate::files::{PICKS, disk_with, image_of, plan_faults};
-use disk_side::{Pair, Side, publish_new};
 use edge_model::{Failed, ImagePick, MemDisk, MemEntropy, Role, SilentDisk};
+use fresh_disk::{Pair, Side, publish_new};
 use std::alloc::Global;
 use std::test::Fail;
 

@@ -1,6 +1,6 @@
 // A loaded tree, walked to its end.
 ghost use Rattle.db_format.specs.Source.{no_pins};
-ghost use Rattle.btree_walk.specs.Cursor.{IsReady};
+ghost use Rattle.btree_walk.specs.Cursor.{IsCursorReady};
 
 use btree_walk::Cursor;
 use db_format::{MemPages, PageSource, Seen};
@@ -34,7 +34,7 @@ pub fn read_back(alloc: Global, usable: usize, plain: &[u8], root: u32) -> Optio
 fn add_up<S: PageSource>(cursor: &mut Cursor, source: &mut S, seen: &mut Seen) -> Option<(u64, u64)>
 where
     S::Refusal: Drop,
-    requires { IsReady (S.plain source.old).count (S.pins source.old) seen.old cursor.old }
+    requires { IsCursorReady (S.plain source.old).count (S.pins source.old) seen.old cursor.old }
 {
     let mut bytes = 0u64;
     for _ in 0..u64::MAX {

@@ -10,7 +10,7 @@ use Rattle.btree_page.specs.declared.kind.Family.{Family}
 use Rattle.db_format.specs.declared.defect.Defect.{Defect}
 use Rattle.db_format.specs.declared.defect.Defect.TheVariants.{RowidOrder}
 use Rattle.db_format.specs.Bytes.{u32_at}
-use Rattle.btree_page.specs.Cell.{Stored}
+use Rattle.btree_page.specs.Cell.{StoredCell}
 use Rattle.btree_page.specs.declared.page.PageFault.{PageFault}
 use Rattle.btree_page.specs.Page.{Node, read_node}
 use Rattle.db_format.specs.Pages.{Pages, Test}
@@ -145,12 +145,12 @@ module _ (pages : Pages) (taken extra : Test) where
       (chain_alike (met ++ place n ∷ []) (again ++ place n ∷ []) (longer-append taken extra met again (place n ∷ []) (place n ∷ []) h refl) more n n (u32_at (pages.page n) 0))))
       (fault_stays extra _ _ [] []))
 
-  chain_of_alike : (met again : List Finding) → Longer met again → (n n' : ℕ) (stored : Stored) → Stays extra (chain_of pages taken met n stored) (chain_of pages taken again n' stored)
+  chain_of_alike : (met again : List Finding) → Longer met again → (n n' : ℕ) (stored : StoredCell) → Stays extra (chain_of pages taken met n stored) (chain_of pages taken again n' stored)
   chain_of_alike met again h n n' stored =
       if_stays extra (links_needed pages.usable stored == 0) _ _ _ _ (stays_same extra _)
       (if_stays extra (stored.first == 0) _ _ _ _ (fault_stays extra _ _ [] []) (chain_alike met again h (links_needed pages.usable stored) n n' stored.first))
 
-  given_alike : (met again : List Finding) → Longer met again → (n n' : ℕ) (rowid : Option ℤ) (stored : Stored)
+  given_alike : (met again : List Finding) → Longer met again → (n n' : ℕ) (rowid : Option ℤ) (stored : StoredCell)
       → Alike extra (given pages taken met n rowid stored) (given pages taken again n' rowid stored)
   given_alike met again h n n' rowid stored sound unmarked =
       let first : List Finding = order_faults met n rowid in

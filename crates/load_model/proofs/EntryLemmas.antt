@@ -8,7 +8,7 @@ use Rattle.std.proofs.lemmas.List.Folds.{list_all-append}
 use Rattle.btree_page.specs.declared.kind.Family.{Family}
 use Rattle.db_format.specs.declared.defect.Defect.TheVariants.{ChainLong}
 use Rattle.db_format.specs.Bytes.{u32_at}
-use Rattle.btree_page.specs.Cell.{Stored}
+use Rattle.btree_page.specs.Cell.{StoredCell}
 use Rattle.db_format.specs.Pages.{Pages, nothing}
 use Rattle.btree_model.specs.Range.{is_in_range}
 use Rattle.btree_model.specs.Finding.{Row, Finding, place, entry, key, fault, places, entries, keys, is_sound}
@@ -20,30 +20,30 @@ use Rattle.btree_model.proofs.UnmarkedLemmas.{or_left, or_right}
 use Rattle.btree_model.proofs.ProperLemmas.{keys-append}
 use Rattle.btree_model.proofs.KeptLemmas.{AreSame, chain_kept, chain_bytes_kept}
 use Rattle.load_model.specs.Open.{Open, open_found}
-use Rattle.load_model.specs.Stands.{IsPut, Stands, StandsBut, IsChain, IsLinks, links, is_at_most, last_after}
+use Rattle.load_model.specs.Stands.{IsPut, OpenPagesStand, StandsBut, IsChain, IsLinks, placements, is_at_most, last_after}
 use Rattle.load_model.proofs.AlikeLemmas.{met-append}
 use Rattle.load_model.proofs.OpenLemmas.{open-append}
 use Rattle.load_model.proofs.StandsLemmas.{any_turned, not_among, same_pages, still_put}
 use Rattle.load_model.proofs.RowidLemmas.{IsAbove, no_order_fault, up_to_after, none_late, key_up_to}
 
-pub links_sound : (ns : List ℕ) → is_sound (links ns) ≡ true
+pub links_sound : (ns : List ℕ) → is_sound (placements ns) ≡ true
 links_sound [] = refl
 links_sound (n ∷ ns) = links_sound ns
 
-pub links_places : (ns : List ℕ) → places (links ns) ≡ ns
+pub links_places : (ns : List ℕ) → places (placements ns) ≡ ns
 links_places [] = refl
 links_places (n ∷ ns) = ap (λ l. n ∷ l) (links_places ns)
 
-links_entries : (ns : List ℕ) → entries (links ns) ≡ []
+links_entries : (ns : List ℕ) → entries (placements ns) ≡ []
 links_entries [] = refl
 links_entries (n ∷ ns) = links_entries ns
 
-links_keys : (ns : List ℕ) → keys (links ns) ≡ []
+links_keys : (ns : List ℕ) → keys (placements ns) ≡ []
 links_keys [] = refl
 links_keys (n ∷ ns) = links_keys ns
 
 -- an entry behind all that the open pages have, to whose chain nothing has led
-module _ (pages : Pages) (family : Family) (last : Option ℤ) (todo : List Open) (pushed : List Entry) (h : ℕ) (rowid : Option ℤ) (stored : Stored)
+module _ (pages : Pages) (family : Family) (last : Option ℤ) (todo : List Open) (pushed : List Entry) (h : ℕ) (rowid : Option ℤ) (stored : StoredCell)
     (ns payload : List ℕ) (s : StandsBut ns pages family last todo pushed) (above : IsAbove last rowid) (is : IsChain pages stored ns payload)
     (apart : (slack : ℕ) → list_any (is_met nothing (open_found pages family slack [] todo)) ns ≡ false) where
   abbrev found : ℕ → List Finding
@@ -53,7 +53,7 @@ module _ (pages : Pages) (family : Family) (last : Option ℤ) (todo : List Open
   row = record { rowid = rowid; payload = payload; page = 0 }
 
   abbrev behind : List Finding
-  behind = links ns ++ entry row ∷ []
+  behind = placements ns ++ entry row ∷ []
 
   it : (slack : ℕ) → open_found pages family slack [] (todo ++ record { height = h; leads = cell rowid stored } ∷ []) ≡ found slack ++ behind
   it slack =
@@ -65,31 +65,31 @@ module _ (pages : Pages) (family : Family) (last : Option ℤ) (todo : List Open
   pub cell_places : (slack : ℕ) → places (open_found pages family slack [] (todo ++ record { height = h; leads = cell rowid stored } ∷ [])) ≡ places (found slack) ++ ns
   cell_places slack =
       ap places (it slack) ∙ places-append (found slack) behind
-      ∙ ap (λ l. places (found slack) ++ l) (places-append (links ns) (entry row ∷ []) ∙ append-nil (places (links ns)) ∙ links_places ns)
+      ∙ ap (λ l. places (found slack) ++ l) (places-append (placements ns) (entry row ∷ []) ∙ append-nil (places (placements ns)) ∙ links_places ns)
 
-  pub cell_stands : Stands pages family (last_after last rowid) (todo ++ record { height = h; leads = cell rowid stored } ∷ [])
+  pub cell_stands : OpenPagesStand pages family (last_after last rowid) (todo ++ record { height = h; leads = cell rowid stored } ∷ [])
       (pushed ++ record { rowid = rowid; payload = payload } ∷ [])
   cell_stands = record {
     sound = λ slack.
         ap is_sound (it slack) ∙ is_sound-append (found slack) behind ∙ ap (λ b. b && is_sound behind) (s.sound slack)
-        ∙ is_sound-append (links ns) (entry row ∷ []) ∙ ap (λ b. b && true) (links_sound ns);
+        ∙ is_sound-append (placements ns) (entry row ∷ []) ∙ ap (λ b. b && true) (links_sound ns);
     gives = λ slack.
         ap (λ l. map entry_of (entries l)) (it slack) ∙ ap (map entry_of) (entries-append (found slack) behind)
         ∙ map-append entry_of (entries (found slack)) (entries behind) ∙ ap (λ l. l ++ map entry_of (entries behind)) (s.gives slack)
-        ∙ ap (λ l. pushed ++ map entry_of l) (entries-append (links ns) (entry row ∷ []) ∙ ap (λ l. l ++ row ∷ []) (links_entries ns));
+        ∙ ap (λ l. pushed ++ map entry_of l) (entries-append (placements ns) (entry row ∷ []) ∙ ap (λ l. l ++ row ∷ []) (links_entries ns));
     put = λ slack.
         ap (list_all pages.accepts) (cell_places slack) ∙ list_all-append pages.accepts (places (found slack)) ns
         ∙ ap (λ b. b && list_all pages.accepts ns) (s.put slack) ∙ is.put;
     order = λ slack.
         ap (λ l. list_all (is_at_most (last_after last rowid)) (keys l)) (it slack)
         ∙ ap (list_all (is_at_most (last_after last rowid)))
-        (keys-append (found slack) behind ∙ ap (λ l. keys (found slack) ++ l) (keys-append (links ns) (entry row ∷ []) ∙ ap (λ l. l ++ (option_to_list rowid ++ [])) (links_keys ns) ∙ append-nil (option_to_list rowid)))
+        (keys-append (found slack) behind ∙ ap (λ l. keys (found slack) ++ l) (keys-append (placements ns) (entry row ∷ []) ∙ ap (λ l. l ++ (option_to_list rowid ++ [])) (links_keys ns) ∙ append-nil (option_to_list rowid)))
         ∙ up_to_after last rowid (keys (found slack)) above (s.order slack);
     whole = λ slack n put. ap (list_any (λ k. k == n)) (cell_places slack) ∙ any_turned (λ k. k == n) (places (found slack)) ns ∙ s.whole slack n put;
   }
 
 -- in a table, the last rowid as a key behind all that the open pages have
-module _ (pages : Pages) (family : Family) (k : ℤ) (todo : List Open) (pushed : List Entry) (h : ℕ) (s : Stands pages family (Some k) todo pushed) where
+module _ (pages : Pages) (family : Family) (k : ℤ) (todo : List Open) (pushed : List Entry) (h : ℕ) (s : OpenPagesStand pages family (Some k) todo pushed) where
   abbrev met : ℕ → List Finding
   met slack = open_found pages family slack [] todo
 
@@ -98,7 +98,7 @@ module _ (pages : Pages) (family : Family) (k : ℤ) (todo : List Open) (pushed 
       open-append pages family slack [] todo (record { height = h; leads = divider k } ∷ [])
       ∙ ap (λ l. met slack ++ (key k ∷ l)) (append-nil (late_faults k (entries (met slack))) ∙ none_late k (met slack) (s.order slack))
 
-  pub key_stands : Stands pages family (Some k) (todo ++ record { height = h; leads = divider k } ∷ []) pushed
+  pub key_stands : OpenPagesStand pages family (Some k) (todo ++ record { height = h; leads = divider k } ∷ []) pushed
   key_stands = record {
     sound = λ slack. ap is_sound (key_found slack) ∙ is_sound-append (met slack) (key k ∷ []) ∙ ap (λ b. b && true) (s.sound slack);
     gives = λ slack.
@@ -126,7 +126,7 @@ pub no_chain : (pages : Pages) (n : ℕ) (ns bytes : List ℕ) → IsLinks pages
 no_chain pages n [] bytes is = refl
 no_chain pages n (k ∷ ns) bytes is = absurd (never (n == 0) (is.walk [] 0 (none_met (k ∷ ns))))
   where
-    never : (b : Bool) → (if b then [] else fault (ChainLong 0) ∷ []) ≡ links (k ∷ ns) → ⊥
+    never : (b : Bool) → (if b then [] else fault (ChainLong 0) ∷ []) ≡ placements (k ∷ ns) → ⊥
     never true same = cc
     never false same = cc
 
@@ -150,16 +150,16 @@ module _ (old new : Pages) (more n : ℕ) (ns bytes : List ℕ) (m : ℕ) (put :
   other : list_any (λ k. m == k) ns ≡ false
   other = not_among old.accepts m ns put.fresh is.put
 
-  kept : (met : List Finding) (holder : ℕ) → list_any (is_met nothing met) ns ≡ false → chain new nothing met more holder n ≡ links ns
+  kept : (met : List Finding) (holder : ℕ) → list_any (is_met nothing met) ns ≡ false → chain new nothing met more holder n ≡ placements ns
   kept met holder none =
-      let was : chain old nothing met more holder n ≡ links ns = is.walk met holder none in
+      let was : chain old nothing met more holder n ≡ placements ns = is.walk met holder none in
       chain_kept old new put.size put.range nothing met more holder n (ap is_sound was ∙ links_sound ns)
       (subst (λ l. AreSame old new (places l)) (sym was) (subst (λ l. AreSame old new l) (sym (links_places ns)) (same_pages old new m put ns is.put other)))
       ∙ was
 
   kept_bytes : chain_bytes new more n ≡ bytes
   kept_bytes =
-      let was : chain old nothing [] more 0 n ≡ links ns = is.walk [] 0 (none_met ns) in
+      let was : chain old nothing [] more 0 n ≡ placements ns = is.walk [] 0 (none_met ns) in
       chain_bytes_kept old new put.size put.range nothing [] more 0 n (ap is_sound was ∙ links_sound ns)
       (subst (λ l. AreSame old new (places l)) (sym was) (subst (λ l. AreSame old new l) (sym (links_places ns)) (same_pages old new m put ns is.put other)))
       ∙ is.bytes_are
@@ -178,7 +178,7 @@ module _ (old new : Pages) (more n : ℕ) (ns bytes : List ℕ) (m : ℕ) (put :
   links_stay = record { walk = kept; bytes_are = kept_bytes; put = still_put old new m put ns is.put }
 
 -- a payload that goes on: its chain begins at the page that its cell names
-pub chain_is : (pages : Pages) (stored : Stored) (more : ℕ) (ns bytes : List ℕ) → IsLinks pages (suc more) stored.first ns bytes
+pub chain_is : (pages : Pages) (stored : StoredCell) (more : ℕ) (ns bytes : List ℕ) → IsLinks pages (suc more) stored.first ns bytes
     → links_needed pages.usable stored ≡ suc more → is_in_range pages stored.first ≡ true
     → IsChain pages stored ns (take stored.size (stored.local ++ bytes))
 chain_is pages stored more ns bytes is needed range = record {
@@ -188,5 +188,5 @@ chain_is pages stored more ns bytes is needed range = record {
 }
 
 -- a payload that is whole in its cell
-pub whole_is : (pages : Pages) (stored : Stored) → links_needed pages.usable stored ≡ 0 → IsChain pages stored [] (take stored.size (stored.local ++ []))
+pub whole_is : (pages : Pages) (stored : StoredCell) → links_needed pages.usable stored ≡ 0 → IsChain pages stored [] (take stored.size (stored.local ++ []))
 whole_is pages stored needed = record { walk = λ met holder none. rw needed refl; bytes = rw needed refl; put = refl }

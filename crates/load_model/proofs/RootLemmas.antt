@@ -16,14 +16,14 @@ use Rattle.btree_model.specs.Rest.{AreUnmarked}
 use Rattle.btree_model.specs.Tree.{tree, tree_walk}
 use Rattle.btree_model.specs.Content.{Entry, entry_of}
 use Rattle.load_model.specs.Open.{Open, raise, open_found, at_height, plain}
-use Rattle.load_model.specs.Stands.{IsNonePut, IsPut, Stands, StandsBut}
+use Rattle.load_model.specs.Stands.{IsNonePut, IsPut, OpenPagesStand, StandsBut}
 use Rattle.load_model.proofs.PlainLemmas.{places-plain, sound-plain, entries-plain}
 use Rattle.load_model.proofs.AlikeLemmas.{steps_alike, walk_alike}
 use Rattle.load_model.proofs.OpenLemmas.{open_level, page_walk, longer_by}
 use Rattle.load_model.proofs.StandsLemmas.{put_listed, put_stands, put_found, not_among}
 
 -- a loader that was given nothing, and has put nothing
-pub nothing_stands : (pages : Pages) (family : Family) → IsNonePut pages → Stands pages family None [] []
+pub nothing_stands : (pages : Pages) (family : Family) → IsNonePut pages → OpenPagesStand pages family None [] []
 nothing_stands pages family none = record {
   sound = λ slack. refl;
   gives = λ slack. refl;
@@ -47,7 +47,7 @@ some_if false rows pushed is h = cc
 -- the last page was put at r, and it reads as all that was left on the open pages
 module _ (old new : Pages) (family : Family) (last : Option ℤ) (pushed : List Entry) (h r : ℕ) (one : Node)
     (put : IsPut old new r) (reads : read_node family r (new.page r) ≡ Ok one) (low : h ≤ 19)
-    (s : Stands old family last (at_height h (steps one.cells one.right)) pushed) where
+    (s : OpenPagesStand old family last (at_height h (steps one.cells one.right)) pushed) where
   abbrev todo : List Open
   todo = at_height h (steps one.cells one.right)
 
@@ -96,7 +96,7 @@ raise_to_20 h le = let is : raise (20 - h) h ≡ h + (20 - h) = raise_is (20 - h
 
 -- all that is left is one page that was put
 module _ (pages : Pages) (family : Family) (last : Option ℤ) (pushed : List Entry) (h m : ℕ) (range : is_in_range pages m ≡ true) (low : h ≤ 20)
-    (s : Stands pages family last (record { height = h; leads = child m } ∷ []) pushed) where
+    (s : OpenPagesStand pages family last (record { height = h; leads = child m } ∷ []) pushed) where
   child_walk : open_found pages family (20 - h) [] (record { height = h; leads = child m } ∷ []) ≡ tree_walk pages family nothing m
   child_walk =
       append-nil _ ∙ ap (λ b. if b then walk pages family nothing (raise (20 - h) h) [] m else fault (ChildOutOfRange 0) ∷ []) range
@@ -115,7 +115,7 @@ module _ (pages : Pages) (family : Family) (last : Option ℤ) (pushed : List En
 -- the only child did not fit beside the database header: page 1 has no cell and one child
 module _ (old new : Pages) (family : Family) (kind : Kind) (last : Option ℤ) (pushed : List Entry) (h m : ℕ) (put : IsPut old new 1)
     (reads : read_node family 1 (new.page 1) ≡ Ok (record { kind = kind; cells = []; right = Some m })) (low : h ≤ 19)
-    (s : Stands old family last (record { height = h; leads = child m } ∷ []) pushed) where
+    (s : OpenPagesStand old family last (record { height = h; leads = child m } ∷ []) pushed) where
   pub lone_root : option_map (map entry_of) (tree new family 1) ≡ Some pushed
   lone_root = root_tree old new family last pushed h 1 (record { kind = kind; cells = []; right = Some m }) put reads low s
 

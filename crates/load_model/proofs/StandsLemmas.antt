@@ -18,7 +18,7 @@ use Rattle.btree_model.proofs.ProperLemmas.{keys-append}
 use Rattle.btree_model.proofs.ContextLemmas.{and_left, and_right}
 use Rattle.btree_model.proofs.KeptLemmas.{AreSame}
 use Rattle.load_model.specs.Open.{Open, open_found, at_height, plain}
-use Rattle.load_model.specs.Stands.{IsPut, Stands, StandsBut, is_at_most}
+use Rattle.load_model.specs.Stands.{IsPut, OpenPagesStand, StandsBut, is_at_most}
 use Rattle.load_model.proofs.PlainLemmas.{places-plain, sound-plain, entries-plain, keys-plain}
 use Rattle.load_model.proofs.OpenLemmas.{open-append, open_kept, contract}
 
@@ -149,7 +149,7 @@ module _ (found again before behind : List Finding) (m : ℕ) (is : found ≡ be
 -- a page is closed: page m was put, and it reads as some of the steps on the open pages, all of one height
 module _ (old new : Pages) (family : Family) (last : Option ℤ) (front back : List Open) (pushed : List Entry) (h m : ℕ) (one : Node)
     (put : IsPut old new m) (range : is_in_range new m ≡ true) (reads : read_node family m (new.page m) ≡ Ok one)
-    (s : Stands old family last (front ++ (at_height h (steps one.cells one.right) ++ back)) pushed) where
+    (s : OpenPagesStand old family last (front ++ (at_height h (steps one.cells one.right) ++ back)) pushed) where
   abbrev level : List Open
   level = at_height h (steps one.cells one.right) ++ back
 
@@ -196,7 +196,7 @@ module _ (old new : Pages) (family : Family) (last : Option ℤ) (front back : L
   close_places_before slack =
       ap places (sym (put_found [] old new family last (front ++ level) pushed m put s slack) ∙ is slack) ∙ places-append (before slack) (behind slack)
 
-  pub close_stands : Stands new family last (front ++ (record { height = suc h; leads = child m } ∷ back)) pushed
+  pub close_stands : OpenPagesStand new family last (front ++ (record { height = suc h; leads = child m } ∷ back)) pushed
   close_stands =
       record {
         sound = λ slack. more_sound (found slack) (again slack) (before slack) (behind slack) m (is slack) (more slack) ∙ now.sound slack;

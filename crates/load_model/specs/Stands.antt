@@ -3,7 +3,7 @@ use Rattle.std.specs.Prelude.{ℕ, ◌≡◌, true, false, ℤ, Bool, List, [], 
 use Rattle.std.specs.List.{list_all, list_any}
 use Rattle.std.specs.Option.{option_map_or}
 use Rattle.btree_page.specs.declared.kind.Family.{Family}
-use Rattle.btree_page.specs.Cell.{Stored}
+use Rattle.btree_page.specs.Cell.{StoredCell}
 use Rattle.db_format.specs.Pages.{Pages, nothing}
 use Rattle.btree_model.specs.Range.{is_in_range}
 use Rattle.btree_model.specs.Finding.{Finding, place, entries, places, keys, is_sound}
@@ -38,16 +38,16 @@ pub record StandsBut (loose : List ℕ) (pages : Pages) (family : Family) (last 
   pub whole : (slack n : ℕ) → pages.accepts n ≡ true → list_any (λ m. m == n) (loose ++ places (open_found pages family slack [] todo)) ≡ true
 
 -- the same without a loose page
-abbrev pub Stands : Pages → Family → Option ℤ → List Open → List Entry → Type 0
-Stands pages family last todo pushed = StandsBut [] pages family last todo pushed
+abbrev pub OpenPagesStand : Pages → Family → Option ℤ → List Open → List Entry → Type 0
+OpenPagesStand pages family last todo pushed = StandsBut [] pages family last todo pushed
 
-abbrev pub links : List ℕ → List Finding
-links [] = []
-links (n ∷ ns) = place n ∷ links ns
+abbrev pub placements : List ℕ → List Finding
+placements [] = []
+placements (n ∷ ns) = place n ∷ placements ns
 
 -- the pages of this chain, each put, and its payload
-pub record IsChain (pages : Pages) (stored : Stored) (ns : List ℕ) (payload : List ℕ) : Type 0 where
-  pub walk : (met : List Finding) (holder : ℕ) → list_any (is_met nothing met) ns ≡ false → chain_of pages nothing met holder stored ≡ links ns
+pub record IsChain (pages : Pages) (stored : StoredCell) (ns : List ℕ) (payload : List ℕ) : Type 0 where
+  pub walk : (met : List Finding) (holder : ℕ) → list_any (is_met nothing met) ns ≡ false → chain_of pages nothing met holder stored ≡ placements ns
   pub bytes : payload_of pages stored ≡ payload
   pub put : list_all pages.accepts ns ≡ true
 
@@ -58,6 +58,6 @@ last_after last (Some r) = Some r
 
 -- a chain of `more` pages from page n on, each put; it is written from its end
 pub record IsLinks (pages : Pages) (more n : ℕ) (ns bytes : List ℕ) : Type 0 where
-  pub walk : (met : List Finding) (holder : ℕ) → list_any (is_met nothing met) ns ≡ false → chain pages nothing met more holder n ≡ links ns
+  pub walk : (met : List Finding) (holder : ℕ) → list_any (is_met nothing met) ns ≡ false → chain pages nothing met more holder n ≡ placements ns
   pub bytes_are : chain_bytes pages more n ≡ bytes
   pub put : list_all pages.accepts ns ≡ true

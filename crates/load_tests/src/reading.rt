@@ -1,7 +1,7 @@
 // A loaded tree, walked by a cursor.
 ghost use Rattle.std.specs.Prelude.{◌≡◌, ◌≤◌, ◌+◌, length, IfSome};
 ghost use Rattle.db_format.specs.Source.{no_pins};
-ghost use Rattle.btree_walk.specs.Cursor.{IsReady};
+ghost use Rattle.btree_walk.specs.Cursor.{IsCursorReady};
 
 use crate::loading::{number, rowid};
 use btree_page::{Cell, Family, PageView};
@@ -44,7 +44,7 @@ fn walk<S: PageSource>(
 ) -> Option<u32>
 where
     S::Refusal: Drop,
-    requires { IsReady (S.plain source.old).count (S.pins source.old) seen.old cursor.old }
+    requires { IsCursorReady (S.plain source.old).count (S.pins source.old) seen.old cursor.old }
 {
     for before in 0..u32::MAX {
         match cursor.advance(source, seen) {

@@ -7,20 +7,20 @@ use Rattle.cipher_profile.specs.Profile.{IsListed, usable}
 use Rattle.db_format.specs.Header.{header_bytes, header_read}
 use Rattle.db_format.specs.Pages.{Pages}
 use Rattle.db_format.specs.declared.header.Header.{Header}
-use Rattle.db_maker.specs.Made.{IsMade, made_items}
+use Rattle.db_maker.specs.Made.{IsFilled, made_items}
 use Rattle.bulk_load.specs.Found.{IsTightBehind}
 use Rattle.bulk_load.proofs.FreeLemmas.{header_free}
 use Rattle.edge_model.specs.Causes.{Rose}
 use Rattle.edge_model.specs.Files.{File, Files}
 use Rattle.fresh_file.specs.Draws.{AreOwnDraws}
-use Rattle.fresh_file.specs.Fresh.{IsFinished, sized}
-use Rattle.fresh_file.specs.State.{most_pages, pages_of}
+use Rattle.fresh_file.specs.Fresh.{IsFinished, sized_page}
+use Rattle.fresh_file.specs.State.{most_pages, fresh_pages}
 use Rattle.fresh_file.specs.declared.state.FreshState.{FreshState}
 use Rattle.fresh_file.proofs.HeadLaws.{begins}
 use Rattle.fresh_file.proofs.OpeningLaws.{IsHeaderFor, accepted, is_headed, opens, own_draws}
 use Rattle.make_job.specs.Made.{made_header}
 use Rattle.make_job.specs.Stops.{in_the_way}
-use Rattle.make_job.specs.Written.{IsWritten}
+use Rattle.make_job.specs.Written.{IsMadeWritten}
 use Rattle.page_codec.specs.Page.{FileKeys}
 use Rattle.pager.specs.Pages.{opened_pages}
 
@@ -41,9 +41,9 @@ no_journal files = of_roles files.main files.journal files.fresh
 module _ (keys : FileKeys) (header : Header) (state : FreshState) (rows start : ℕ) (draws_tell : Bool) (before fresh : Option (List ℕ)) (drawn : List ℕ)
     (listed : IsListed keys.profile) (codec : state.codec ≡ keys) (limit : state.limit ≡ most_pages keys.profile)
     (head : header ≡ made_header keys.profile 0)
-    (done : IsFinished state.codec header (pages_of state before) start draws_tell fresh drawn) where
+    (done : IsFinished state.codec header (fresh_pages state before) start draws_tell fresh drawn) where
   abbrev pages : Pages
-  pages = pages_of state before
+  pages = fresh_pages state before
 
   ended : IsFinished keys (made_header keys.profile 0) pages start draws_tell fresh drawn
   ended = subst₂ (λ k h. IsFinished k h pages start draws_tell fresh drawn) codec head done
@@ -54,12 +54,12 @@ module _ (keys : FileKeys) (header : Header) (state : FreshState) (rows start : 
   kept : kept_fields (header_bytes (made_header keys.profile pages.count)) ≡ 1 ∷ 4 ∷ 0 ∷ 1 ∷ 0 ∷ 0 ∷ 3045000 ∷ []
   kept = refl
 
-  read_as : header_read (header_bytes (sized header (state.taken + 1))) header.page_size header.reserve ≡ Ok (sized header (state.taken + 1))
+  read_as : header_read (header_bytes (sized_page header (state.taken + 1))) header.page_size header.reserve ≡ Ok (sized_page header (state.taken + 1))
       → header_read (header_bytes (made_header keys.profile pages.count)) keys.profile.page_size keys.profile.reserve ≡ Ok (made_header keys.profile pages.count)
-  read_as = subst (λ (h : Header). header_read (header_bytes (sized h pages.count)) h.page_size h.reserve ≡ Ok (sized h pages.count)) head
+  read_as = subst (λ (h : Header). header_read (header_bytes (sized_page h pages.count)) h.page_size h.reserve ≡ Ok (sized_page h pages.count)) head
 
-  pub written : header_read (header_bytes (sized header (state.taken + 1))) header.page_size header.reserve ≡ Ok (sized header (state.taken + 1))
-      → IsMade pages rows → IsTightBehind pages → IsWritten keys rows fresh
+  pub written : header_read (header_bytes (sized_page header (state.taken + 1))) header.page_size header.reserve ≡ Ok (sized_page header (state.taken + 1))
+      → IsFilled pages rows → IsTightBehind pages → IsMadeWritten keys rows fresh
   written read made filled =
       let usable_is : pages.usable ≡ usable keys.profile = ap (λ (k : FileKeys). usable k.profile) codec in
       record {

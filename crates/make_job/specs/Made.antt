@@ -10,7 +10,7 @@ use Rattle.fresh_file.specs.Head.{BeginsWith}
 use Rattle.page_codec.specs.Page.{FileKeys, accepts, keys_of}
 use Rattle.pager.specs.File.{page_stored}
 use Rattle.pager.specs.Opening.{file_opened}
-use Rattle.pager.specs.Pages.{is_number, opened_pages}
+use Rattle.pager.specs.Pages.{is_page_number, opened_pages}
 
 -- the header of a made file of so many pages
 abbrev pub made_header : Profile → ℕ → Header
@@ -42,7 +42,7 @@ pub record IsMadeUnder (keys : FileKeys) (rows : ℕ) (file : List ℕ) : Type 0
   pub opens : file_opened keys file ≡ Ok (record { header = made_header keys.profile count; count = count })
   pub begins : BeginsWith keys (made_header keys.profile count) file
   pub size : length file ≡ count * keys.profile.page_size
-  pub accepted : (n : ℕ) → is_number count n ≡ true → accepts keys n (page_stored keys file n) ≡ true
+  pub accepted : (n : ℕ) → is_page_number count n ≡ true → accepts keys n (page_stored keys file n) ≡ true
   pub holds : HoldsContent (opened_pages keys file count) (made_content rows)
   pub tight : IsTight (opened_pages keys file count)
 

@@ -12,20 +12,20 @@ abbrev pub in_the_way : Files → Option MakeError
 in_the_way files = if is_some files.main then Some FileThere else (if is_some files.journal then Some JournalThere else None)
 
 -- it names a file that stands in the way
-abbrev pub is_refusal : MakeError → Bool
-is_refusal FileThere = true
-is_refusal JournalThere = true
-is_refusal (TooManyPages limit) = false
-is_refusal DiskFault = false
-is_refusal EntropyFault = false
-is_refusal OutOfMemory = false
+abbrev pub is_make_refusal : MakeError → Bool
+is_make_refusal FileThere = true
+is_make_refusal JournalThere = true
+is_make_refusal (TooManyPages limit) = false
+is_make_refusal DiskFault = false
+is_make_refusal EntropyFault = false
+is_make_refusal OutOfMemory = false
 
 -- How a load that failed stops the command. Rows are pushed in their order, and a tree that is too deep has more pages than a file may
 -- have: so neither of these stops it.
-abbrev pub load_error : LoadError → Option MakeError
-load_error RowidOrder = None
-load_error (Out (OutPages limit)) = Some (TooManyPages limit)
-load_error (Out OutDisk) = Some DiskFault
-load_error (Out OutEntropy) = Some EntropyFault
-load_error LoadMemory = Some OutOfMemory
-load_error TooDeep = None
+abbrev pub make_load_error : LoadError → Option MakeError
+make_load_error RowidOrder = None
+make_load_error (Out (OutPages limit)) = Some (TooManyPages limit)
+make_load_error (Out OutDisk) = Some DiskFault
+make_load_error (Out OutEntropy) = Some EntropyFault
+make_load_error LoadMemory = Some OutOfMemory
+make_load_error TooDeep = None

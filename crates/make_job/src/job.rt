@@ -2,17 +2,16 @@
 ghost use Rattle.std.specs.Prelude.{◌≡◌, ◌⊎◌, ◌≤◌, ◌<◌, ◌++◌, ℕ, true, false, is_some, None, Some, Err, IfOk, IfErr, OnOk, OnErr, IsTrue, drop, length};
 ghost use Rattle.cipher_profile.specs.Profile.{IsListed, is_plain, usable};
 ghost use Rattle.edge_model.specs.Causes.{Rose};
-ghost use Rattle.edge_model.specs.Files.{file_at};
+ghost use Rattle.edge_model.specs.Files.{file_at, main_of};
 ghost use Rattle.edge_model.specs.OnlyRead.{OnlyRead};
 ghost use Rattle.db_maker.specs.Pages.{made_pages};
 ghost use Rattle.db_maker.specs.Rows.{total_len};
 ghost use Rattle.page_codec.specs.Page.{keys_of, magic};
-ghost use Rattle.pager.specs.File.{main_of};
 ghost use Rattle.fresh_file.specs.Draws.{HasOwnDraws};
 ghost use Rattle.make_job.specs.Made.{IsMade};
-ghost use Rattle.disk_side.specs.Place.{TakesPlace, LeavesOld, MayTakePlace};
+ghost use Rattle.fresh_disk.specs.Place.{TakesPlace, LeavesOld, MayTakePlace};
 ghost use Rattle.fresh_file.specs.State.{most_pages};
-ghost use Rattle.make_job.specs.Stops.{in_the_way, is_refusal};
+ghost use Rattle.make_job.specs.Stops.{in_the_way, is_make_refusal};
 
 use crate::error::MakeError;
 use crate::publishing::publish_rows;
@@ -48,8 +47,8 @@ pub fn make<D: Disk, E: Entropy>(
     // a file in the way: it is answered, the disk was only read, and nothing was drawn
     ensures stopped { (e : MakeError) → IsTrue D.tells → in_the_way (D.reads disk.old) ≡ Some e
         → ((result ≡ Err e) ⊎ (result ≡ Err MakeError.DiskFault)) × OnlyRead D.reads D.images D.moment D.since disk.old disk.new × (entropy.new ≡ entropy.old) }
-    ensures there { IfErr result (λ e. is_refusal e ≡ true → IsTrue D.tells → in_the_way (D.reads disk.old) ≡ Some e) }
-    ensures undrawn { IfErr result (λ e. is_refusal e ≡ true → entropy.new ≡ entropy.old) }
+    ensures there { IfErr result (λ e. is_make_refusal e ≡ true → IsTrue D.tells → in_the_way (D.reads disk.old) ≡ Some e) }
+    ensures undrawn { IfErr result (λ e. is_make_refusal e ≡ true → entropy.new ≡ entropy.old) }
     // why else it stopped
     ensures limit { (limit : ℕ) → result ≡ Err (MakeError.TooManyPages limit) → (limit ≡ most_pages profile) × (most_pages profile < made_pages (usable profile) rows) }
     ensures disk_fault { result ≡ Err MakeError.DiskFault → Rose (D.faults disk.old) (D.faults disk.new) }
@@ -67,7 +66,7 @@ pub fn make<D: Disk, E: Entropy>(
 // Whether a file stands in the way.
 fn look_for_files<D: Disk>(disk: &mut D) -> Result<(), MakeError>
     ensures free { OnOk result (IsTrue D.tells → in_the_way (D.reads disk.old) ≡ None) }
-    ensures there { IfErr result (λ e. (e ≡ MakeError.DiskFault → ⊥) → (is_refusal e ≡ true) × (IsTrue D.tells → in_the_way (D.reads disk.old) ≡ Some e)) }
+    ensures there { IfErr result (λ e. (e ≡ MakeError.DiskFault → ⊥) → (is_make_refusal e ≡ true) × (IsTrue D.tells → in_the_way (D.reads disk.old) ≡ Some e)) }
     ensures read { IsTrue D.tells → OnlyRead D.reads D.images D.moment D.since disk.old disk.new }
     ensures fault { result ≡ Err MakeError.DiskFault → Rose (D.faults disk.old) (D.faults disk.new) }
     ensures later { D.faults disk.old ≤ D.faults disk.new }

@@ -6,21 +6,21 @@ ghost use Rattle.edge_model.specs.Causes.{Rose};
 ghost use Rattle.bulk_load.specs.Found.{IsTightBehind};
 ghost use Rattle.bulk_load.specs.Out.{AreAllPut};
 ghost use Rattle.db_format.specs.Header.{IsPageSize};
-ghost use Rattle.db_maker.specs.Made.{IsMade};
+ghost use Rattle.db_maker.specs.Made.{IsFilled};
 ghost use Rattle.db_maker.specs.Pages.{made_pages};
 ghost use Rattle.db_maker.specs.Rows.{total_len};
-ghost use Rattle.fresh_file.specs.State.{IsWellAs, most_pages, pages_of};
+ghost use Rattle.fresh_file.specs.State.{IsWellAs, most_pages, fresh_pages};
 ghost use Rattle.make_job.specs.Made.{made_header};
-ghost use Rattle.make_job.specs.Stops.{is_refusal, load_error};
+ghost use Rattle.make_job.specs.Stops.{is_make_refusal, make_load_error};
 ghost use Rattle.fresh_file.specs.Draws.{AreOwnDraws};
-ghost use Rattle.make_job.specs.Written.{IsWritten};
+ghost use Rattle.make_job.specs.Written.{IsMadeWritten};
 
 use crate::error::MakeError;
 use bulk_load::{LoadError, OutError};
 use cipher_profile::Profile;
 use db_format::Header;
 use db_maker::{Made, fill};
-use disk_side::Side;
+use fresh_disk::Side;
 use fresh_file::{CommitFault, FreshState, StartError};
 use page_codec::Codec;
 use std::alloc::Global;
@@ -33,12 +33,12 @@ pub(crate) fn write_rows<T: Side>(
     rows: u32,
 ) -> Result<Made, MakeError>
     ensures counts { IfOk result (λ made. (made.rows ≡ rows) × (made.bytes ≡ total_len rows)) }
-    ensures written { OnOk result (IsTrue T.tells → IsWritten codec rows (T.fresh side.new)) }
+    ensures written { OnOk result (IsTrue T.tells → IsMadeWritten codec rows (T.fresh side.new)) }
     ensures synced { OnOk result (IsTrue T.tells → T.synced side.new) }
     ensures own_draws { OnOk result (IsTrue T.tells → IsTrue T.draws_tell → (file : List ℕ) → T.fresh side.new ≡ Some file
         → AreOwnDraws codec file (length (T.drawn side.old)) (T.drawn side.new)) }
     ensures kept { T.only_fresh side.old side.new }
-    ensures no_refusal { IfErr result (λ e. is_refusal e ≡ false) }
+    ensures no_refusal { IfErr result (λ e. is_make_refusal e ≡ false) }
     ensures limit { (limit : ℕ) → result ≡ Err (MakeError.TooManyPages limit) → (limit ≡ most_pages codec.profile) × (most_pages codec.profile < made_pages (usable codec.profile) rows) }
     ensures disk_fault { result ≡ Err MakeError.DiskFault → Rose (T.disk_faults side.old) (T.disk_faults side.new) }
     ensures entropy_fault { result ≡ Err MakeError.EntropyFault → Rose (T.draw_faults side.old) (T.draw_faults side.new) }
@@ -66,18 +66,18 @@ fn fill_state<T: Side>(
     side: &mut T,
     rows: u32,
 ) -> Result<Made, MakeError>
-    requires none { ((pages_of state.old (T.fresh side.old)).count ≡ 1) × ((n : ℕ) → (pages_of state.old (T.fresh side.old)).accepts n ≡ false) }
+    requires none { ((fresh_pages state.old (T.fresh side.old)).count ≡ 1) × ((n : ℕ) → (fresh_pages state.old (T.fresh side.old)).accepts n ≡ false) }
     ensures counts { IfOk result (λ made. (made.rows ≡ rows) × (made.bytes ≡ total_len rows)) }
     ensures made { (start : ℕ) → IsWellAs state.old start T.tells T.draws_tell (T.fresh side.old) (T.drawn side.old)
-        → OnOk result (IsMade (pages_of state.new (T.fresh side.new)) rows) }
+        → OnOk result (IsFilled (fresh_pages state.new (T.fresh side.new)) rows) }
     ensures tight { (start : ℕ) → IsWellAs state.old start T.tells T.draws_tell (T.fresh side.old) (T.drawn side.old)
-        → OnOk result (IsTightBehind (pages_of state.new (T.fresh side.new))) }
+        → OnOk result (IsTightBehind (fresh_pages state.new (T.fresh side.new))) }
     ensures well { (start : ℕ) → IsWellAs state.old start T.tells T.draws_tell (T.fresh side.old) (T.drawn side.old)
         → OnOk result (IsWellAs state.new start T.tells T.draws_tell (T.fresh side.new) (T.drawn side.new)) }
-    ensures whole { OnOk result (AreAllPut (pages_of state.new (T.fresh side.new))) }
+    ensures whole { OnOk result (AreAllPut (fresh_pages state.new (T.fresh side.new))) }
     ensures same { (state.new.codec ≡ state.old.codec) × (state.new.limit ≡ state.old.limit) }
     ensures kept { T.only_fresh side.old side.new }
-    ensures no_refusal { IfErr result (λ e. is_refusal e ≡ false) }
+    ensures no_refusal { IfErr result (λ e. is_make_refusal e ≡ false) }
     ensures limit { (limit : ℕ) → result ≡ Err (MakeError.TooManyPages limit) → (limit ≡ state.old.limit) × (limit < made_pages (usable state.old.codec.profile) rows) }
     ensures disk_fault { result ≡ Err MakeError.DiskFault → Rose (T.disk_faults side.old) (T.disk_faults side.new) }
     ensures entropy_fault { result ≡ Err MakeError.EntropyFault → Rose (T.draw_faults side.old) (T.draw_faults side.new) }
@@ -95,7 +95,7 @@ fn fill_state<T: Side>(
 fn load_error(error: LoadError) -> MakeError
     requires in_order { error ≡ LoadError.RowidOrder → ⊥ }
     requires shallow { error ≡ LoadError.TooDeep → ⊥ }
-    ensures { load_error error ≡ Some result }
+    ensures { make_load_error error ≡ Some result }
 {
     match error {
         LoadError::Out(OutError::TooManyPages { limit }) => MakeError::TooManyPages { limit },

@@ -1,10 +1,9 @@
 -- The old pages, while the new file is written beside.
 use Rattle.std.proofs.Common.{◌≡◌, ℕ, [], ap, ◌∙◌}
 use Rattle.std.specs.Prelude.{unwrap_or}
-use Rattle.disk_side.specs.OnlyFresh.{OnlyFresh}
-use Rattle.edge_model.specs.Files.{Files, bytes_of}
+use Rattle.fresh_disk.specs.OnlyFresh.{OnlyFresh}
+use Rattle.edge_model.specs.Files.{Files, bytes_of, main_of}
 use Rattle.page_codec.specs.Page.{FileKeys}
-use Rattle.pager.specs.File.{main_of}
 use Rattle.pager.specs.Pages.{opened_pages}
 
 -- they stay

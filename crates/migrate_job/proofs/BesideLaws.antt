@@ -10,20 +10,20 @@ use Rattle.cipher_profile.specs.declared.keys.Secret.{Secret}
 use Rattle.cipher_profile.specs.declared.profile.Profile.{Profile}
 use Rattle.db_format.specs.Pages.{Pages}
 use Rattle.db_format.specs.declared.header.Header.{Header}
-use Rattle.disk_side.specs.Place.{LeavesOld}
-use Rattle.edge_model.specs.Files.{File, Files, bytes_of}
-use Rattle.fresh_file.specs.Beside.{IsBeside, IsSalted, IsWritten}
+use Rattle.fresh_disk.specs.Place.{LeavesOld}
+use Rattle.edge_model.specs.Files.{File, Files, bytes_of, main_of}
+use Rattle.fresh_disk.specs.Beside.{IsNewBeside, IsNewWritten}
+use Rattle.fresh_file.specs.Salted.{IsSalted}
 use Rattle.fresh_file.specs.Draws.{AreOwnDraws, HasOwnDraws}
 use Rattle.fresh_file.specs.State.{most_pages}
 use Rattle.fresh_file.proofs.DrawLaws.{drawn_with, keys_are}
 use Rattle.migrate_job.specs.Bound.{pages_at_most}
 use Rattle.migrate_job.specs.Migrated.{IsMigrated}
-use Rattle.migrate_job.specs.Stops.{IsShown, is_early}
+use Rattle.migrate_job.specs.Stops.{IsMigrateShown, is_early_stop}
 use Rattle.migrate_job.specs.declared.error.MigrateError.{MigrateError}
 use Rattle.migrate_job.specs.declared.error.MigrateError.TheVariants.{PageTag, Defect, TooManyPages, DiskFault, EntropyFault, OutOfMemory}
 use Rattle.page_codec.specs.Page.{FileKeys, keys_of, keys_with_salt, magic, salt_of}
 use Rattle.pager.specs.Beside.{Beside}
-use Rattle.pager.specs.File.{main_of}
 use Rattle.pager.specs.Pages.{opened_pages}
 
 -- the same pages, where Main reads as before
@@ -44,9 +44,9 @@ few_as pages now keys keys_now limit same k l few =
     (subst (λ (x : FileKeys). limit < pages_at_most (usable x.profile) limit (content now)) k few))
 
 -- what stops a copy of a database without a defect
-pub late_shown : (profile : Profile) (pages : Pages) (e : MigrateError) → is_early e ≡ false → is_database pages ≡ true
+pub late_shown : (profile : Profile) (pages : Pages) (e : MigrateError) → is_early_stop e ≡ false → is_database pages ≡ true
     → ((limit : ℕ) → e ≡ TooManyPages limit → most_pages profile < pages_at_most (usable profile) (most_pages profile) (content pages))
-    → (is_early e ≡ false) × IsShown profile pages e
+    → (is_early_stop e ≡ false) × IsMigrateShown profile pages e
 late_shown profile pages (PageTag n) late sound few = cc
 late_shown profile pages (Defect d) late sound few = cc
 late_shown profile pages (TooManyPages limit) late sound few = (refl, (sound, few limit refl))
@@ -58,7 +58,7 @@ late_shown profile pages OutOfMemory late sound few = (refl, tt)
 
 -- a file beside Main that is one kind of file is one of another
 pub beside_as : {D : Type 0} (reads : D → Files) (images : D → Files → Type 0) (is_new is_wanted : List ℕ → Type 0) (disk : D)
-    → ((file : List ℕ) → is_new file → is_wanted file) → IsBeside reads images is_new disk → IsBeside reads images is_wanted disk
+    → ((file : List ℕ) → is_new file → is_wanted file) → IsNewBeside reads images is_new disk → IsNewBeside reads images is_wanted disk
 beside_as reads images is_new is_wanted disk gives there = record { file = there.file; is = there.is; made = gives there.file.bytes there.made; synced = there.synced }
 
 -- the same kind, by other names
@@ -68,7 +68,7 @@ migrated_as profile secret h now_h pages now same_h same file is =
     subst (λ (x : Header). IsMigrated profile secret x pages file) same_h (subst (λ (x : Pages). IsMigrated profile secret now_h x file) same is)
 
 -- the file that was written begins with its salt
-pub written_salt : (keys : FileKeys) (is_new : List ℕ → Type 0) (fresh : Option (List ℕ)) (file : List ℕ) → IsWritten (IsSalted keys is_new) fresh → fresh ≡ Some file
+pub written_salt : (keys : FileKeys) (is_new : List ℕ → Type 0) (fresh : Option (List ℕ)) (file : List ℕ) → IsNewWritten (IsSalted keys is_new) fresh → fresh ≡ Some file
     → salt_of file ≡ keys.salt
 written_salt keys is_new fresh file written is = subst (λ (l : List ℕ). salt_of l ≡ keys.salt) (some_is (sym written.is ∙ is)) written.made.salt
   where

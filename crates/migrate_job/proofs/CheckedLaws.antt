@@ -6,9 +6,9 @@ use Rattle.btree_model.specs.Parts.{first_refusals, parts}
 use Rattle.btree_walk.specs.declared.error.WalkError.{WalkError}
 use Rattle.btree_walk.specs.declared.error.WalkError.TheVariants.{Defect, Source, OutOfMemory}
 use Rattle.db_format.specs.Pages.{Pages}
-use Rattle.migrate_job.specs.Copying.{walk_error}
+use Rattle.migrate_job.specs.Copying.{migrate_walk_error}
 use Rattle.cipher_profile.specs.declared.profile.Profile.{Profile}
-use Rattle.migrate_job.specs.Stops.{IsFoundEarly, IsShown}
+use Rattle.migrate_job.specs.Stops.{IsFoundEarly, IsMigrateShown}
 use Rattle.migrate_job.specs.declared.error.MigrateError.{MigrateError}
 use Rattle.migrate_job.specs.declared.error.MigrateError.TheVariants as stop
 use Rattle.pager.specs.Causes.{MayRefuse}
@@ -18,7 +18,7 @@ use Rattle.schema_map.specs.Parts.{IsEarliest}
 
 -- a defect or a refused page of the earliest part that has one
 pub found_early : (tells : Bool) (pages : Pages) (error : WalkError PageError) → IsTrue tells → IsEarliest (MayRefuse tells) pages (parts pages) error
-    → IsFoundEarly pages (walk_error error)
+    → IsFoundEarly pages (migrate_walk_error error)
 found_early tells pages (Defect d) told found = found
 found_early tells pages OutOfMemory told found = tt
 found_early tells pages (Source (TagRefused n)) told found =
@@ -29,7 +29,7 @@ found_early tells pages (Source EntropyFault) told found = tt
 found_early tells pages (Source AllPinned) told found = tt
 
 -- the pages show it
-pub found_shown : (profile : Profile) (pages : Pages) (e : MigrateError) → IsFoundEarly pages e → IsShown profile pages e
+pub found_shown : (profile : Profile) (pages : Pages) (e : MigrateError) → IsFoundEarly pages e → IsMigrateShown profile pages e
 found_shown profile pages (stop.PageTag n) found = found
 found_shown profile pages (stop.Defect d) found = found
 found_shown profile pages (stop.TooManyPages limit) found = absurd found

@@ -12,7 +12,7 @@ use Rattle.btree_model.specs.Finding.{is_sound}
 use Rattle.btree_model.specs.Schema.{at_page, root_of}
 use Rattle.btree_model.specs.Tree.{root_family, tree_walk}
 use Rattle.bulk_load.specs.Found.{ArePlans, HasTree, HoldsItems, IsPlan, IsTightBehind, OwnTree, SchemaPlan, either, own_pages, plan_entry, plan_item}
-use Rattle.bulk_load.specs.Out.{AreAllPut, Faults, Keeps}
+use Rattle.bulk_load.specs.Out.{AreAllPut, Faults, KeepsPages}
 use Rattle.bulk_load.specs.Own.{between, only}
 use Rattle.bulk_load.proofs.DatabaseLemmas.{IsSchemaTree, items_held, of_trees, tight_held}
 use Rattle.bulk_load.proofs.FoundLemmas.{tree_kept}
@@ -47,7 +47,7 @@ copied_ordered before pages low high (row ∷ rows) (root ∷ roots) (middle, le
 
 -- what is put beside them leaves them as they are
 module _ {S : Type 0} (pages : S → Pages) (limit : S → ℕ) (faults : S → Faults) (well : ℕ → S → Type 0) (before : Pages) (first : Bool) (a b : S) (start : ℕ)
-    (told : well start a) (kept : Keeps pages limit faults well first a b) where
+    (told : well start a) (kept : KeepsPages pages limit faults well first a b) where
   one_kept : (low high : ℕ) → 1 ≤ low → high ≤ (pages a).count → (root new : ℕ) → IsCopiedTree before (pages a) low high root new → IsCopiedTree before (pages b) low high root new
   one_kept low high some most zero new is = is
   one_kept low high some most (suc n) new is =

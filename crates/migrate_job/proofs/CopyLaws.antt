@@ -2,8 +2,8 @@
 use Rattle.std.proofs.Common.{◌≡◌, ◌≤◌, ◌++◌, ◌∷◌, ℕ, Bool, true, false, List, [], map, Some, Result, Ok, Err, OnOk, arith, ap, refl, sym, subst, ◌∙◌}
 use Rattle.std.proofs.lemmas.List.{map-append}
 use Rattle.edge_model.specs.Causes.{Rose}
-use Rattle.edge_model.specs.Files.{Files}
-use Rattle.disk_side.specs.OnlyFresh.{OnlyFresh}
+use Rattle.edge_model.specs.Files.{Files, main_of}
+use Rattle.fresh_disk.specs.OnlyFresh.{OnlyFresh}
 use Rattle.db_format.specs.Pages.{Pages, Test}
 use Rattle.page_codec.specs.Page.{FileKeys}
 use Rattle.btree_model.specs.Content.{Entry, entry_of}
@@ -11,11 +11,10 @@ use Rattle.std.specs.List.{Contains}
 use Rattle.btree_page.specs.declared.kind.Family.{Family}
 use Rattle.btree_model.specs.Finding.{Finding, Row, is_sound, refusals}
 use Rattle.btree_walk.specs.declared.cursor.Cursor.{Cursor}
-use Rattle.btree_walk.specs.Cursor.{IsAt, IsSameTree, family_or, walked, walked_family}
+use Rattle.btree_walk.specs.Cursor.{IsCursorAt, IsSameTree, family_or, walked, walked_family}
 use Rattle.btree_walk.specs.Causes.{IsRefused}
 use Rattle.btree_model.specs.Tree.{root_family, tree_walk}
 use Rattle.edge_model.specs.Files.{bytes_of}
-use Rattle.pager.specs.File.{main_of}
 use Rattle.pager.specs.Pages.{opened_pages}
 use Rattle.std.specs.Prelude.{IsTrue, unwrap_or}
 use Rattle.pager.specs.Causes.{MayRefuse}
@@ -24,13 +23,13 @@ use Rattle.pager.specs.declared.fill.PageError.TheVariants.{OutOfRange, TagRefus
 use Rattle.schema_map.proofs.SoundParts.{none_contained, sound_faults, sound_refusals}
 use Rattle.migrate_job.specs.declared.error.MigrateError.{MigrateError}
 use Rattle.migrate_job.specs.declared.error.MigrateError.TheVariants.{PageTag, Defect, TooManyPages, DiskFault, EntropyFault, OutOfMemory}
-use Rattle.migrate_job.specs.Copying.{IsOfWalk, page_error}
-use Rattle.migrate_job.specs.Stops.{is_early}
+use Rattle.migrate_job.specs.Copying.{IsOfWalk, migrate_page_error}
+use Rattle.migrate_job.specs.Stops.{is_early_stop}
 
 -- these entries were given by the cursor, and this is so of them
 pub record IsSoFar (before : Pages) (taken : Test) (cursor : Cursor) (seen : Test) (pushed : List Entry → Type 0) : Type 0 where
   pub given : List Row
-  pub at : IsAt before taken given cursor seen
+  pub at : IsCursorAt before taken given cursor seen
   pub loaded : pushed (map entry_of given)
 
 -- the old pages stay while only Fresh changes
@@ -73,7 +72,7 @@ family_of_asked pages cursor family asked = ap (λ a. family_or a (root_family c
 
 -- a page that was refused at its place in the walk
 pub refused_of_walk : (tells : Bool) (pages : Pages) (all : List Finding) (refusal : PageError) → IsTrue tells → IsRefused (MayRefuse tells) pages all refusal
-    → IsOfWalk all (page_error refusal)
+    → IsOfWalk all (migrate_page_error refusal)
 refused_of_walk tells pages all OutOfRange told at = tt
 refused_of_walk tells pages all (TagRefused n) told at = subst (λ k. Contains (refusals all) k) (sym at.refused.1) (at.listed (at.refused.2 told))
 refused_of_walk tells pages all NotRead told at = tt
@@ -81,7 +80,7 @@ refused_of_walk tells pages all NotSealed told at = tt
 refused_of_walk tells pages all AllPinned told at = tt
 
 -- a sound walk has neither
-pub sound_late : (all : List Finding) (error : MigrateError) → is_sound all ≡ true → IsOfWalk all error → is_early error ≡ false
+pub sound_late : (all : List Finding) (error : MigrateError) → is_sound all ≡ true → IsOfWalk all error → is_early_stop error ≡ false
 sound_late all (PageTag n) sound of = absurd (none_contained n (subst (λ l. Contains l n) (sound_refusals all sound) of))
 sound_late all (Defect d) sound of = absurd (none_contained d (subst (λ l. Contains l d) (sound_faults all sound) of))
 sound_late all (TooManyPages limit) sound of = refl

@@ -11,7 +11,7 @@ use Rattle.btree_page.specs.declared.kind.Family.TheVariants.{Table, Index}
 use Rattle.btree_page.specs.declared.kind.Kind.{Kind}
 use Rattle.btree_page.specs.declared.kind.Kind.TheVariants.{IndexInterior, TableInterior, IndexLeaf, TableLeaf}
 use Rattle.btree_page.specs.declared.page.PageFault.{PageFault}
-use Rattle.btree_page.specs.Cell.{Cell, Stored, table_leaf, table_interior, index_leaf, index_interior, cell_of, childed, keyed, sized, stored_of}
+use Rattle.btree_page.specs.Cell.{Cell, StoredCell, table_leaf, table_interior, index_leaf, index_interior, cell_of, childed, keyed, sized, stored_of}
 use Rattle.btree_page.specs.Kind.{family_of, header_at, kind_at, same_family}
 use Rattle.btree_page.specs.Page.{Node, cell_at, cell_count, array_end, array_start, first_lost, is_of, node_at, read_any, read_kind, read_node}
 use Rattle.btree_page.specs.Step.{Step, child, divider, entry as cell, steps}
@@ -162,7 +162,7 @@ module _ (pages : Pages) (taken : Test) (family : Family) where
       (if_for (is_in_range pages n) _ _
       (link_for n (is_met taken met n) (pages.accepts n) _ (chain_for (met ++ place n ∷ []) more n (u32_at (pages.page n) 0))) refl)
 
-  chain_of_for : (met : List Finding) (n : ℕ) (stored : Stored) → AreFor (chain_of pages taken met n stored)
+  chain_of_for : (met : List Finding) (n : ℕ) (stored : StoredCell) → AreFor (chain_of pages taken met n stored)
   chain_of_for met n stored =
       if_for (links_needed pages.usable stored == 0) _ _ refl
       (if_for (stored.first == 0) _ _ refl (chain_for met (links_needed pages.usable stored) n stored.first))
@@ -177,7 +177,7 @@ module _ (pages : Pages) (taken : Test) (family : Family) where
       let late : Bool = option_map_or (λ rowid. int_lt k rowid) row.rowid false in
       append_for (if late then fault (RowidOrder row.page) ∷ [] else []) (late_faults k rows) (if_for late (fault (RowidOrder row.page) ∷ []) [] refl refl) (late_for k rows)
 
-  given_for : (met : List Finding) (n : ℕ) (rowid : Option ℤ) (stored : Stored) → is_for family rowid ≡ true → AreFor (given pages taken met n rowid stored)
+  given_for : (met : List Finding) (n : ℕ) (rowid : Option ℤ) (stored : StoredCell) → is_for family rowid ≡ true → AreFor (given pages taken met n rowid stored)
   given_for met n rowid stored is =
       let found : List Finding = chain_of pages taken met n stored in
       let row : Row = record { rowid = rowid; payload = payload_of pages stored; page = n } in

@@ -5,7 +5,7 @@ use Rattle.btree_page.specs.declared.kind.Family.{Family}
 use Rattle.btree_model.specs.Content.{Entry, entry_of}
 use Rattle.btree_model.specs.Finding.{Row, entries}
 use Rattle.btree_walk.specs.declared.cursor.Cursor.{Cursor}
-use Rattle.btree_walk.specs.Cursor.{IsAt, walked}
+use Rattle.btree_walk.specs.Cursor.{IsCursorAt, walked}
 use Rattle.btree_walk.specs.declared.error.WalkError.{WalkError}
 use Rattle.btree_walk.specs.declared.error.WalkError.TheVariants.{Defect as Found, Source, OutOfMemory as NoRoomToWalk}
 use Rattle.bulk_load.specs.Out.{is_load_refusal}
@@ -20,18 +20,18 @@ use Rattle.pager.specs.declared.fill.PageError.{PageError}
 use Rattle.pager.specs.declared.fill.PageError.TheVariants.{OutOfRange, TagRefused, DiskFault as NotRead, EntropyFault as NotSealed, AllPinned}
 use Rattle.migrate_job.specs.declared.error.MigrateError.{MigrateError}
 use Rattle.migrate_job.specs.declared.error.MigrateError.TheVariants.{PageTag, Defect, TooManyPages, DiskFault, EntropyFault, OutOfMemory}
-use Rattle.migrate_job.specs.Copying.{asked_by, load_error, walk_error}
+use Rattle.migrate_job.specs.Copying.{asked_by, migrate_load_error, migrate_walk_error}
 
 -- these entries of the walk were given and pushed, and so many numbers given
 pub record IsFewSoFar (before : Pages) (taken : Test) (cursor : Cursor) (seen : Test) (family : Family) (usable from count : ℕ) (loader : Loader) : Type 0 where
   pub given : List Row
   pub more : List Row
-  pub at : IsAt before taken given cursor seen
+  pub at : IsCursorAt before taken given cursor seen
   pub order : entries (walked before taken cursor) ≡ given ++ more
   pub took : TookFew family usable from (map entry_of given) count loader
 
 -- a walk asks for no page of the new file
-pub walk_asks : (error : WalkError PageError) → asked_by (walk_error error) ≡ 0
+pub walk_asks : (error : WalkError PageError) → asked_by (migrate_walk_error error) ≡ 0
 walk_asks (Found defect) = refl
 walk_asks (Source OutOfRange) = refl
 walk_asks (Source (TagRefused n)) = refl
@@ -49,7 +49,7 @@ asks_one EntropyFault = omega arith
 asks_one OutOfMemory = omega arith
 
 -- where no page was taken, one more was asked for
-pub asks_refusal : (error : LoadError) (stops : MigrateError) (count most : ℕ) → load_error error ≡ Some stops → count ≤ most → (is_load_refusal error ≡ true → count + 1 ≤ most)
+pub asks_refusal : (error : LoadError) (stops : MigrateError) (count most : ℕ) → migrate_load_error error ≡ Some stops → count ≤ most → (is_load_refusal error ≡ true → count + 1 ≤ most)
     → count + asked_by stops ≤ most
 asks_refusal RowidOrder stops count most is few asked = cc
 asks_refusal (Out (NoNumber limit)) stops count most is few asked =

@@ -11,10 +11,11 @@ use Rattle.db_format.specs.Header.{header_bytes, header_fields, header_read, hea
 use Rattle.db_format.specs.Pages.{Pages}
 use Rattle.db_format.specs.Rules.{Rule, unless_broken}
 use Rattle.db_format.specs.declared.header.Header.{Header}
-use Rattle.fresh_file.specs.Beside.{IsSalted, IsWritten}
+use Rattle.fresh_disk.specs.Beside.{IsNewWritten}
+use Rattle.fresh_file.specs.Salted.{IsSalted}
 use Rattle.fresh_file.specs.Draws.{AreOwnDraws}
-use Rattle.fresh_file.specs.Fresh.{IsFinished, sized}
-use Rattle.fresh_file.specs.State.{most_pages, pages_of}
+use Rattle.fresh_file.specs.Fresh.{IsFinished, sized_page}
+use Rattle.fresh_file.specs.State.{most_pages, fresh_pages}
 use Rattle.fresh_file.specs.declared.state.FreshState.{FreshState}
 use Rattle.fresh_file.proofs.HeadLaws.{begins}
 use Rattle.fresh_file.proofs.OpeningLaws.{IsHeaderFor, accepted, is_headed, opens, own_draws}
@@ -48,9 +49,9 @@ kept_as h page is = ap (λ (k : Header). kept_of k) is ∙ sym (kept_read page)
 module _ (keys : FileKeys) (old header : Header) (before : Pages) (state : FreshState) (start : ℕ) (draws_tell : Bool) (was fresh : Option (List ℕ)) (drawn : List ℕ)
     (listed : IsListed keys.profile) (codec : state.codec ≡ keys) (limit : state.limit ≡ most_pages keys.profile)
     (head : header ≡ migrated_header keys.profile old 0)
-    (done : IsFinished state.codec header (pages_of state was) start draws_tell fresh drawn) where
+    (done : IsFinished state.codec header (fresh_pages state was) start draws_tell fresh drawn) where
   abbrev pages : Pages
-  pages = pages_of state was
+  pages = fresh_pages state was
 
   abbrev new_header : Header
   new_header = migrated_header keys.profile old 0
@@ -61,13 +62,13 @@ module _ (keys : FileKeys) (old header : Header) (before : Pages) (state : Fresh
   for_profile : IsHeaderFor keys.profile (migrated_header keys.profile old 0)
   for_profile = record { page_size = refl; reserve = refl; counts = refl }
 
-  read_as : header_read (header_bytes (sized header (state.taken + 1))) header.page_size header.reserve ≡ Ok (sized header (state.taken + 1))
+  read_as : header_read (header_bytes (sized_page header (state.taken + 1))) header.page_size header.reserve ≡ Ok (sized_page header (state.taken + 1))
       → header_read (header_bytes (migrated_header keys.profile old pages.count)) keys.profile.page_size keys.profile.reserve ≡ Ok (migrated_header keys.profile old pages.count)
-  read_as = subst (λ (h : Header). header_read (header_bytes (sized h pages.count)) h.page_size h.reserve ≡ Ok (sized h pages.count)) head
+  read_as = subst (λ (h : Header). header_read (header_bytes (sized_page h pages.count)) h.page_size h.reserve ≡ Ok (sized_page h pages.count)) head
 
-  pub written : header_read (header_bytes (sized header (state.taken + 1))) header.page_size header.reserve ≡ Ok (sized header (state.taken + 1))
+  pub written : header_read (header_bytes (sized_page header (state.taken + 1))) header.page_size header.reserve ≡ Ok (sized_page header (state.taken + 1))
       → old ≡ header_fields (before.page 1) → is_database before ≡ true → HoldsItems pages (content before).rows → IsTightBehind pages
-      → IsWritten (IsSalted keys (IsMigratedUnder keys old before)) fresh
+      → IsNewWritten (IsSalted keys (IsMigratedUnder keys old before)) fresh
   written read fields sound copied filled =
       let usable_is : pages.usable ≡ usable keys.profile = ap (λ (k : FileKeys). usable k.profile) codec in
       let counted = migrated_header keys.profile old pages.count in

@@ -2,21 +2,20 @@
 use Rattle.std.proofs.Common.{◌≡◌, ◌≤◌, ◌+◌, ◌&&◌, ℕ, Bool, true, false, List, Option, Some, Result, Err, arith, refl, ap, sym, subst, ◌∙◌}
 use Rattle.std.specs.Prelude.{IsTrue, nat_le, nat_lt}
 use Rattle.std.specs.Borrow.{MutBor}
-use Rattle.edge_model.specs.Files.{Files, bytes_of}
+use Rattle.edge_model.specs.Files.{Files, bytes_of, main_of}
 use Rattle.db_format.specs.Pages.{Pages}
 use Rattle.btree_model.specs.Finding.{Finding}
 use Rattle.bulk_load.specs.declared.error.LoadError.{LoadError}
 use Rattle.bulk_load.specs.declared.error.LoadError.TheVariants.{RowidOrder, Out, OutOfMemory as NoRoomToLoad, TooDeep}
 use Rattle.bulk_load.specs.declared.out.OutError.TheVariants.{TooManyPages as NoNumber, DiskFault as NotWritten, EntropyFault as NotDrawn}
-use Rattle.bulk_load.specs.Out.{Faults, Follows, Keeps}
+use Rattle.bulk_load.specs.Out.{Faults, Follows, KeepsPages}
 use Rattle.fresh_file.specs.declared.state.FreshState.{FreshState}
-use Rattle.fresh_file.specs.State.{IsWellAs, pages_of}
+use Rattle.fresh_file.specs.State.{IsWellAs, fresh_pages}
 use Rattle.migrate_job.specs.declared.error.MigrateError.{MigrateError}
 use Rattle.migrate_job.specs.declared.error.MigrateError.TheVariants.{PageTag, Defect, TooManyPages, DiskFault, EntropyFault, OutOfMemory}
-use Rattle.pager.specs.File.{main_of}
 use Rattle.pager.specs.Reads.{DiskRead, Untouched}
-use Rattle.migrate_job.specs.Stops.{is_early}
-use Rattle.migrate_job.specs.Copying.{FollowsBeside, IsOfWalk, IsTargetWell, Target, beside_main, load_error, target_faults, target_limit, target_pages}
+use Rattle.migrate_job.specs.Stops.{is_early_stop}
+use Rattle.migrate_job.specs.Copying.{FollowsBeside, IsOfWalk, IsTargetWell, Target, beside_main, migrate_load_error, target_faults, target_limit, target_pages}
 
 -- what is said of two values holds of equal ones
 pub moved : {A B : Type 0} (P : A → B → Type 0) (a b : A) (x y : B) → b ≡ a → y ≡ x → P a x → P b y
@@ -29,9 +28,9 @@ moved_one P a b same holds = subst P (sym same) holds
 module _ {T : Type 0} (tells draws_tell : Bool) (fresh : T → Option (List ℕ)) (drawn : T → List ℕ) (disk_faults draw_faults : T → ℕ)
     {S : Type 0} (target : S → Target T) where
   pub keeps_along : {first : Bool} (old new : S)
-      → Keeps (λ s. target_pages fresh (target s)) (λ s. target_limit (target s)) (λ s. target_faults disk_faults draw_faults (target s))
+      → KeepsPages (λ s. target_pages fresh (target s)) (λ s. target_limit (target s)) (λ s. target_faults disk_faults draw_faults (target s))
       (λ start s. IsTargetWell tells draws_tell fresh drawn start (target s)) first old new
-      → Keeps (target_pages fresh) target_limit (target_faults disk_faults draw_faults) (IsTargetWell tells draws_tell fresh drawn) first (target old) (target new)
+      → KeepsPages (target_pages fresh) target_limit (target_faults disk_faults draw_faults) (IsTargetWell tells draws_tell fresh drawn) first (target old) (target new)
   keeps_along old new k = record {
     size = k.size;
     count = k.count;
@@ -52,8 +51,8 @@ module _ {T : Type 0} (tells draws_tell : Bool) (fresh : T → Option (List ℕ)
 
 -- a tree whose root does not go to page 1
 module _ {S : Type 0} {pages : S → Pages} {limit : S → ℕ} {faults : S → Faults} {well : ℕ → S → Type 0} {first : Bool} (old new : S) (other : first ≡ false) where
-  pub keeps_without : Keeps pages limit faults well first old new → Keeps pages limit faults well false old new
-  keeps_without k = subst (λ one. Keeps pages limit faults well one old new) other k
+  pub keeps_without : KeepsPages pages limit faults well first old new → KeepsPages pages limit faults well false old new
+  keeps_without k = subst (λ one. KeepsPages pages limit faults well one old new) other k
 
   pub follows_without : Follows pages limit faults well first old new → Follows pages limit faults well false old new
   follows_without f = subst (λ one. Follows pages limit faults well one old new) other f
@@ -85,7 +84,7 @@ module _ {tells : Bool} {D : Type 0} {reads : D → Files} {images : D → Files
       put = λ k h. h;
       others = λ k free h. refl;
       free = λ k h. let no : true ≡ false = sym h ∙ none_new (state.taken + 1) k in cc;
-      page = λ start well k h. ap (λ file. (pages_of state file).page k) (fresh_read read well.told);
+      page = λ start well k h. ap (λ file. (fresh_pages state file).page k) (fresh_read read well.told);
       limit_is = refl;
       disk = read.later;
       entropy = subst (λ n. draw_faults e.now ≤ n) (ap draw_faults (sym still.value)) (omega arith);
@@ -101,7 +100,7 @@ module _ {tells : Bool} {D : Type 0} {reads : D → Files} {images : D → Files
 -- ---- which load stopped the command
 
 -- what is found while the new file is written is none of the old pages
-pub late_of_walk : (all : List Finding) (error : MigrateError) → is_early error ≡ false → IsOfWalk all error
+pub late_of_walk : (all : List Finding) (error : MigrateError) → is_early_stop error ≡ false → IsOfWalk all error
 late_of_walk all (PageTag n) late = cc
 late_of_walk all (Defect defect) late = cc
 late_of_walk all (TooManyPages limit) late = tt
@@ -109,11 +108,11 @@ late_of_walk all DiskFault late = tt
 late_of_walk all EntropyFault late = tt
 late_of_walk all OutOfMemory late = tt
 
-module _ {A : Type 0} (error : MigrateError) (why : LoadError) (is : load_error why ≡ Some error) where
+module _ {A : Type 0} (error : MigrateError) (why : LoadError) (is : migrate_load_error why ≡ Some error) where
   pub limit_of : (limit : ℕ) → ◌≡◌ {A = Result A MigrateError} (Err error) (Err (TooManyPages limit)) → why ≡ Out (NoNumber limit)
   limit_of limit h = by_case why is h
     where
-      by_case : (e : LoadError) → load_error e ≡ Some error → ◌≡◌ {A = Result A MigrateError} (Err error) (Err (TooManyPages limit)) → e ≡ Out (NoNumber limit)
+      by_case : (e : LoadError) → migrate_load_error e ≡ Some error → ◌≡◌ {A = Result A MigrateError} (Err error) (Err (TooManyPages limit)) → e ≡ Out (NoNumber limit)
       by_case RowidOrder so h = cc
       by_case (Out (NoNumber most)) so h = cc
       by_case (Out NotWritten) so h = cc
@@ -124,7 +123,7 @@ module _ {A : Type 0} (error : MigrateError) (why : LoadError) (is : load_error 
   pub disk_of : ◌≡◌ {A = Result A MigrateError} (Err error) (Err DiskFault) → why ≡ Out NotWritten
   disk_of h = by_case why is h
     where
-      by_case : (e : LoadError) → load_error e ≡ Some error → ◌≡◌ {A = Result A MigrateError} (Err error) (Err DiskFault) → e ≡ Out NotWritten
+      by_case : (e : LoadError) → migrate_load_error e ≡ Some error → ◌≡◌ {A = Result A MigrateError} (Err error) (Err DiskFault) → e ≡ Out NotWritten
       by_case RowidOrder so h = cc
       by_case (Out (NoNumber most)) so h = cc
       by_case (Out NotWritten) so h = refl
@@ -135,7 +134,7 @@ module _ {A : Type 0} (error : MigrateError) (why : LoadError) (is : load_error 
   pub entropy_of : ◌≡◌ {A = Result A MigrateError} (Err error) (Err EntropyFault) → why ≡ Out NotDrawn
   entropy_of h = by_case why is h
     where
-      by_case : (e : LoadError) → load_error e ≡ Some error → ◌≡◌ {A = Result A MigrateError} (Err error) (Err EntropyFault) → e ≡ Out NotDrawn
+      by_case : (e : LoadError) → migrate_load_error e ≡ Some error → ◌≡◌ {A = Result A MigrateError} (Err error) (Err EntropyFault) → e ≡ Out NotDrawn
       by_case RowidOrder so h = cc
       by_case (Out (NoNumber most)) so h = cc
       by_case (Out NotWritten) so h = cc

@@ -6,12 +6,12 @@ use Rattle.btree_walk.specs.declared.error.WalkError.TheVariants.{Defect, Source
 use Rattle.db_format.specs.Pages.{Pages}
 use Rattle.migrate_job.specs.Stops.{IsReadRefusal, IsWalkStop}
 use Rattle.pager.specs.Causes.{MayRefuse}
-use Rattle.pager.specs.Pages.{is_number}
+use Rattle.pager.specs.Pages.{is_page_number}
 use Rattle.pager.specs.declared.fill.PageError.{PageError}
 use Rattle.pager.specs.declared.fill.PageError.TheVariants.{OutOfRange, TagRefused, DiskFault, EntropyFault, AllPinned}
 
 -- a page of the file was refused
-pub read_refusal : (tells : Bool) (pages : Pages) (n : ℕ) (error : PageError) → is_number pages.count n ≡ true → MayRefuse tells pages n error → IsReadRefusal error
+pub read_refusal : (tells : Bool) (pages : Pages) (n : ℕ) (error : PageError) → is_page_number pages.count n ≡ true → MayRefuse tells pages n error → IsReadRefusal error
 read_refusal tells pages n OutOfRange number refused = let no : true ≡ false = sym number ∙ refused in cc
 read_refusal tells pages n (TagRefused page) number refused = tt
 read_refusal tells pages n DiskFault number refused = tt
@@ -24,5 +24,5 @@ pub given_stop : {T : Type 0} (tells : Bool) (read : T → T → Type 0) (plain 
 given_stop tells read plain before (Defect d) same given = tt
 given_stop tells read plain before (Source error) same given =
     read_refusal tells (plain given.state) given.page error
-    (subst (λ (count : ℕ). is_number count given.page ≡ true) (sym (same before given.state given.since)) given.range) given.refused
+    (subst (λ (count : ℕ). is_page_number count given.page ≡ true) (sym (same before given.state given.since)) given.range) given.refused
 given_stop tells read plain before OutOfMemory same given = tt

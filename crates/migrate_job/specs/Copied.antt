@@ -17,7 +17,7 @@ use Rattle.bulk_load.specs.Out.{Faults}
 use Rattle.bulk_load.specs.Own.{between, only}
 use Rattle.bulk_load.specs.declared.error.LoadError.TheVariants.{RowidOrder, Out, OutOfMemory, TooDeep}
 use Rattle.bulk_load.specs.Out.{HasCause}
-use Rattle.migrate_job.specs.Copying.{load_error}
+use Rattle.migrate_job.specs.Copying.{migrate_load_error}
 use Rattle.migrate_job.specs.declared.error.MigrateError.{MigrateError}
 use Rattle.migrate_job.specs.declared.error.MigrateError.TheVariants.{TooManyPages, OutOfMemory as NoMemory}
 use Rattle.migrate_job.specs.declared.rows.RowsError.{RowsError}
@@ -74,7 +74,7 @@ HasRowsCause pages limit faults old new (Load TooDeep) = 2 ^ 28 ≤ (pages new).
 abbrev pub rows_error : ℕ → RowsError → Option MigrateError
 rows_error limit TooLong = Some (TooManyPages limit)
 rows_error limit (Load RowidOrder) = Some NoMemory
-rows_error limit (Load (Out why)) = load_error (Out why)
+rows_error limit (Load (Out why)) = migrate_load_error (Out why)
 rows_error limit (Load OutOfMemory) = Some NoMemory
 rows_error limit (Load TooDeep) = None
 

@@ -10,9 +10,9 @@ use Rattle.btree_walk.specs.declared.error.WalkError.TheVariants.{Defect as Foun
 use Rattle.bulk_load.specs.declared.error.LoadError.{LoadError}
 use Rattle.bulk_load.specs.declared.error.LoadError.TheVariants.{RowidOrder, Out, OutOfMemory as NoRoomToLoad, TooDeep}
 use Rattle.bulk_load.specs.declared.out.OutError.TheVariants.{TooManyPages as NoNumber, DiskFault as NotWritten, EntropyFault as NotDrawn}
-use Rattle.bulk_load.specs.Out.{Faults, Follows, Keeps}
+use Rattle.bulk_load.specs.Out.{Faults, Follows, KeepsPages}
 use Rattle.fresh_file.specs.declared.state.FreshState.{FreshState}
-use Rattle.fresh_file.specs.State.{IsWellAs, pages_of}
+use Rattle.fresh_file.specs.State.{IsWellAs, fresh_pages}
 use Rattle.migrate_job.specs.declared.error.MigrateError.{MigrateError}
 use Rattle.migrate_job.specs.declared.error.MigrateError.TheVariants.{PageTag, Defect, TooManyPages, DiskFault, EntropyFault, OutOfMemory}
 use Rattle.pager.specs.declared.fill.PageError.{PageError}
@@ -21,27 +21,27 @@ use Rattle.pager.specs.declared.fill.PageError.TheVariants.{OutOfRange, TagRefus
 -- ---- why a copy stops
 
 -- how a page that is not given stops it; a walk asks for pages of the file alone, and pins fewer than there are frames
-abbrev pub page_error : PageError → MigrateError
-page_error OutOfRange = OutOfMemory
-page_error (TagRefused n) = PageTag n
-page_error NotRead = DiskFault
-page_error NotSealed = OutOfMemory
-page_error AllPinned = OutOfMemory
+abbrev pub migrate_page_error : PageError → MigrateError
+migrate_page_error OutOfRange = OutOfMemory
+migrate_page_error (TagRefused n) = PageTag n
+migrate_page_error NotRead = DiskFault
+migrate_page_error NotSealed = OutOfMemory
+migrate_page_error AllPinned = OutOfMemory
 
-abbrev pub walk_error : WalkError PageError → MigrateError
-walk_error (Found defect) = Defect defect
-walk_error (Source refusal) = page_error refusal
-walk_error NoRoomToWalk = OutOfMemory
+abbrev pub migrate_walk_error : WalkError PageError → MigrateError
+migrate_walk_error (Found defect) = Defect defect
+migrate_walk_error (Source refusal) = migrate_page_error refusal
+migrate_walk_error NoRoomToWalk = OutOfMemory
 
 -- How an entry that is not loaded stops it. Its rowid is above all before it, and a tree that is too deep has more pages than a file may
 -- have: so neither of these stops it.
-abbrev pub load_error : LoadError → Option MigrateError
-load_error RowidOrder = None
-load_error (Out (NoNumber limit)) = Some (TooManyPages limit)
-load_error (Out NotWritten) = Some DiskFault
-load_error (Out NotDrawn) = Some EntropyFault
-load_error NoRoomToLoad = Some OutOfMemory
-load_error TooDeep = None
+abbrev pub migrate_load_error : LoadError → Option MigrateError
+migrate_load_error RowidOrder = None
+migrate_load_error (Out (NoNumber limit)) = Some (TooManyPages limit)
+migrate_load_error (Out NotWritten) = Some DiskFault
+migrate_load_error (Out NotDrawn) = Some EntropyFault
+migrate_load_error NoRoomToLoad = Some OutOfMemory
+migrate_load_error TooDeep = None
 
 -- where it speaks of the old pages, it is a defect or a refused page of this walk
 abbrev pub IsOfWalk : List Finding → MigrateError → Type 0
@@ -69,7 +69,7 @@ pub record Target (T : Type 0) : Type 0 where
   pub side : T
 
 abbrev pub target_pages : {T : Type 0} → (T → Option (List ℕ)) → Target T → Pages
-target_pages fresh target = pages_of target.state (fresh target.side)
+target_pages fresh target = fresh_pages target.state (fresh target.side)
 
 abbrev pub target_limit : {T : Type 0} → Target T → ℕ
 target_limit target = target.state.limit
@@ -84,7 +84,7 @@ IsTargetWell tells draws_tell fresh drawn start target = IsWellAs target.state s
 -- whatever was answered: what was put stays, and only numbers that were taken in between were put
 abbrev pub KeepsTarget : {T : Type 0} → Bool → Bool → (T → Option (List ℕ)) → (T → List ℕ) → (T → ℕ) → (T → ℕ) → Target T → Target T → Type 0
 KeepsTarget tells draws_tell fresh drawn disk_faults draw_faults old new =
-    Keeps (target_pages fresh) target_limit (target_faults disk_faults draw_faults) (IsTargetWell tells draws_tell fresh drawn) false old new
+    KeepsPages (target_pages fresh) target_limit (target_faults disk_faults draw_faults) (IsTargetWell tells draws_tell fresh drawn) false old new
 
 -- after Ok besides: each of those was put
 abbrev pub FollowsTarget : {T : Type 0} → Bool → Bool → (T → Option (List ℕ)) → (T → List ℕ) → (T → ℕ) → (T → ℕ) → Target T → Target T → Type 0

@@ -11,7 +11,7 @@ use Rattle.fresh_file.specs.Head.{BeginsWith}
 use Rattle.page_codec.specs.Page.{FileKeys, accepts, keys_of}
 use Rattle.pager.specs.File.{page_stored}
 use Rattle.pager.specs.Opening.{file_opened}
-use Rattle.pager.specs.Pages.{is_number, opened_pages}
+use Rattle.pager.specs.Pages.{is_page_number, opened_pages}
 
 -- The header of a migrated file of so many pages: seven fields are those of the old one, and it begins anew with its changes and without
 -- a freelist.
@@ -42,7 +42,7 @@ pub record IsMigratedUnder (keys : FileKeys) (old : Header) (before : Pages) (fi
   pub opens : file_opened keys file ≡ Ok (record { header = migrated_header keys.profile old count; count = count })
   pub begins : BeginsWith keys (migrated_header keys.profile old count) file
   pub size : length file ≡ count * keys.profile.page_size
-  pub accepted : (n : ℕ) → is_number count n ≡ true → accepts keys n (page_stored keys file n) ≡ true
+  pub accepted : (n : ℕ) → is_page_number count n ≡ true → accepts keys n (page_stored keys file n) ≡ true
   pub holds : HoldsContent (opened_pages keys file count) (content before)
   pub tight : IsTight (opened_pages keys file count)
 

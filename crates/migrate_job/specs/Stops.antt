@@ -17,23 +17,23 @@ use Rattle.pager.specs.declared.fill.PageError.TheVariants.{OutOfRange, TagRefus
 
 -- These pages show this error: a defect or a refused page of the earliest part that has one; or none has one, and the new file may have
 -- more pages than it may. What else stops a migration they do not show.
-abbrev pub IsShown : Profile → Pages → MigrateError → Type 0
-IsShown profile pages (PageTag n) = Contains (first_refusals (parts pages)) n
-IsShown profile pages (Defect d) = Contains (first_faults (parts pages)) d
-IsShown profile pages (TooManyPages limit) =
+abbrev pub IsMigrateShown : Profile → Pages → MigrateError → Type 0
+IsMigrateShown profile pages (PageTag n) = Contains (first_refusals (parts pages)) n
+IsMigrateShown profile pages (Defect d) = Contains (first_faults (parts pages)) d
+IsMigrateShown profile pages (TooManyPages limit) =
     (is_database pages ≡ true) × (most_pages profile < pages_at_most (usable profile) (most_pages profile) (content pages))
-IsShown profile pages DiskFault = ⊤
-IsShown profile pages EntropyFault = ⊤
-IsShown profile pages OutOfMemory = ⊤
+IsMigrateShown profile pages DiskFault = ⊤
+IsMigrateShown profile pages EntropyFault = ⊤
+IsMigrateShown profile pages OutOfMemory = ⊤
 
 -- it is found before anything is drawn or written
-abbrev pub is_early : MigrateError → Bool
-is_early (PageTag n) = true
-is_early (Defect d) = true
-is_early (TooManyPages limit) = false
-is_early DiskFault = false
-is_early EntropyFault = false
-is_early OutOfMemory = false
+abbrev pub is_early_stop : MigrateError → Bool
+is_early_stop (PageTag n) = true
+is_early_stop (Defect d) = true
+is_early_stop (TooManyPages limit) = false
+is_early_stop DiskFault = false
+is_early_stop EntropyFault = false
+is_early_stop OutOfMemory = false
 
 -- a check of the whole of these pages may stop at it
 abbrev pub IsFoundEarly : Pages → MigrateError → Type 0

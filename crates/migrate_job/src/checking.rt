@@ -7,7 +7,7 @@ ghost use Rattle.db_format.specs.Header.{header_fields};
 ghost use Rattle.db_format.specs.Source.{no_pins};
 ghost use Rattle.edge_model.specs.Causes.{Rose};
 ghost use Rattle.migrate_job.specs.Stops.{IsFoundEarly};
-ghost use Rattle.pager.specs.File.{main_of};
+ghost use Rattle.edge_model.specs.Files.{main_of};
 ghost use Rattle.pager.specs.Held.{pins_of};
 ghost use Rattle.pager.specs.Pages.{opened_pages};
 ghost use Rattle.pager.specs.Reads.{DiskRead, Untouched};

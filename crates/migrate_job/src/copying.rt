@@ -3,7 +3,7 @@ ghost use Rattle.std.specs.Prelude.{◌≡◌, ◌≤◌, ◌<◌, ◌+◌, ℕ,
 ghost use Rattle.btree_model.specs.Content.{Entry, entry_of};
 ghost use Rattle.btree_model.specs.Finding.{Row, entries};
 ghost use Rattle.btree_page.specs.Payload.{max_payload};
-ghost use Rattle.btree_walk.specs.Cursor.{IsAdvanced, IsAt, IsReady, IsSameTree, row_of, row_shown, walked, walked_family};
+ghost use Rattle.btree_walk.specs.Cursor.{IsAdvanced, IsCursorAt, IsCursorReady, IsSameTree, row_of, row_shown, walked, walked_family};
 ghost use Rattle.btree_walk.specs.Turn.{work};
 ghost use Rattle.bulk_load.specs.Depth.{IsShallow};
 ghost use Rattle.bulk_load.specs.Few.{TookFew, load_pages};
@@ -14,23 +14,22 @@ ghost use Rattle.db_format.specs.Pages.{Test};
 ghost use Rattle.db_format.specs.Seen.{marked};
 ghost use Rattle.db_format.specs.Source.{no_pins};
 ghost use Rattle.edge_model.specs.Causes.{Rose};
-ghost use Rattle.edge_model.specs.Files.{bytes_of};
-ghost use Rattle.fresh_file.specs.State.{IsWellAs, pages_of};
+ghost use Rattle.edge_model.specs.Files.{bytes_of, main_of};
+ghost use Rattle.fresh_file.specs.State.{IsWellAs, fresh_pages};
 ghost use Rattle.load_model.specs.Stands.{last_after};
 ghost use Rattle.pager.specs.Beside.{Beside};
 ghost use Rattle.pager.specs.Causes.{MayRefuse};
-ghost use Rattle.pager.specs.File.{main_of};
 ghost use Rattle.pager.specs.Held.{pins_of};
 ghost use Rattle.pager.specs.Pages.{opened_pages};
-ghost use Rattle.migrate_job.specs.Copying.{FollowsBeside, FollowsTarget, IsOfWalk, KeepsBeside, KeepsTarget, asked_by, beside_main, load_error, page_error, pushed_then, walk_error};
-ghost use Rattle.migrate_job.specs.Stops.{IsReadRefusal, IsWalkStop, is_early};
+ghost use Rattle.migrate_job.specs.Copying.{FollowsBeside, FollowsTarget, IsOfWalk, KeepsBeside, KeepsTarget, asked_by, beside_main, migrate_load_error, migrate_page_error, pushed_then, migrate_walk_error};
+ghost use Rattle.migrate_job.specs.Stops.{IsReadRefusal, IsWalkStop, is_early_stop};
 
 use crate::error::MigrateError;
 use btree_walk::{Cursor, WalkError};
 use bulk_load::{LoadError, Loader, OutError};
 use db_format::{Defect, Seen};
-use disk_side::Side;
 use edge_model::{Disk, Entropy};
+use fresh_disk::Side;
 use fresh_file::FreshState;
 use pager::{PageError, Pager};
 
@@ -43,21 +42,21 @@ pub fn copy_next<'d, D: Disk, E: Entropy>(
     loader: &mut Loader,
     fresh: &mut FreshState,
 ) -> Result<bool, MigrateError>
-    requires cursor { IsReady pager.old.count (pins_of pager.old.cache.held) seen.old cursor.old }
+    requires cursor { IsCursorReady pager.old.count (pins_of pager.old.cache.held) seen.old cursor.old }
     requires loader { IsLoader loader.old (usable fresh.old.codec.profile) }
     requires last { loader.old.last ≡ cursor.old.last }
     // exactly one entry more was given, and exactly this one was pushed; or the walk is at its end, and nothing was
     ensures advanced { IfOk result (λ more. IsTrue D.tells → (taken : Test) (given : List Row)
-        → IsAt (opened_pages pager.old.codec (main_of (D.reads pager.old.disk.now)) pager.old.count) taken given cursor.old (marked seen.old)
+        → IsCursorAt (opened_pages pager.old.codec (main_of (D.reads pager.old.disk.now)) pager.old.count) taken given cursor.old (marked seen.old)
         → IsAdvanced (MayRefuse D.tells) (opened_pages pager.old.codec (main_of (D.reads pager.old.disk.now)) pager.old.count) taken given cursor.new (marked seen.new) (Ok more)) }
     ensures pushed { (start : ℕ) → IsWellAs fresh.old start D.tells E.tells (bytes_of (D.reads pager.old.disk.now).fresh) (E.drawn pager.old.entropy.now)
-        → (own : Test) → Covers false own (pages_of fresh.old (bytes_of (D.reads pager.old.disk.now).fresh)) (pages_of fresh.new (bytes_of (D.reads pager.new.disk.now).fresh))
-        → (pushed : List Entry) → Loaded (only own (pages_of fresh.old (bytes_of (D.reads pager.old.disk.now).fresh))) loader.old pushed
-        → IfOk result (λ more. Loaded (only own (pages_of fresh.new (bytes_of (D.reads pager.new.disk.now).fresh))) loader.new (pushed_then pushed (row_of cursor.new) more)) }
+        → (own : Test) → Covers false own (fresh_pages fresh.old (bytes_of (D.reads pager.old.disk.now).fresh)) (fresh_pages fresh.new (bytes_of (D.reads pager.new.disk.now).fresh))
+        → (pushed : List Entry) → Loaded (only own (fresh_pages fresh.old (bytes_of (D.reads pager.old.disk.now).fresh))) loader.old pushed
+        → IfOk result (λ more. Loaded (only own (fresh_pages fresh.new (bytes_of (D.reads pager.new.disk.now).fresh))) loader.new (pushed_then pushed (row_of cursor.new) more)) }
     ensures end { result ≡ Ok false → (loader.new ≡ loader.old) × (fresh.new ≡ fresh.old) }
     ensures unpinned { result ≡ Ok false → pins_of pager.new.cache.held ≡ no_pins }
     // the next call may follow
-    ensures cursor { IsReady pager.new.count (pins_of pager.new.cache.held) seen.new cursor.new }
+    ensures cursor { IsCursorReady pager.new.count (pins_of pager.new.cache.held) seen.new cursor.new }
     ensures same_tree { IsSameTree cursor.old cursor.new }
     ensures less { IfOk result (λ more. IsTrue more → work seen.new cursor.new.path < work seen.old cursor.old.path) }
     ensures loader { OnOk result (IsLoader loader.new (usable fresh.old.codec.profile)) }
@@ -70,7 +69,7 @@ pub fn copy_next<'d, D: Disk, E: Entropy>(
     ensures unpushed { is_for (family_of_loader loader.old) cursor.new.rowid ≡ false → (loader.new ≡ loader.old) × (fresh.new ≡ fresh.old) }
     // why it stopped: a defect is one of the walk where the pages are told, since there no entry is of another family
     ensures of_walk { IfErr result (λ error. IsTrue D.tells → (taken : Test) (given : List Row)
-        → IsAt (opened_pages pager.old.codec (main_of (D.reads pager.old.disk.now)) pager.old.count) taken given cursor.old (marked seen.old)
+        → IsCursorAt (opened_pages pager.old.codec (main_of (D.reads pager.old.disk.now)) pager.old.count) taken given cursor.old (marked seen.old)
         → family_of_loader loader.old ≡ walked_family (opened_pages pager.old.codec (main_of (D.reads pager.old.disk.now)) pager.old.count) cursor.old
         → IsOfWalk (walked (opened_pages pager.old.codec (main_of (D.reads pager.old.disk.now)) pager.old.count) taken cursor.old) error) }
     ensures limit { (limit : ℕ) → result ≡ Err (MigrateError.TooManyPages limit) → (limit ≡ fresh.old.limit) × (fresh.old.limit ≤ fresh.new.taken + 1) }
@@ -81,7 +80,7 @@ pub fn copy_next<'d, D: Disk, E: Entropy>(
     ensures shallow { (from : ℕ) → IsShallow (usable fresh.old.codec.profile) from (fresh.old.taken + 1) loader.old
         → OnOk result (IsShallow (usable fresh.old.codec.profile) from (fresh.new.taken + 1) loader.new) }
     ensures few { IfErr result (λ error. IsTrue D.tells → (taken : Test) (given more : List Row)
-        → IsAt (opened_pages pager.old.codec (main_of (D.reads pager.old.disk.now)) pager.old.count) taken given cursor.old (marked seen.old)
+        → IsCursorAt (opened_pages pager.old.codec (main_of (D.reads pager.old.disk.now)) pager.old.count) taken given cursor.old (marked seen.old)
         → entries (walked (opened_pages pager.old.codec (main_of (D.reads pager.old.disk.now)) pager.old.count) taken cursor.old) ≡ given ++ more
         → (from : ℕ) → TookFew (family_of_loader loader.old) (usable fresh.old.codec.profile) from (map entry_of given) (fresh.old.taken + 1) loader.old
         → fresh.new.taken + 1 + asked_by error ≤ from + load_pages (family_of_loader loader.old) (usable fresh.old.codec.profile)
@@ -125,16 +124,16 @@ fn push_entry<T: Side>(
     requires above { is_late loader.old rowid ≡ false }
     requires short { length payload.now ≤ max_payload }
     ensures pushed { (start : ℕ) → IsWellAs fresh.old start T.tells T.draws_tell (T.fresh side.old) (T.drawn side.old)
-        → (own : Test) → Covers false own (pages_of fresh.old (T.fresh side.old)) (pages_of fresh.new (T.fresh side.new))
-        → (pushed : List Entry) → Loaded (only own (pages_of fresh.old (T.fresh side.old))) loader.old pushed
-        → OnOk result (Loaded (only own (pages_of fresh.new (T.fresh side.new))) loader.new (pushed ++ record { rowid = rowid; payload = payload.now } ∷ [])) }
+        → (own : Test) → Covers false own (fresh_pages fresh.old (T.fresh side.old)) (fresh_pages fresh.new (T.fresh side.new))
+        → (pushed : List Entry) → Loaded (only own (fresh_pages fresh.old (T.fresh side.old))) loader.old pushed
+        → OnOk result (Loaded (only own (fresh_pages fresh.new (T.fresh side.new))) loader.new (pushed ++ record { rowid = rowid; payload = payload.now } ∷ [])) }
     ensures loader { OnOk result (IsLoader loader.new (usable fresh.old.codec.profile)) }
     ensures family { OnOk result (family_of_loader loader.new ≡ family_of_loader loader.old) }
     ensures at_one { OnOk result (loader.new.at_one ≡ loader.old.at_one) }
     ensures last { OnOk result (loader.new.last ≡ last_after loader.old.last rowid) }
     ensures other_family { is_for (family_of_loader loader.old) rowid ≡ false → result ≡ Err (MigrateError.Defect (Defect.BadKind page)) }
     ensures unpushed { is_for (family_of_loader loader.old) rowid ≡ false → (loader.new ≡ loader.old) × (fresh.new ≡ fresh.old) }
-    ensures late { is_for (family_of_loader loader.old) rowid ≡ true → IfErr result (λ error. is_early error ≡ false) }
+    ensures late { is_for (family_of_loader loader.old) rowid ≡ true → IfErr result (λ error. is_early_stop error ≡ false) }
     ensures limit { (limit : ℕ) → result ≡ Err (MigrateError.TooManyPages limit) → (limit ≡ fresh.old.limit) × (fresh.old.limit ≤ fresh.new.taken + 1) }
     ensures took { (from : ℕ) (list : List Entry) → TookFew (family_of_loader loader.old) (usable fresh.old.codec.profile) from list (fresh.old.taken + 1) loader.old
         → OnOk result (TookFew (family_of_loader loader.old) (usable fresh.old.codec.profile) from (list ++ record { rowid = rowid; payload = payload.now } ∷ []) (fresh.new.taken + 1) loader.new) }
@@ -164,7 +163,7 @@ fn push_entry<T: Side>(
 /// How a page that is not given stops the command.
 pub(crate) fn page_error(error: PageError) -> MigrateError
     requires { IsReadRefusal error }
-    ensures { result ≡ page_error error }
+    ensures { result ≡ migrate_page_error error }
 {
     match error {
         PageError::TagRefused { page } => MigrateError::PageTag { page },
@@ -179,7 +178,7 @@ pub(crate) fn page_error(error: PageError) -> MigrateError
 /// How a walk that failed stops the command.
 pub(crate) fn walk_error(error: WalkError<PageError>) -> MigrateError
     requires { IsWalkStop error }
-    ensures { result ≡ walk_error error }
+    ensures { result ≡ migrate_walk_error error }
 {
     match error {
         WalkError::Defect(defect) => MigrateError::Defect(defect),
@@ -192,7 +191,7 @@ pub(crate) fn walk_error(error: WalkError<PageError>) -> MigrateError
 pub(crate) fn load_error(error: LoadError) -> MigrateError
     requires in_order { error ≡ LoadError.RowidOrder → ⊥ }
     requires shallow { error ≡ LoadError.TooDeep → ⊥ }
-    ensures { load_error error ≡ Some result }
+    ensures { migrate_load_error error ≡ Some result }
 {
     match error {
         LoadError::Out(OutError::TooManyPages { limit }) => MigrateError::TooManyPages { limit },

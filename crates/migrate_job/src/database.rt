@@ -7,23 +7,22 @@ ghost use Rattle.btree_model.specs.Parts.{is_database};
 ghost use Rattle.btree_page.specs.declared.kind.Family.TheVariants.{Table};
 ghost use Rattle.bulk_load.specs.Few.{load_pages};
 ghost use Rattle.bulk_load.specs.Found.{HasTree, HoldsItems, IsTightBehind};
-ghost use Rattle.bulk_load.specs.Out.{AreAllPut, Follows, Keeps};
+ghost use Rattle.bulk_load.specs.Out.{AreAllPut, Follows, KeepsPages};
 ghost use Rattle.bulk_load.specs.Own.{CoversNew, only};
 ghost use Rattle.cipher_profile.specs.Profile.{IsListed, usable};
 ghost use Rattle.db_format.specs.Pages.{Test};
 ghost use Rattle.db_format.specs.Source.{no_pins};
 ghost use Rattle.db_format.specs.Value.{Datum};
 ghost use Rattle.edge_model.specs.Causes.{Rose};
-ghost use Rattle.edge_model.specs.Files.{bytes_of};
-ghost use Rattle.fresh_file.specs.State.{IsWellAs, most_pages, pages_of};
+ghost use Rattle.edge_model.specs.Files.{bytes_of, main_of};
+ghost use Rattle.fresh_file.specs.State.{IsWellAs, most_pages, fresh_pages};
 ghost use Rattle.pager.specs.Beside.{Beside};
-ghost use Rattle.pager.specs.File.{main_of};
 ghost use Rattle.pager.specs.Held.{pins_of};
 ghost use Rattle.pager.specs.Pages.{opened_pages};
 ghost use Rattle.migrate_job.specs.Bound.{pages_at_most};
 ghost use Rattle.migrate_job.specs.Copied.{AreCopied, AreRenamed, HasLongRow, IsCopiedTree, IsRooted, IsSoundRow, new_entries, rows_error, tree_most, trees_most};
 ghost use Rattle.migrate_job.specs.Copying.{FollowsBeside, IsTargetWell, KeepsBeside, beside_main, target_faults, target_limit, target_pages};
-ghost use Rattle.migrate_job.specs.Stops.{is_early};
+ghost use Rattle.migrate_job.specs.Stops.{is_early_stop};
 ghost use Rattle.schema_map.specs.Census.{schema_after};
 ghost use Rattle.schema_map.specs.Schema.{schema_row};
 
@@ -32,8 +31,8 @@ use crate::error::MigrateError;
 use crate::rows::{RowsError, load_rows};
 use crate::tree::copy_tree;
 use bulk_load::LoadError;
-use disk_side::Side;
 use edge_model::{Disk, Entropy};
+use fresh_disk::Side;
 use fresh_file::FreshState;
 use pager::Pager;
 use schema_map::{Schema, SchemaRow};
@@ -48,21 +47,21 @@ pub(crate) fn copy_database<'d, D: Disk, E: Entropy>(
     state: &mut FreshState,
 ) -> Result<(), MigrateError>
     requires unpinned { pins_of pager.old.cache.held ≡ no_pins }
-    requires none { ((pages_of state.old (bytes_of (D.reads pager.old.disk.now).fresh)).count ≡ 1) × ((n : ℕ) → (pages_of state.old (bytes_of (D.reads pager.old.disk.now).fresh)).accepts n ≡ false) }
+    requires none { ((fresh_pages state.old (bytes_of (D.reads pager.old.disk.now).fresh)).count ≡ 1) × ((n : ℕ) → (fresh_pages state.old (bytes_of (D.reads pager.old.disk.now).fresh)).accepts n ≡ false) }
     requires roots { All (λ row. row.root ≤ pager.old.count) schema.now }
     // what the new pages hold behind a header
     ensures copied { (start : ℕ) → IsWellAs state.old start D.tells E.tells (bytes_of (D.reads pager.old.disk.now).fresh) (E.drawn pager.old.entropy.now)
         → is_database (opened_pages pager.old.codec (main_of (D.reads pager.old.disk.now)) pager.old.count) ≡ true → schema.now ≡ map schema_row (entries (schema_after (opened_pages pager.old.codec (main_of (D.reads pager.old.disk.now)) pager.old.count)))
-        → OnOk result (HoldsItems (pages_of state.new (bytes_of (D.reads pager.new.disk.now).fresh)) (content (opened_pages pager.old.codec (main_of (D.reads pager.old.disk.now)) pager.old.count)).rows) }
+        → OnOk result (HoldsItems (fresh_pages state.new (bytes_of (D.reads pager.new.disk.now).fresh)) (content (opened_pages pager.old.codec (main_of (D.reads pager.old.disk.now)) pager.old.count)).rows) }
     // and that none of them stands beside the schema and the trees
     ensures tight { (start : ℕ) → IsWellAs state.old start D.tells E.tells (bytes_of (D.reads pager.old.disk.now).fresh) (E.drawn pager.old.entropy.now)
         → is_database (opened_pages pager.old.codec (main_of (D.reads pager.old.disk.now)) pager.old.count) ≡ true → schema.now ≡ map schema_row (entries (schema_after (opened_pages pager.old.codec (main_of (D.reads pager.old.disk.now)) pager.old.count)))
-        → OnOk result (IsTightBehind (pages_of state.new (bytes_of (D.reads pager.new.disk.now).fresh))) }
+        → OnOk result (IsTightBehind (fresh_pages state.new (bytes_of (D.reads pager.new.disk.now).fresh))) }
     ensures well { (start : ℕ) → IsWellAs state.old start D.tells E.tells (bytes_of (D.reads pager.old.disk.now).fresh) (E.drawn pager.old.entropy.now)
         → OnOk result (IsWellAs state.new start D.tells E.tells (bytes_of (D.reads pager.new.disk.now).fresh) (E.drawn pager.new.entropy.now)) }
-    ensures whole { OnOk result (AreAllPut (pages_of state.new (bytes_of (D.reads pager.new.disk.now).fresh))) }
+    ensures whole { OnOk result (AreAllPut (fresh_pages state.new (bytes_of (D.reads pager.new.disk.now).fresh))) }
     // why it stopped: nothing that is found in the old pages
-    ensures late { IfErr result (λ error. IsTrue D.tells → is_database (opened_pages pager.old.codec (main_of (D.reads pager.old.disk.now)) pager.old.count) ≡ true → schema.now ≡ map schema_row (entries (schema_after (opened_pages pager.old.codec (main_of (D.reads pager.old.disk.now)) pager.old.count))) → is_early error ≡ false) }
+    ensures late { IfErr result (λ error. IsTrue D.tells → is_database (opened_pages pager.old.codec (main_of (D.reads pager.old.disk.now)) pager.old.count) ≡ true → schema.now ≡ map schema_row (entries (schema_after (opened_pages pager.old.codec (main_of (D.reads pager.old.disk.now)) pager.old.count))) → is_early_stop error ≡ false) }
     ensures limit { (limit : ℕ) → result ≡ Err (MigrateError.TooManyPages limit) → limit ≡ state.old.limit }
     ensures few { (start : ℕ) → IsWellAs state.old start D.tells E.tells (bytes_of (D.reads pager.old.disk.now).fresh) (E.drawn pager.old.entropy.now)
         → IsListed state.old.codec.profile → state.old.limit ≡ most_pages state.old.codec.profile
@@ -97,8 +96,8 @@ fn copy_trees<'d, D: Disk, E: Entropy>(
     requires high { All (λ row. row.root ≤ pager.old.count) rows.now }
     ensures each { IfOk result (λ roots. length roots.items ≡ length rows.now) }
     ensures trees { (start : ℕ) → IsWellAs state.old start D.tells E.tells (bytes_of (D.reads pager.old.disk.now).fresh) (E.drawn pager.old.entropy.now)
-        → IfOk result (λ roots. AreCopied (opened_pages pager.old.codec (main_of (D.reads pager.old.disk.now)) pager.old.count) (pages_of state.new (bytes_of (D.reads pager.new.disk.now).fresh)) (pages_of state.old (bytes_of (D.reads pager.old.disk.now).fresh)).count (pages_of state.new (bytes_of (D.reads pager.new.disk.now).fresh)).count rows.now roots.items) }
-    ensures late { IfErr result (λ error. IsTrue D.tells → All (IsSoundRow (opened_pages pager.old.codec (main_of (D.reads pager.old.disk.now)) pager.old.count)) rows.now → is_early error ≡ false) }
+        → IfOk result (λ roots. AreCopied (opened_pages pager.old.codec (main_of (D.reads pager.old.disk.now)) pager.old.count) (fresh_pages state.new (bytes_of (D.reads pager.new.disk.now).fresh)) (fresh_pages state.old (bytes_of (D.reads pager.old.disk.now).fresh)).count (fresh_pages state.new (bytes_of (D.reads pager.new.disk.now).fresh)).count rows.now roots.items) }
+    ensures late { IfErr result (λ error. IsTrue D.tells → All (IsSoundRow (opened_pages pager.old.codec (main_of (D.reads pager.old.disk.now)) pager.old.count)) rows.now → is_early_stop error ≡ false) }
     ensures limit { (limit : ℕ) → result ≡ Err (MigrateError.TooManyPages limit) → limit ≡ state.old.limit }
     ensures few { OnOk result (IsTrue D.tells → state.new.taken ≤ state.old.taken + trees_most (opened_pages pager.old.codec (main_of (D.reads pager.old.disk.now)) pager.old.count) (usable state.old.codec.profile) rows.now) }
     ensures asked { (limit : ℕ) → result ≡ Err (MigrateError.TooManyPages limit) → IsTrue D.tells
@@ -136,8 +135,8 @@ fn copy_row<'d, D: Disk, E: Entropy>(
     requires unpinned { pins_of pager.old.cache.held ≡ no_pins }
     requires high { root ≤ pager.old.count }
     ensures tree { (start : ℕ) → IsWellAs state.old start D.tells E.tells (bytes_of (D.reads pager.old.disk.now).fresh) (E.drawn pager.old.entropy.now)
-        → IfOk result (λ new. IsCopiedTree (opened_pages pager.old.codec (main_of (D.reads pager.old.disk.now)) pager.old.count) (pages_of state.new (bytes_of (D.reads pager.new.disk.now).fresh)) (pages_of state.old (bytes_of (D.reads pager.old.disk.now).fresh)).count (pages_of state.new (bytes_of (D.reads pager.new.disk.now).fresh)).count root new) }
-    ensures late { IfErr result (λ error. IsTrue D.tells → (values : List Datum) → IsRooted (opened_pages pager.old.codec (main_of (D.reads pager.old.disk.now)) pager.old.count) values root → is_early error ≡ false) }
+        → IfOk result (λ new. IsCopiedTree (opened_pages pager.old.codec (main_of (D.reads pager.old.disk.now)) pager.old.count) (fresh_pages state.new (bytes_of (D.reads pager.new.disk.now).fresh)) (fresh_pages state.old (bytes_of (D.reads pager.old.disk.now).fresh)).count (fresh_pages state.new (bytes_of (D.reads pager.new.disk.now).fresh)).count root new) }
+    ensures late { IfErr result (λ error. IsTrue D.tells → (values : List Datum) → IsRooted (opened_pages pager.old.codec (main_of (D.reads pager.old.disk.now)) pager.old.count) values root → is_early_stop error ≡ false) }
     ensures limit { (limit : ℕ) → result ≡ Err (MigrateError.TooManyPages limit) → limit ≡ state.old.limit }
     ensures few { IsTrue D.tells → state.new.taken ≤ state.old.taken + tree_most (opened_pages pager.old.codec (main_of (D.reads pager.old.disk.now)) pager.old.count) (usable state.old.codec.profile) root }
     ensures asked { (limit : ℕ) → result ≡ Err (MigrateError.TooManyPages limit) → IsTrue D.tells
@@ -166,13 +165,13 @@ fn load_schema<T: Side>(
     roots: &[u32],
     state: &mut FreshState,
 ) -> Result<(), MigrateError>
-    requires free { (pages_of state.old (T.fresh side.old)).accepts 1 ≡ false }
+    requires free { (fresh_pages state.old (T.fresh side.old)).accepts 1 ≡ false }
     requires each { length roots.now ≡ length rows.now }
     ensures tree { (start : ℕ) → IsWellAs state.old start T.tells T.draws_tell (T.fresh side.old) (T.drawn side.old)
-        → (own : Test) → CoversNew true own (pages_of state.old (T.fresh side.old)) (pages_of state.new (T.fresh side.new))
-        → OnOk result (HasTree (only own (pages_of state.new (T.fresh side.new))) Table 1 (new_entries rows.now roots.now)) }
+        → (own : Test) → CoversNew true own (fresh_pages state.old (T.fresh side.old)) (fresh_pages state.new (T.fresh side.new))
+        → OnOk result (HasTree (only own (fresh_pages state.new (T.fresh side.new))) Table 1 (new_entries rows.now roots.now)) }
     ensures renamed { OnOk result (AreRenamed rows.now roots.now) }
-    ensures late { IfErr result (λ error. is_early error ≡ false) }
+    ensures late { IfErr result (λ error. is_early_stop error ≡ false) }
     ensures limit { (limit : ℕ) → result ≡ Err (MigrateError.TooManyPages limit) → limit ≡ state.old.limit }
     ensures asked { (limit : ℕ) → result ≡ Err (MigrateError.TooManyPages limit)
         → HasLongRow rows.now roots.now ⊎ (state.old.limit ≤ state.old.taken + load_pages Table (usable state.old.codec.profile) (new_entries rows.now roots.now)) }

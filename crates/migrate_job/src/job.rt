@@ -3,29 +3,28 @@ ghost use Rattle.std.specs.Prelude.{◌≡◌, ◌⊎◌, ◌≤◌, ◌*◌, �
 ghost use Rattle.cipher_profile.specs.Profile.{IsListed};
 ghost use Rattle.db_format.specs.Header.{header_fields};
 ghost use Rattle.db_format.specs.Source.{no_pins};
-ghost use Rattle.disk_side.specs.Place.{LeavesOld, MayTakePlace, TakesPlace};
+ghost use Rattle.fresh_disk.specs.Place.{LeavesOld, MayTakePlace, TakesPlace};
 ghost use Rattle.edge_model.specs.Causes.{Rose};
-ghost use Rattle.edge_model.specs.Files.{bytes_of};
+ghost use Rattle.edge_model.specs.Files.{bytes_of, main_of};
 ghost use Rattle.edge_model.specs.Images.{Each};
 ghost use Rattle.edge_model.specs.OnlyRead.{OnlyRead};
-ghost use Rattle.fresh_file.specs.Beside.{IsBeside};
+ghost use Rattle.fresh_disk.specs.Beside.{IsNewBeside};
 ghost use Rattle.fresh_file.specs.Draws.{HasOwnDraws};
 ghost use Rattle.fresh_file.specs.State.{most_pages};
 ghost use Rattle.page_codec.specs.Page.{keys_of};
 ghost use Rattle.pager.specs.Beside.{Beside};
-ghost use Rattle.pager.specs.File.{main_of};
 ghost use Rattle.pager.specs.Held.{pins_of};
 ghost use Rattle.pager.specs.Opening.{HasNoJournal};
 ghost use Rattle.pager.specs.Pages.{opened_pages};
 ghost use Rattle.migrate_job.specs.Migrated.{IsMigrated};
-ghost use Rattle.migrate_job.specs.Stops.{IsShown, is_early};
+ghost use Rattle.migrate_job.specs.Stops.{IsMigrateShown, is_early_stop};
 
 use crate::checking::check_database;
 use crate::error::MigrateError;
 use crate::renewing::write_beside;
 use cipher_profile::{Profile, Secret};
-use disk_side::publish;
 use edge_model::{Disk, Entropy};
+use fresh_disk::publish;
 use pager::Pager;
 use std::alloc::Global;
 
@@ -64,9 +63,9 @@ pub fn migrate<'d, D: Disk, E: Entropy>(
         → LeavesOld D.reads D.images D.moment D.since pager.entry.disk.now result.0.now) }
     // why it stopped, and what that leaves
     ensures shown { IfErr result.2 (λ e. IsTrue D.tells
-        → IsShown profile (opened_pages pager.entry.codec (main_of (D.reads pager.entry.disk.now)) pager.entry.count) e) }
+        → IsMigrateShown profile (opened_pages pager.entry.codec (main_of (D.reads pager.entry.disk.now)) pager.entry.count) e) }
     ensures limit { (limit : ℕ) → result.2 ≡ Err (MigrateError.TooManyPages limit) → limit ≡ most_pages profile }
-    ensures early { IfErr result.2 (λ e. is_early e ≡ true → IsTrue D.tells
+    ensures early { IfErr result.2 (λ e. is_early_stop e ≡ true → IsTrue D.tells
         → OnlyRead D.reads D.images D.moment D.since pager.entry.disk.now result.0.now × (result.1.now ≡ pager.entry.entropy.now)) }
     ensures disk_fault { result.2 ≡ Err MigrateError.DiskFault → Rose (D.faults pager.entry.disk.now) (D.faults result.0.now) }
     ensures entropy_fault { result.2 ≡ Err MigrateError.EntropyFault → Rose (E.faults pager.entry.entropy.now) (E.faults result.1.now) }
@@ -99,16 +98,16 @@ fn write_new<'d, D: Disk, E: Entropy>(
     requires listed { IsListed profile }
     requires unpinned { pins_of pager.old.cache.held ≡ no_pins }
     requires header { IsTrue D.tells → pager.old.header ≡ header_fields ((opened_pages pager.old.codec (main_of (D.reads pager.old.disk.now)) pager.old.count).page 1) }
-    ensures written { OnOk result (IsTrue D.tells → IsBeside D.reads D.images (IsMigrated profile secret.now pager.old.header
+    ensures written { OnOk result (IsTrue D.tells → IsNewBeside D.reads D.images (IsMigrated profile secret.now pager.old.header
         (opened_pages pager.old.codec (main_of (D.reads pager.old.disk.now)) pager.old.count)) pager.new.disk.now) }
     ensures size { IfOk result (λ count. IsTrue D.tells → (file : List ℕ) → bytes_of (D.reads pager.new.disk.now).fresh ≡ Some file
         → length file ≡ count * profile.page_size) }
     ensures own_draws { OnOk result (IsTrue D.tells → IsTrue E.tells → (file : List ℕ) → bytes_of (D.reads pager.new.disk.now).fresh ≡ Some file
         → HasOwnDraws (keys_of profile secret.now file) file (drop (length (E.drawn pager.old.entropy.now)) (E.drawn pager.new.entropy.now))) }
     ensures shown { IfErr result (λ e. IsTrue D.tells
-        → IsShown profile (opened_pages pager.old.codec (main_of (D.reads pager.old.disk.now)) pager.old.count) e) }
+        → IsMigrateShown profile (opened_pages pager.old.codec (main_of (D.reads pager.old.disk.now)) pager.old.count) e) }
     ensures limit { (limit : ℕ) → result ≡ Err (MigrateError.TooManyPages limit) → limit ≡ most_pages profile }
-    ensures early { IfErr result (λ e. is_early e ≡ true → IsTrue D.tells
+    ensures early { IfErr result (λ e. is_early_stop e ≡ true → IsTrue D.tells
         → OnlyRead D.reads D.images D.moment D.since pager.old.disk.now pager.new.disk.now × (pager.new.entropy.now ≡ pager.old.entropy.now)) }
     ensures disk_fault { result ≡ Err MigrateError.DiskFault → Rose (D.faults pager.old.disk.now) (D.faults pager.new.disk.now) }
     ensures entropy_fault { result ≡ Err MigrateError.EntropyFault → Rose (E.faults pager.old.entropy.now) (E.faults pager.new.entropy.now) }

@@ -6,17 +6,17 @@ ghost use Rattle.btree_model.specs.Parts.{is_database};
 ghost use Rattle.cipher_profile.specs.Profile.{IsListed, is_plain};
 ghost use Rattle.db_format.specs.Header.{IsPageSize, header_fields};
 ghost use Rattle.db_format.specs.Source.{no_pins};
-ghost use Rattle.disk_side.specs.OnlyFresh.{IsFreshSynced};
+ghost use Rattle.fresh_disk.specs.OnlyFresh.{IsFreshSynced};
 ghost use Rattle.edge_model.specs.Causes.{Rose};
-ghost use Rattle.edge_model.specs.Files.{bytes_of};
-ghost use Rattle.fresh_file.specs.Beside.{IsBeside, IsSalted, IsWritten};
+ghost use Rattle.edge_model.specs.Files.{bytes_of, main_of};
+ghost use Rattle.fresh_disk.specs.Beside.{IsNewBeside, IsNewWritten};
+ghost use Rattle.fresh_file.specs.Salted.{IsSalted};
 ghost use Rattle.fresh_file.specs.Draws.{AreOwnDraws, HasOwnDraws};
 ghost use Rattle.fresh_file.specs.State.{most_pages};
 ghost use Rattle.migrate_job.specs.Migrated.{IsMigrated, IsMigratedUnder, migrated_header};
-ghost use Rattle.migrate_job.specs.Stops.{IsShown, is_early};
+ghost use Rattle.migrate_job.specs.Stops.{IsMigrateShown, is_early_stop};
 ghost use Rattle.page_codec.specs.Page.{keys_of, magic};
 ghost use Rattle.pager.specs.Beside.{Beside};
-ghost use Rattle.pager.specs.File.{main_of};
 ghost use Rattle.pager.specs.Held.{pins_of};
 ghost use Rattle.pager.specs.Pages.{opened_pages};
 ghost use Rattle.schema_map.specs.Census.{schema_after};
@@ -26,8 +26,8 @@ use crate::database::copy_database;
 use crate::error::MigrateError;
 use cipher_profile::{Profile, Secret, derive};
 use db_format::Header;
-use disk_side::Side;
 use edge_model::{Disk, Entropy};
+use fresh_disk::Side;
 use fresh_file::{CommitFault, FreshState, StartError};
 use page_codec::{Codec, MAGIC};
 use pager::Pager;
@@ -50,7 +50,7 @@ pub(crate) fn write_beside<'d, D: Disk, E: Entropy>(
     requires schema { IsTrue D.tells
         → schema.now ≡ map schema_row (entries (schema_after (opened_pages pager.old.codec (main_of (D.reads pager.old.disk.now)) pager.old.count))) }
     // what Ok comes to
-    ensures written { OnOk result (IsTrue D.tells → IsBeside D.reads D.images (IsMigrated profile secret.now pager.old.header
+    ensures written { OnOk result (IsTrue D.tells → IsNewBeside D.reads D.images (IsMigrated profile secret.now pager.old.header
         (opened_pages pager.old.codec (main_of (D.reads pager.old.disk.now)) pager.old.count)) pager.new.disk.now) }
     ensures size { IfOk result (λ count. IsTrue D.tells → (file : List ℕ) → bytes_of (D.reads pager.new.disk.now).fresh ≡ Some file
         → length file ≡ count * profile.page_size) }
@@ -58,7 +58,7 @@ pub(crate) fn write_beside<'d, D: Disk, E: Entropy>(
         → HasOwnDraws (keys_of profile secret.now file) file (drop (length (E.drawn pager.old.entropy.now)) (E.drawn pager.new.entropy.now))) }
     // why it stopped
     ensures shown { IfErr result (λ e. IsTrue D.tells
-        → (is_early e ≡ false) × IsShown profile (opened_pages pager.old.codec (main_of (D.reads pager.old.disk.now)) pager.old.count) e) }
+        → (is_early_stop e ≡ false) × IsMigrateShown profile (opened_pages pager.old.codec (main_of (D.reads pager.old.disk.now)) pager.old.count) e) }
     ensures limit { (limit : ℕ) → result ≡ Err (MigrateError.TooManyPages limit) → limit ≡ most_pages profile }
     ensures disk_fault { result ≡ Err MigrateError.DiskFault → Rose (D.faults pager.old.disk.now) (D.faults pager.new.disk.now) }
     ensures entropy_fault { result ≡ Err MigrateError.EntropyFault → Rose (E.faults pager.old.entropy.now) (E.faults pager.new.entropy.now) }
@@ -89,7 +89,7 @@ fn write_database<'d, D: Disk, E: Entropy>(
     requires schema { IsTrue D.tells
         → schema.now ≡ map schema_row (entries (schema_after (opened_pages pager.old.codec (main_of (D.reads pager.old.disk.now)) pager.old.count))) }
     // what Ok comes to
-    ensures written { OnOk result (IsTrue D.tells → IsWritten (IsSalted codec (IsMigratedUnder codec pager.old.header
+    ensures written { OnOk result (IsTrue D.tells → IsNewWritten (IsSalted codec (IsMigratedUnder codec pager.old.header
         (opened_pages pager.old.codec (main_of (D.reads pager.old.disk.now)) pager.old.count))) (bytes_of (D.reads pager.new.disk.now).fresh)) }
     ensures size { IfOk result (λ count. IsTrue D.tells → (file : List ℕ) → bytes_of (D.reads pager.new.disk.now).fresh ≡ Some file
         → length file ≡ count * codec.profile.page_size) }
@@ -98,7 +98,7 @@ fn write_database<'d, D: Disk, E: Entropy>(
         → AreOwnDraws codec file (length (E.drawn pager.old.entropy.now)) (E.drawn pager.new.entropy.now)) }
     // why it stopped
     ensures shown { IfErr result (λ e. IsTrue D.tells
-        → (is_early e ≡ false) × IsShown codec.profile (opened_pages pager.old.codec (main_of (D.reads pager.old.disk.now)) pager.old.count) e) }
+        → (is_early_stop e ≡ false) × IsMigrateShown codec.profile (opened_pages pager.old.codec (main_of (D.reads pager.old.disk.now)) pager.old.count) e) }
     ensures limit { (limit : ℕ) → result ≡ Err (MigrateError.TooManyPages limit) → limit ≡ most_pages codec.profile }
     ensures disk_fault { result ≡ Err MigrateError.DiskFault → Rose (D.faults pager.old.disk.now) (D.faults pager.new.disk.now) }
     ensures entropy_fault { result ≡ Err MigrateError.EntropyFault → Rose (E.faults pager.old.entropy.now) (E.faults pager.new.entropy.now) }

@@ -6,7 +6,7 @@ ghost use Rattle.btree_model.specs.Content.{Entry};
 ghost use Rattle.bulk_load.specs.Few.{TookFew, load_pages};
 ghost use Rattle.bulk_load.specs.Found.{HasTree};
 ghost use Rattle.bulk_load.specs.Loader.{IsLoader, Loaded, family_of_loader};
-ghost use Rattle.bulk_load.specs.Out.{Follows, Keeps};
+ghost use Rattle.bulk_load.specs.Out.{Follows, KeepsPages};
 ghost use Rattle.bulk_load.specs.Own.{Covers, CoversNew, only};
 ghost use Rattle.bulk_load.specs.declared.out.OutError.TheVariants.{TooManyPages};
 ghost use Rattle.load_model.specs.Stands.{IsNonePut};
@@ -48,7 +48,7 @@ pub(crate) fn load_rows<P: PageOut>(
         → (P.pages out.new).count + 1 ≤ (P.pages out.old).count + load_pages Table (P.pages out.old).usable (new_entries rows.now roots.now)) }
     ensures too_long { IfErr result (λ error. error ≡ RowsError.TooLong → HasLongRow rows.now roots.now) }
     ensures cause { IfErr result (HasRowsCause P.pages P.limit P.faults out.old out.new) }
-    ensures keeps { Keeps P.pages P.limit P.faults P.well true out.old out.new }
+    ensures keeps { KeepsPages P.pages P.limit P.faults P.well true out.old out.new }
     ensures follows { OnOk result (Follows P.pages P.limit P.faults P.well true out.old out.new) }
     ensures fresh { P.only_fresh out.old out.new }
 {
@@ -99,7 +99,7 @@ fn push_rows<P: PageOut>(
     ensures family { OnOk result (family_of_loader loader.new ≡ Table) }
     ensures at_one { OnOk result (loader.new.at_one ≡ loader.old.at_one) }
     ensures cause { IfErr result (HasRowsCause P.pages P.limit P.faults out.old out.new) }
-    ensures keeps { Keeps P.pages P.limit P.faults P.well false out.old out.new }
+    ensures keeps { KeepsPages P.pages P.limit P.faults P.well false out.old out.new }
     ensures follows { OnOk result (Follows P.pages P.limit P.faults P.well false out.old out.new) }
     ensures fresh { P.only_fresh out.old out.new }
 {
@@ -144,7 +144,7 @@ fn push_row<P: PageOut>(
     ensures renamed { OnOk result (IsRenamed payload.now old new) }
     ensures too_long { IfErr result (λ error. error ≡ RowsError.TooLong → max_payload < length (payload_with payload.now old new)) }
     ensures cause { IfErr result (HasRowsCause P.pages P.limit P.faults out.old out.new) }
-    ensures keeps { Keeps P.pages P.limit P.faults P.well false out.old out.new }
+    ensures keeps { KeepsPages P.pages P.limit P.faults P.well false out.old out.new }
     ensures follows { OnOk result (Follows P.pages P.limit P.faults P.well false out.old out.new) }
     ensures fresh { P.only_fresh out.old out.new }
 {
@@ -199,7 +199,7 @@ fn push_payload<P: PageOut>(
     ensures at_one { OnOk result (loader.new.at_one ≡ loader.old.at_one) }
     ensures not_long { IfErr result (λ error. error ≡ RowsError.TooLong → ⊥) }
     ensures cause { IfErr result (HasRowsCause P.pages P.limit P.faults out.old out.new) }
-    ensures keeps { Keeps P.pages P.limit P.faults P.well false out.old out.new }
+    ensures keeps { KeepsPages P.pages P.limit P.faults P.well false out.old out.new }
     ensures follows { OnOk result (Follows P.pages P.limit P.faults P.well false out.old out.new) }
     ensures fresh { P.only_fresh out.old out.new }
 {

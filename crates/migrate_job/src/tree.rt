@@ -4,7 +4,7 @@ ghost use Rattle.btree_model.specs.Content.{Entry, entry_of};
 ghost use Rattle.btree_model.specs.Finding.{Row, entries, is_sound};
 ghost use Rattle.btree_model.specs.Tree.{root_family, tree_walk};
 ghost use Rattle.btree_page.specs.declared.kind.Family.{Family};
-ghost use Rattle.btree_walk.specs.Cursor.{IsAt, IsReady, walked, walked_family};
+ghost use Rattle.btree_walk.specs.Cursor.{IsCursorAt, IsCursorReady, walked, walked_family};
 ghost use Rattle.bulk_load.specs.Depth.{IsShallow};
 ghost use Rattle.bulk_load.specs.Few.{TookFew, load_pages};
 ghost use Rattle.bulk_load.specs.Loader.{IsLoader, Loaded, family_of_loader};
@@ -16,14 +16,13 @@ ghost use Rattle.db_format.specs.Pages.{IsUsable, Pages, Test, nothing};
 ghost use Rattle.db_format.specs.Seen.{marked};
 ghost use Rattle.db_format.specs.Source.{no_pins};
 ghost use Rattle.edge_model.specs.Causes.{Rose};
-ghost use Rattle.edge_model.specs.Files.{bytes_of};
-ghost use Rattle.fresh_file.specs.State.{IsWellAs, pages_of};
+ghost use Rattle.edge_model.specs.Files.{bytes_of, main_of};
+ghost use Rattle.fresh_file.specs.State.{IsWellAs, fresh_pages};
 ghost use Rattle.pager.specs.Beside.{Beside};
-ghost use Rattle.pager.specs.File.{main_of};
 ghost use Rattle.pager.specs.Held.{pins_of};
 ghost use Rattle.pager.specs.Pages.{opened_pages};
 ghost use Rattle.migrate_job.specs.Copying.{FollowsBeside, FollowsTarget, IsOfWalk, KeepsBeside, KeepsTarget, asked_by, beside_main};
-ghost use Rattle.migrate_job.specs.Stops.{is_early};
+ghost use Rattle.migrate_job.specs.Stops.{is_early_stop};
 
 use crate::copying::{copy_next, load_error, page_error};
 use crate::error::MigrateError;
@@ -31,8 +30,8 @@ use btree_page::Family;
 use btree_walk::{Cursor, tree_family};
 use bulk_load::{LoadError, Loader};
 use db_format::{PageSource, Seen};
-use disk_side::Side;
 use edge_model::{Disk, Entropy};
+use fresh_disk::Side;
 use fresh_file::FreshState;
 use pager::Pager;
 use std::alloc::Global;
@@ -49,8 +48,8 @@ pub(crate) fn copy_tree<'d, D: Disk, E: Entropy>(
     requires unpinned { pins_of pager.old.cache.held ≡ no_pins }
     // the new tree stands on the pages that were taken for it, and has the entries of the old one, which has no defect
     ensures tree { (start : ℕ) → IsWellAs state.old start D.tells E.tells (bytes_of (D.reads pager.old.disk.now).fresh) (E.drawn pager.old.entropy.now)
-        → (own : Test) → CoversNew false own (pages_of state.old (bytes_of (D.reads pager.old.disk.now).fresh)) (pages_of state.new (bytes_of (D.reads pager.new.disk.now).fresh))
-        → IfOk result (λ new_root. HasTree (only own (pages_of state.new (bytes_of (D.reads pager.new.disk.now).fresh)))
+        → (own : Test) → CoversNew false own (fresh_pages state.old (bytes_of (D.reads pager.old.disk.now).fresh)) (fresh_pages state.new (bytes_of (D.reads pager.new.disk.now).fresh))
+        → IfOk result (λ new_root. HasTree (only own (fresh_pages state.new (bytes_of (D.reads pager.new.disk.now).fresh)))
         (root_family root ((opened_pages pager.old.codec (main_of (D.reads pager.old.disk.now)) pager.old.count).page root)) new_root
         (map entry_of (entries (tree_walk (opened_pages pager.old.codec (main_of (D.reads pager.old.disk.now)) pager.old.count)
         (root_family root ((opened_pages pager.old.codec (main_of (D.reads pager.old.disk.now)) pager.old.count).page root)) nothing root)))) }
@@ -60,7 +59,7 @@ pub(crate) fn copy_tree<'d, D: Disk, E: Entropy>(
     ensures cause { IfErr result (λ error. IsTrue D.tells → IsOfWalk (tree_walk (opened_pages pager.old.codec (main_of (D.reads pager.old.disk.now)) pager.old.count)
         (root_family root ((opened_pages pager.old.codec (main_of (D.reads pager.old.disk.now)) pager.old.count).page root)) nothing root) error) }
     ensures late { IfErr result (λ error. IsTrue D.tells → is_sound (tree_walk (opened_pages pager.old.codec (main_of (D.reads pager.old.disk.now)) pager.old.count)
-        (root_family root ((opened_pages pager.old.codec (main_of (D.reads pager.old.disk.now)) pager.old.count).page root)) nothing root) ≡ true → is_early error ≡ false) }
+        (root_family root ((opened_pages pager.old.codec (main_of (D.reads pager.old.disk.now)) pager.old.count).page root)) nothing root) ≡ true → is_early_stop error ≡ false) }
     // no more pages are taken than a tree of these entries may have, with the one that was asked for in vain
     ensures few { IsTrue D.tells → state.new.taken ≤ state.old.taken + load_pages (root_family root ((opened_pages pager.old.codec (main_of (D.reads pager.old.disk.now)) pager.old.count).page root)) (usable state.old.codec.profile)
         (map entry_of (entries (tree_walk (opened_pages pager.old.codec (main_of (D.reads pager.old.disk.now)) pager.old.count)
@@ -101,8 +100,8 @@ fn copy_family<'d, D: Disk, E: Entropy>(
     requires high { root ≤ pager.old.count }
     requires unpinned { pins_of pager.old.cache.held ≡ no_pins }
     ensures tree { (start : ℕ) → IsWellAs state.old start D.tells E.tells (bytes_of (D.reads pager.old.disk.now).fresh) (E.drawn pager.old.entropy.now)
-        → (own : Test) → CoversNew false own (pages_of state.old (bytes_of (D.reads pager.old.disk.now).fresh)) (pages_of state.new (bytes_of (D.reads pager.new.disk.now).fresh))
-        → IfOk result (λ new_root. HasTree (only own (pages_of state.new (bytes_of (D.reads pager.new.disk.now).fresh))) family new_root
+        → (own : Test) → CoversNew false own (fresh_pages state.old (bytes_of (D.reads pager.old.disk.now).fresh)) (fresh_pages state.new (bytes_of (D.reads pager.new.disk.now).fresh))
+        → IfOk result (λ new_root. HasTree (only own (fresh_pages state.new (bytes_of (D.reads pager.new.disk.now).fresh))) family new_root
         (map entry_of (entries (tree_walk (opened_pages pager.old.codec (main_of (D.reads pager.old.disk.now)) pager.old.count) family nothing root)))) }
     ensures sound { OnOk result (IsTrue D.tells → is_sound (tree_walk (opened_pages pager.old.codec (main_of (D.reads pager.old.disk.now)) pager.old.count) family nothing root) ≡ true) }
     ensures cause { IfErr result (λ error. IsTrue D.tells → IsOfWalk (tree_walk (opened_pages pager.old.codec (main_of (D.reads pager.old.disk.now)) pager.old.count) family nothing root) error) }
@@ -164,38 +163,38 @@ fn copy_entries<'d, D: Disk, E: Entropy>(
     loader: &mut Loader,
     state: &mut FreshState,
 ) -> Result<(), MigrateError>
-    requires cursor { IsReady pager.old.count (pins_of pager.old.cache.held) seen.old cursor.old }
+    requires cursor { IsCursorReady pager.old.count (pins_of pager.old.cache.held) seen.old cursor.old }
     requires loader { IsLoader loader.old (usable state.old.codec.profile) }
     requires last { loader.old.last ≡ cursor.old.last }
     // all entries of the walk, behind those that were given and pushed before
     ensures loaded { (start : ℕ) → IsWellAs state.old start D.tells E.tells (bytes_of (D.reads pager.old.disk.now).fresh) (E.drawn pager.old.entropy.now)
-        → (own : Test) → Covers false own (pages_of state.old (bytes_of (D.reads pager.old.disk.now).fresh)) (pages_of state.new (bytes_of (D.reads pager.new.disk.now).fresh))
+        → (own : Test) → Covers false own (fresh_pages state.old (bytes_of (D.reads pager.old.disk.now).fresh)) (fresh_pages state.new (bytes_of (D.reads pager.new.disk.now).fresh))
         → (taken : Test) (given : List Row)
-        → IsAt (opened_pages pager.old.codec (main_of (D.reads pager.old.disk.now)) pager.old.count) taken given cursor.old (marked seen.old)
-        → Loaded (only own (pages_of state.old (bytes_of (D.reads pager.old.disk.now).fresh))) loader.old (map entry_of given)
-        → OnOk result (Loaded (only own (pages_of state.new (bytes_of (D.reads pager.new.disk.now).fresh))) loader.new
+        → IsCursorAt (opened_pages pager.old.codec (main_of (D.reads pager.old.disk.now)) pager.old.count) taken given cursor.old (marked seen.old)
+        → Loaded (only own (fresh_pages state.old (bytes_of (D.reads pager.old.disk.now).fresh))) loader.old (map entry_of given)
+        → OnOk result (Loaded (only own (fresh_pages state.new (bytes_of (D.reads pager.new.disk.now).fresh))) loader.new
         (map entry_of (entries (walked (opened_pages pager.old.codec (main_of (D.reads pager.old.disk.now)) pager.old.count) taken cursor.old)))) }
     ensures sound { OnOk result (IsTrue D.tells → (taken : Test) (given : List Row)
-        → IsAt (opened_pages pager.old.codec (main_of (D.reads pager.old.disk.now)) pager.old.count) taken given cursor.old (marked seen.old)
+        → IsCursorAt (opened_pages pager.old.codec (main_of (D.reads pager.old.disk.now)) pager.old.count) taken given cursor.old (marked seen.old)
         → is_sound (walked (opened_pages pager.old.codec (main_of (D.reads pager.old.disk.now)) pager.old.count) taken cursor.old) ≡ true) }
     ensures loader { OnOk result (IsLoader loader.new (usable state.old.codec.profile)) }
     ensures family { OnOk result (family_of_loader loader.new ≡ family_of_loader loader.old) }
     ensures at_one { OnOk result (loader.new.at_one ≡ loader.old.at_one) }
     ensures unpinned { OnOk result (pins_of pager.new.cache.held ≡ no_pins) }
     ensures of_walk { IfErr result (λ error. IsTrue D.tells → (taken : Test) (given : List Row)
-        → IsAt (opened_pages pager.old.codec (main_of (D.reads pager.old.disk.now)) pager.old.count) taken given cursor.old (marked seen.old)
+        → IsCursorAt (opened_pages pager.old.codec (main_of (D.reads pager.old.disk.now)) pager.old.count) taken given cursor.old (marked seen.old)
         → family_of_loader loader.old ≡ walked_family (opened_pages pager.old.codec (main_of (D.reads pager.old.disk.now)) pager.old.count) cursor.old
         → IsOfWalk (walked (opened_pages pager.old.codec (main_of (D.reads pager.old.disk.now)) pager.old.count) taken cursor.old) error) }
     ensures shallow { (from : ℕ) → IsShallow (usable state.old.codec.profile) from (state.old.taken + 1) loader.old
         → OnOk result (IsShallow (usable state.old.codec.profile) from (state.new.taken + 1) loader.new) }
     ensures took { IsTrue D.tells → (taken : Test) (given more : List Row)
-        → IsAt (opened_pages pager.old.codec (main_of (D.reads pager.old.disk.now)) pager.old.count) taken given cursor.old (marked seen.old)
+        → IsCursorAt (opened_pages pager.old.codec (main_of (D.reads pager.old.disk.now)) pager.old.count) taken given cursor.old (marked seen.old)
         → entries (walked (opened_pages pager.old.codec (main_of (D.reads pager.old.disk.now)) pager.old.count) taken cursor.old) ≡ given ++ more
         → (from : ℕ) → TookFew (family_of_loader loader.old) (usable state.old.codec.profile) from (map entry_of given) (state.old.taken + 1) loader.old
         → OnOk result (TookFew (family_of_loader loader.old) (usable state.old.codec.profile) from
         (map entry_of (entries (walked (opened_pages pager.old.codec (main_of (D.reads pager.old.disk.now)) pager.old.count) taken cursor.old))) (state.new.taken + 1) loader.new) }
     ensures few { IsTrue D.tells → (taken : Test) (given more : List Row)
-        → IsAt (opened_pages pager.old.codec (main_of (D.reads pager.old.disk.now)) pager.old.count) taken given cursor.old (marked seen.old)
+        → IsCursorAt (opened_pages pager.old.codec (main_of (D.reads pager.old.disk.now)) pager.old.count) taken given cursor.old (marked seen.old)
         → entries (walked (opened_pages pager.old.codec (main_of (D.reads pager.old.disk.now)) pager.old.count) taken cursor.old) ≡ given ++ more
         → (from : ℕ) → TookFew (family_of_loader loader.old) (usable state.old.codec.profile) from (map entry_of given) (state.old.taken + 1) loader.old
         → IfErr result (λ error. state.new.taken + 1 + asked_by error ≤ from + load_pages (family_of_loader loader.old) (usable state.old.codec.profile)
@@ -228,10 +227,10 @@ fn finish_tree<T: Side>(
     requires at_one { loader.at_one ≡ false }
     requires shallow { IsShallow (usable state.old.codec.profile) 0 (state.old.taken + 1) loader }
     ensures tree { (start : ℕ) → IsWellAs state.old start T.tells T.draws_tell (T.fresh side.old) (T.drawn side.old)
-        → (own : Test) → Covers false own (pages_of state.old (T.fresh side.old)) (pages_of state.new (T.fresh side.new))
-        → (pushed : List Entry) → Loaded (only own (pages_of state.old (T.fresh side.old))) loader pushed
-        → IfOk result (λ root. HasTree (only own (pages_of state.new (T.fresh side.new))) (family_of_loader loader) root pushed) }
-    ensures late { IfErr result (λ error. is_early error ≡ false) }
+        → (own : Test) → Covers false own (fresh_pages state.old (T.fresh side.old)) (fresh_pages state.new (T.fresh side.new))
+        → (pushed : List Entry) → Loaded (only own (fresh_pages state.old (T.fresh side.old))) loader pushed
+        → IfOk result (λ root. HasTree (only own (fresh_pages state.new (T.fresh side.new))) (family_of_loader loader) root pushed) }
+    ensures late { IfErr result (λ error. is_early_stop error ≡ false) }
     ensures few { (from : ℕ) (list : List Entry) → TookFew (family_of_loader loader) (usable state.old.codec.profile) from list (state.old.taken + 1) loader
         → state.new.taken + 1 ≤ from + load_pages (family_of_loader loader) (usable state.old.codec.profile) list }
     ensures asked { (from : ℕ) (list : List Entry) → TookFew (family_of_loader loader) (usable state.old.codec.profile) from list (state.old.taken + 1) loader

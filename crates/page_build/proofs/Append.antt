@@ -1,11 +1,11 @@
 -- Bytes behind others, and in the place of others.
-use Rattle.std.proofs.Common.{◌≡◌, ◌≤◌, ℕ, ◌+◌, ◌-◌, ◌*◌, ◌/◌, ◌%◌, List, [], ◌∷◌, ◌++◌, length, take, drop, replicate, refl, ap, sym, ◌∙◌, arith, length-append, length-drop}
+use Rattle.std.proofs.Common.{◌≡◌, ◌≤◌, ℕ, ◌+◌, ◌-◌, ◌*◌, List, [], ◌∷◌, ◌++◌, length, take, drop, replicate, refl, ap, sym, ◌∙◌, arith, length-append, length-drop}
 use Rattle.std.specs.Prelude.{slice_index}
 use Rattle.std.proofs.lemmas.List.{append_assoc, append-nil, drop-drop, get_or-append-add, length-replicate, length-take-le, replicate-append-replicate, take-append-drop}
 use Rattle.std.proofs.Math.Seq.{drop-append_seam, drop-append-add}
 use Rattle.db_format.specs.Bytes.{u16_at, u32_at}
 use Rattle.page_build.specs.Draft.{laid}
-use Rattle.page_build.specs.Written.{content, four_bytes, offsets, padded, two_bytes}
+use Rattle.page_build.specs.Written.{joined_cells, four_bytes, offsets, padded, two_bytes}
 
 abbrev pub zeros_of : ℕ → List ℕ
 zeros_of n = replicate n 0
@@ -55,16 +55,16 @@ u32_after pre xs at i is =
     ∙ ap (λ a. u16_at xs i * 65536 + a) (u16_after pre xs (at + 2) (i + 2) (omega arith))
 
 -- one cell more: below the others, its offset behind theirs
-pub content-more : (cells : List (List ℕ)) (cell : List ℕ) → content (cells ++ cell ∷ []) ≡ cell ++ content cells
+pub content-more : (cells : List (List ℕ)) (cell : List ℕ) → joined_cells (cells ++ cell ∷ []) ≡ cell ++ joined_cells cells
 content-more [] cell = sym (append-nil cell)
-content-more (c ∷ cells) cell = ap (λ l. l ++ c) (content-more cells cell) ∙ append_assoc cell (content cells) c
+content-more (c ∷ cells) cell = ap (λ l. l ++ c) (content-more cells cell) ∙ append_assoc cell (joined_cells cells) c
 
 pub length-content-more : (cells : List (List ℕ)) (cell : List ℕ)
-    → length (content (cells ++ cell ∷ [])) ≡ length cell + length (content cells)
-length-content-more cells cell = ap length (content-more cells cell) ∙ length-append cell (content cells)
+    → length (joined_cells (cells ++ cell ∷ [])) ≡ length cell + length (joined_cells cells)
+length-content-more cells cell = ap length (content-more cells cell) ∙ length-append cell (joined_cells cells)
 
 pub offsets-more : (end : ℕ) (cells : List (List ℕ)) (cell : List ℕ)
-    → offsets end (cells ++ cell ∷ []) ≡ offsets end cells ++ two_bytes (end - length (content cells) - length cell)
+    → offsets end (cells ++ cell ∷ []) ≡ offsets end cells ++ two_bytes (end - length (joined_cells cells) - length cell)
 offsets-more end [] cell = ap (λ n. two_bytes (n - length cell) ++ []) same
   where
     same : end ≡ end - 0
@@ -73,8 +73,8 @@ offsets-more end (c ∷ cells) cell =
     ap (λ l. two_bytes (end - length c) ++ l)
     (offsets-more (end - length c) cells cell ∙ ap (λ n. offsets (end - length c) cells ++ two_bytes (n - length cell)) less)
   where
-    less : end - length c - length (content cells) ≡ end - length (content cells ++ c)
-    less = let both : length (content cells ++ c) ≡ length (content cells) + length c = length-append (content cells) c in omega arith
+    less : end - length c - length (joined_cells cells) ≡ end - length (joined_cells cells ++ c)
+    less = let both : length (joined_cells cells ++ c) ≡ length (joined_cells cells) + length c = length-append (joined_cells cells) c in omega arith
 
 pub length-offsets : (end : ℕ) (cells : List (List ℕ)) → length (offsets end cells) ≡ 2 * length cells
 length-offsets end [] = refl

@@ -1,8 +1,7 @@
 -- A page that is built: a cell is added, the header written, and its bytes are those of its cells.
-use Rattle.std.proofs.Common.{◌≡◌, ◌≤◌, max, ℕ, zero, suc, ◌+◌, ◌-◌, ◌*◌, ◌/◌, ◌%◌, List, [], ◌∷◌, ◌++◌, length, take, drop, replicate, refl, ap, sym, subst, ◌∙◌, arith, true, false, Ok, length-append, length-drop}
+use Rattle.std.proofs.Common.{◌≡◌, ◌≤◌, ℕ, ◌+◌, ◌-◌, ◌*◌, List, [], ◌∷◌, ◌++◌, length, take, drop, refl, ap, sym, subst, ◌∙◌, arith, true, false, Ok, length-append, length-drop}
 use Rattle.std.specs.Prelude.{nat_le, ◌&&◌}
-use Rattle.std.specs.List.{list_all}
-use Rattle.std.proofs.lemmas.List.{append_assoc, append-nil, length-replicate, take-append-drop, length-take-le}
+use Rattle.std.proofs.lemmas.List.{append_assoc, append-nil, length-replicate, length-take-le}
 use Rattle.std.proofs.Math.Seq.{drop-append_seam}
 use Rattle.db_format.specs.Bytes.{u16_at}
 use Rattle.db_format.specs.Pages.{IsUsable}
@@ -11,8 +10,8 @@ use Rattle.btree_page.specs.declared.kind.Kind.TheVariants.{IndexInterior, Table
 use Rattle.btree_page.specs.Cell.{Cell}
 use Rattle.btree_page.specs.Kind.{family_of, header_at}
 use Rattle.btree_page.specs.Page.{array_start, header_len, read_node, read_page}
-use Rattle.page_build.specs.Draft.{IsBuilt, blank, cells_in, draft_of, laid, with_cell}
-use Rattle.page_build.specs.Written.{AreWritten, are_long, content, four_bytes, leaf_head, offsets, padded, page_bytes, page_head, right_child, two_bytes, used}
+use Rattle.page_build.specs.Draft.{IsBuilt, cells_in, draft_of, laid, with_cell}
+use Rattle.page_build.specs.Written.{AreWritten, are_long, joined_cells, offsets, padded, page_bytes, page_head, right_child, two_bytes, used}
 use Rattle.page_build.proofs.ReadBack.{length-page_head, node_back, page_back}
 use Rattle.page_build.proofs.Append.{content-more, laid_mid, length-content-more, length-offsets, length-padded, offsets-more, take_front, two_back, u16_after, zeros-append, zeros_of}
 
@@ -32,21 +31,21 @@ cut_out front cell suf from end is ends =
     ∙ ap (drop from) (take_front (front ++ cell) suf) ∙ ap (λ n. drop n (front ++ cell)) is ∙ drop-append_seam front cell
 
 pub cells_in-page : (cells : List (List ℕ)) (page pre mid suf : List ℕ) (at end : ℕ)
-    → page ≡ pre ++ (offsets end cells ++ (mid ++ (content cells ++ suf))) → at ≡ length pre → end + length suf ≡ length page
+    → page ≡ pre ++ (offsets end cells ++ (mid ++ (joined_cells cells ++ suf))) → at ≡ length pre → end + length suf ≡ length page
     → cells_in page at end (length cells) ≡ cells
 cells_in-page [] page pre mid suf at end is placed ended = refl
 cells_in-page (cell ∷ cells) page pre mid suf at end is placed ended =
     let off : ℕ = end - length cell in
-    let front : List ℕ = pre ++ (two_bytes off ++ (offsets off cells ++ (mid ++ content cells))) in
+    let front : List ℕ = pre ++ (two_bytes off ++ (offsets off cells ++ (mid ++ joined_cells cells))) in
     let split : page ≡ front ++ (cell ++ suf) = is ∙ simp append_assoc refl in
     let long : length page ≡ length front + (length cell + length suf) =
     ap length split ∙ length-append front (cell ++ suf) ∙ ap (λ n. length front + n) (length-append cell suf) in
     let offset : u16_at page at ≡ off =
     ap (λ l. u16_at l at) is
-    ∙ u16_after pre (two_bytes off ++ (offsets off cells ++ (mid ++ ((content cells ++ cell) ++ suf)))) at 0 (omega arith)
-    ∙ two_back off (offsets off cells ++ (mid ++ ((content cells ++ cell) ++ suf)))
+    ∙ u16_after pre (two_bytes off ++ (offsets off cells ++ (mid ++ ((joined_cells cells ++ cell) ++ suf)))) at 0 (omega arith)
+    ∙ two_back off (offsets off cells ++ (mid ++ ((joined_cells cells ++ cell) ++ suf)))
     in
-    let whole : page ≡ (pre ++ two_bytes off) ++ (offsets off cells ++ (mid ++ (content cells ++ (cell ++ suf)))) =
+    let whole : page ≡ (pre ++ two_bytes off) ++ (offsets off cells ++ (mid ++ (joined_cells cells ++ (cell ++ suf)))) =
     is ∙ simp append_assoc refl in
     let next : at + 2 ≡ length (pre ++ two_bytes off) = ap (λ n. n + 2) placed ∙ sym (length-append pre (two_bytes off)) in
     let both : length (cell ++ suf) ≡ length cell + length suf = length-append cell suf in
@@ -104,7 +103,7 @@ module _ (page : List ℕ) (kind : Kind) (header : ℕ) where
     gap = length page - used header kind cells
 
     abbrev behind : List ℕ
-    behind = offsets (length page) cells ++ (zeros_of gap ++ content cells)
+    behind = offsets (length page) cells ++ (zeros_of gap ++ joined_cells cells)
 
     pub head_long : length old_head ≡ header_len kind
     head_long =
@@ -123,7 +122,7 @@ module _ (page : List ℕ) (kind : Kind) (header : ℕ) where
         ap (cells_in page (array_start kind header) (length page)) built.count_is
         ∙ cells_in-page cells page (zeros_of header ++ old_head) (zeros_of gap) [] (array_start kind header) (length page)
         (built.bytes ∙ sym (append_assoc (zeros_of header) old_head behind)
-        ∙ ap (λ l. (zeros_of header ++ old_head) ++ (offsets (length page) cells ++ (zeros_of gap ++ l))) (sym (append-nil (content cells))))
+        ∙ ap (λ l. (zeros_of header ++ old_head) ++ (offsets (length page) cells ++ (zeros_of gap ++ l))) (sym (append-nil (joined_cells cells))))
         (sym front) (omega arith)
 
     -- and so it is a draft
@@ -143,10 +142,10 @@ long_more (c ∷ cells) cell h low = and_both (nat_le 4 (length c)) (are_long ce
 -- the cell below the others, its offset behind theirs
 pub add_page : (usable header base : ℕ) (cells : List (List ℕ)) (cell zeros head : List ℕ) (from at gap less : ℕ)
     → length zeros ≡ header → length head ≡ base → gap ≡ 2 + (less + (length cell + (4 - length cell)))
-    → usable ≡ header + base + 2 * length cells + gap + length (content cells)
-    → from ≡ usable - length (content cells) - length (padded cell) → at ≡ header + base + 2 * length cells
-    → laid at (two_bytes from) (laid from cell (zeros ++ (head ++ (offsets usable cells ++ (zeros_of gap ++ content cells)))))
-    ≡ zeros ++ (head ++ (offsets usable (cells ++ padded cell ∷ []) ++ (zeros_of less ++ content (cells ++ padded cell ∷ []))))
+    → usable ≡ header + base + 2 * length cells + gap + length (joined_cells cells)
+    → from ≡ usable - length (joined_cells cells) - length (padded cell) → at ≡ header + base + 2 * length cells
+    → laid at (two_bytes from) (laid from cell (zeros ++ (head ++ (offsets usable cells ++ (zeros_of gap ++ joined_cells cells)))))
+    ≡ zeros ++ (head ++ (offsets usable (cells ++ padded cell ∷ []) ++ (zeros_of less ++ joined_cells (cells ++ padded cell ∷ []))))
 add_page usable header base cells cell zeros head from at gap less is_zeros is_head is_gap whole is_from is_at =
     let order : List ℕ = offsets usable cells in
     let pad : List ℕ = zeros_of (4 - length cell) in
@@ -156,8 +155,8 @@ add_page usable header base cells cell zeros head from at gap less is_zeros is_h
     ap (λ n. zeros_of n) is_gap ∙ zeros-append 2 (less + (length cell + (4 - length cell)))
     ∙ ap (λ l. zeros_of 2 ++ l) (zeros-append less (length cell + (4 - length cell)) ∙ ap (λ l. zeros_of less ++ l) (zeros-append (length cell) (4 - length cell)))
     in
-    let split : zeros ++ (head ++ (order ++ (zeros_of gap ++ content cells))) ≡ front ++ (hole ++ (pad ++ content cells)) =
-    ap (λ l. zeros ++ (head ++ (order ++ (l ++ content cells)))) parts ∙ simp append_assoc refl
+    let split : zeros ++ (head ++ (order ++ (zeros_of gap ++ joined_cells cells))) ≡ front ++ (hole ++ (pad ++ joined_cells cells)) =
+    ap (λ l. zeros ++ (head ++ (order ++ (l ++ joined_cells cells)))) parts ∙ simp append_assoc refl
     in
     let sizes : length front ≡ header + (base + (2 * length cells + (2 + less))) =
     length-append zeros (head ++ (order ++ (zeros_of 2 ++ zeros_of less)))
@@ -169,21 +168,21 @@ add_page usable header base cells cell zeros head from at gap less is_zeros is_h
     ∙ ap (λ n. 2 * length cells + n) (length-append (zeros_of 2) (zeros_of less) ∙ ap (λ n. 2 + n) (length-replicate less 0))))
     in
     let long : length (padded cell) ≡ length cell + (4 - length cell) = length-padded cell in
-    let first : laid from cell (front ++ (hole ++ (pad ++ content cells))) ≡ front ++ (cell ++ (pad ++ content cells)) =
-    laid_mid front hole (pad ++ content cells) cell from (omega arith) (length-replicate (length cell) 0)
+    let first : laid from cell (front ++ (hole ++ (pad ++ joined_cells cells))) ≡ front ++ (cell ++ (pad ++ joined_cells cells)) =
+    laid_mid front hole (pad ++ joined_cells cells) cell from (omega arith) (length-replicate (length cell) 0)
     in
     let before : List ℕ = zeros ++ (head ++ order) in
     let long_before : length before ≡ header + (base + 2 * length cells) =
     length-append zeros (head ++ order) ∙ ap (λ n. n + length (head ++ order)) is_zeros
     ∙ ap (λ n. header + n) (length-append head order ∙ ap (λ n. n + length order) is_head ∙ ap (λ n. base + n) (length-offsets usable cells))
     in
-    let again : front ++ (cell ++ (pad ++ content cells)) ≡ before ++ (zeros_of 2 ++ (zeros_of less ++ (cell ++ (pad ++ content cells)))) = simp append_assoc refl in
-    let second : laid at (two_bytes from) (before ++ (zeros_of 2 ++ (zeros_of less ++ (cell ++ (pad ++ content cells)))))
-    ≡ before ++ (two_bytes from ++ (zeros_of less ++ (cell ++ (pad ++ content cells)))) =
-    laid_mid before (zeros_of 2) (zeros_of less ++ (cell ++ (pad ++ content cells))) (two_bytes from) at (omega arith) refl
+    let again : front ++ (cell ++ (pad ++ joined_cells cells)) ≡ before ++ (zeros_of 2 ++ (zeros_of less ++ (cell ++ (pad ++ joined_cells cells)))) = simp append_assoc refl in
+    let second : laid at (two_bytes from) (before ++ (zeros_of 2 ++ (zeros_of less ++ (cell ++ (pad ++ joined_cells cells)))))
+    ≡ before ++ (two_bytes from ++ (zeros_of less ++ (cell ++ (pad ++ joined_cells cells)))) =
+    laid_mid before (zeros_of 2) (zeros_of less ++ (cell ++ (pad ++ joined_cells cells))) (two_bytes from) at (omega arith) refl
     in
     ap (λ l. laid at (two_bytes from) (laid from cell l)) split ∙ ap (laid at (two_bytes from)) (first ∙ again) ∙ second
-    ∙ ap (λ n. before ++ (two_bytes n ++ (zeros_of less ++ (cell ++ (pad ++ content cells))))) is_from
+    ∙ ap (λ n. before ++ (two_bytes n ++ (zeros_of less ++ (cell ++ (pad ++ joined_cells cells))))) is_from
     ∙ rw (offsets-more usable cells (padded cell), content-more cells (padded cell)) (simp append_assoc refl)
 
 length-laid : (at : ℕ) (piece page : List ℕ) → at + length piece ≤ length page → length (laid at piece page) ≡ length page
@@ -206,8 +205,8 @@ module _ (page new : List ℕ) (kind : Kind) (header count start : ℕ) (cells :
   count_more : length added ≡ length cells + 1
   count_more = length-append cells (padded cell ∷ [])
 
-  content_more : length (content added) ≡ taken + length (content cells)
-  content_more = length-content-more cells (padded cell) ∙ ap (λ n. n + length (content cells)) (length-padded cell ∙ sym is_taken)
+  content_more : length (joined_cells added) ≡ taken + length (joined_cells cells)
+  content_more = length-content-more cells (padded cell) ∙ ap (λ n. n + length (joined_cells cells)) (length-padded cell ∙ sym is_taken)
 
   pub same_size : length new ≡ length page
   same_size =
@@ -230,7 +229,7 @@ module _ (page new : List ℕ) (kind : Kind) (header count start : ℕ) (cells :
       let less : ℕ = length page - used header kind added in
       let head : List ℕ = take (header_len kind) (drop header page) in
       let head_is : length head ≡ header_len kind = head_long page kind header count start cells built in
-      let whole : new ≡ zeros_of header ++ (head ++ (offsets (length page) added ++ (zeros_of less ++ content added))) =
+      let whole : new ≡ zeros_of header ++ (head ++ (offsets (length page) added ++ (zeros_of less ++ joined_cells added))) =
       is_new ∙ ap (λ l. laid at (two_bytes from) (laid from cell l)) built.bytes
       ∙ add_page (length page) header (header_len kind) cells cell (zeros_of header) head from at (length page - used header kind cells) less
       (length-replicate header 0) head_is (omega arith) (omega arith) (omega arith) (omega arith)
@@ -239,9 +238,9 @@ module _ (page new : List ℕ) (kind : Kind) (header count start : ℕ) (cells :
         usable = subst IsUsable (sym size) built.usable;
         first = built.first;
         bytes =
-            subst (λ u. new ≡ zeros_of header ++ (take (header_len kind) (drop header new) ++ (offsets u added ++ (zeros_of (u - used header kind added) ++ content added))))
+            subst (λ u. new ≡ zeros_of header ++ (take (header_len kind) (drop header new) ++ (offsets u added ++ (zeros_of (u - used header kind added) ++ joined_cells added))))
             (sym size)
-            (with_head new kind header head (offsets (length page) added ++ (zeros_of less ++ content added)) whole head_is);
+            (with_head new kind header head (offsets (length page) added ++ (zeros_of less ++ joined_cells added)) whole head_is);
         count_is = omega arith;
         start_is = omega arith;
         fits = omega arith;
@@ -263,7 +262,7 @@ module _ (page new : List ℕ) (kind : Kind) (header count start right : ℕ) (c
   head_bytes = page_head kind count start right
 
   abbrev rest_bytes : List ℕ
-  rest_bytes = offsets (length page) cells ++ (zeros_of (length page - used header kind cells) ++ content cells)
+  rest_bytes = offsets (length page) cells ++ (zeros_of (length page - used header kind cells) ++ joined_cells cells)
 
   head_size : length head_bytes ≡ header_len kind
   head_size = length-page_head kind count start right
@@ -291,7 +290,7 @@ module _ (page new : List ℕ) (kind : Kind) (header count start right : ℕ) (c
         usable = subst IsUsable (sym size) built.usable;
         first = built.first;
         bytes =
-            subst (λ u. new ≡ zeros_of header ++ (take (header_len kind) (drop header new) ++ (offsets u cells ++ (zeros_of (u - used header kind cells) ++ content cells))))
+            subst (λ u. new ≡ zeros_of header ++ (take (header_len kind) (drop header new) ++ (offsets u cells ++ (zeros_of (u - used header kind cells) ++ joined_cells cells))))
             (sym size) (with_head new kind header head_bytes rest_bytes headed head_size);
         count_is = built.count_is;
         start_is = omega arith;
@@ -303,12 +302,12 @@ module _ (page new : List ℕ) (kind : Kind) (header count start right : ℕ) (c
   pub headed_page : new ≡ page_bytes (length page) (zeros_of header) kind right cells
   headed_page =
       let ends = built.start_is in
-      let begin : start ≡ length page - length (content cells) = omega arith in
+      let begin : start ≡ length page - length (joined_cells cells) = omega arith in
       headed
       ∙ ap (λ n. zeros_of header ++ (page_head kind n start right ++ rest_bytes)) built.count_is
       ∙ ap (λ n. zeros_of header ++ (page_head kind (length cells) n right ++ rest_bytes)) begin
-      ∙ ap (λ n. zeros_of header ++ (page_head kind (length cells) (length page - length (content cells)) right
-      ++ (offsets (length page) cells ++ (zeros_of (length page - used n kind cells) ++ content cells)))) (sym (length-replicate header 0))
+      ∙ ap (λ n. zeros_of header ++ (page_head kind (length cells) (length page - length (joined_cells cells)) right
+      ++ (offsets (length page) cells ++ (zeros_of (length page - used n kind cells) ++ joined_cells cells)))) (sym (length-replicate header 0))
 
   -- the draft is the same
   pub headed_draft : draft_of new kind header count ≡ draft_of page kind header count
@@ -354,31 +353,31 @@ module _ (page new : List ℕ) (kind : Kind) (count start end : ℕ) (cells : Li
       let counted = built.count_is in
       omega arith
 
-  parted : page ≡ front ++ (zeros_of 100 ++ (zeros_of less ++ content cells))
+  parted : page ≡ front ++ (zeros_of 100 ++ (zeros_of less ++ joined_cells cells))
   parted =
       let all : length page - used 0 kind cells ≡ 100 + less = omega arith in
       built.bytes
-      ∙ ap (λ l. own_head ++ (offsets (length page) cells ++ (l ++ content cells))) (ap zeros_of all ∙ zeros-append 100 less)
+      ∙ ap (λ l. own_head ++ (offsets (length page) cells ++ (l ++ joined_cells cells))) (ap zeros_of all ∙ zeros-append 100 less)
       ∙ simp append_assoc refl
 
   taken_front : take end page ≡ front
-  taken_front = ap (take end) parted ∙ ap (λ n. take n (front ++ (zeros_of 100 ++ (zeros_of less ++ content cells)))) (sym front_long)
-      ∙ take_front front (zeros_of 100 ++ (zeros_of less ++ content cells))
+  taken_front = ap (take end) parted ∙ ap (λ n. take n (front ++ (zeros_of 100 ++ (zeros_of less ++ joined_cells cells)))) (sym front_long)
+      ∙ take_front front (zeros_of 100 ++ (zeros_of less ++ joined_cells cells))
 
-  left_behind : drop (100 + end) page ≡ zeros_of less ++ content cells
+  left_behind : drop (100 + end) page ≡ zeros_of less ++ joined_cells cells
   left_behind =
       let place : 100 + end ≡ length (front ++ zeros_of 100) =
       let both : length (front ++ zeros_of 100) ≡ length front + length (zeros_of 100) = length-append front (zeros_of 100) in
       let many : length (zeros_of 100) ≡ 100 = length-replicate {A = ℕ} 100 0 in
       let long = front_long in omega arith in
-      ap (drop (100 + end)) (parted ∙ sym (append_assoc front (zeros_of 100) (zeros_of less ++ content cells)))
-      ∙ ap (λ n. drop n ((front ++ zeros_of 100) ++ (zeros_of less ++ content cells))) place
-      ∙ drop-append_seam (front ++ zeros_of 100) (zeros_of less ++ content cells)
+      ap (drop (100 + end)) (parted ∙ sym (append_assoc front (zeros_of 100) (zeros_of less ++ joined_cells cells)))
+      ∙ ap (λ n. drop n ((front ++ zeros_of 100) ++ (zeros_of less ++ joined_cells cells))) place
+      ∙ drop-append_seam (front ++ zeros_of 100) (zeros_of less ++ joined_cells cells)
 
-  moved : new ≡ zeros_of 100 ++ (own_head ++ (offsets (length page) cells ++ (zeros_of less ++ content cells)))
+  moved : new ≡ zeros_of 100 ++ (own_head ++ (offsets (length page) cells ++ (zeros_of less ++ joined_cells cells)))
   moved =
       is_new ∙ ap (λ l. zeros_of 100 ++ (l ++ drop (100 + end) page)) taken_front ∙ ap (λ l. zeros_of 100 ++ (front ++ l)) left_behind
-      ∙ ap (λ l. zeros_of 100 ++ l) (append_assoc own_head (offsets (length page) cells) (zeros_of less ++ content cells))
+      ∙ ap (λ l. zeros_of 100 ++ l) (append_assoc own_head (offsets (length page) cells) (zeros_of less ++ joined_cells cells))
 
   first_size : length new ≡ length page
   first_size =
@@ -401,10 +400,10 @@ module _ (page new : List ℕ) (kind : Kind) (count start end : ℕ) (cells : Li
         usable = subst IsUsable (sym size) built.usable;
         first = omega arith;
         bytes =
-            subst (λ u. new ≡ zeros_of 100 ++ (take (header_len kind) (drop 100 new) ++ (offsets u cells ++ (zeros_of (u - used 100 kind cells) ++ content cells))))
+            subst (λ u. new ≡ zeros_of 100 ++ (take (header_len kind) (drop 100 new) ++ (offsets u cells ++ (zeros_of (u - used 100 kind cells) ++ joined_cells cells))))
             (sym size)
-            (with_head new kind 100 own_head (offsets (length page) cells ++ (zeros_of (length page - used 100 kind cells) ++ content cells))
-            (moved ∙ ap (λ n. zeros_of 100 ++ (own_head ++ (offsets (length page) cells ++ (zeros_of n ++ content cells)))) gone)
+            (with_head new kind 100 own_head (offsets (length page) cells ++ (zeros_of (length page - used 100 kind cells) ++ joined_cells cells))
+            (moved ∙ ap (λ n. zeros_of 100 ++ (own_head ++ (offsets (length page) cells ++ (zeros_of n ++ joined_cells cells)))) gone)
             (head_long page kind 0 count start cells built));
         count_is = built.count_is;
         start_is = omega arith;

@@ -1,5 +1,5 @@
 -- A cell that was written is read back.
-use Rattle.std.proofs.Common.{◌≡◌, ◌≤◌, ◌<◌, ◌^◌, ◌==◌, ◌∙◌, ℕ, ℤ, ◌+◌, ◌/◌, ◌%◌, Bool, true, false, List, [], ◌∷◌, ◌++◌, length, take, drop, Option, Some, None, if◌then◌else◌, arith, refl, sym, ap, length-append}
+use Rattle.std.proofs.Common.{◌≡◌, ◌≤◌, ◌<◌, ◌^◌, ◌==◌, ◌∙◌, ℕ, ℤ, ◌+◌, Bool, true, false, List, [], ◌++◌, length, take, drop, Option, Some, None, if◌then◌else◌, arith, refl, sym, ap, length-append}
 use Rattle.std.specs.Prelude.{nat_le, FitsSigned}
 use Rattle.std.specs.Option.{option_and_then, option_map}
 use Rattle.std.specs.Int.{w64, cast_signed, cast_unsigned}
@@ -9,15 +9,14 @@ use Rattle.std.proofs.lemmas.List.{append_assoc, append-nil}
 use Rattle.std.proofs.Math.Seq.{drop-append_seam}
 use mir.ValLaws.{of_z_fits}
 use Rattle.db_format.specs.Bytes.{u32_at}
-use Rattle.db_format.specs.Pages.{IsUsable}
-use Rattle.db_format.specs.Varint.{varint, varint_bytes, varint_size}
+use Rattle.db_format.specs.Varint.{varint_bytes, varint_size}
 use Rattle.db_format.proofs.VarintLemmas.{length-varint_bytes, varint-varint_bytes}
 use Rattle.btree_page.specs.declared.kind.Family.{Family}
 use Rattle.btree_page.specs.declared.kind.Family.TheVariants.{Table, Index}
-use Rattle.btree_page.specs.Cell.{Cell, Stored, cell_of, childed, keyed, sized, stored_of, table_leaf, table_interior, index_leaf, index_interior}
-use Rattle.btree_page.specs.Payload.{local_len, max_payload}
+use Rattle.btree_page.specs.Cell.{Cell, StoredCell, cell_of, childed, keyed, sized, stored_of, table_leaf, table_interior, index_leaf, index_interior}
+use Rattle.btree_page.specs.Payload.{max_payload}
 use Rattle.page_build.specs.CellBytes.{IsFor, IsRanged, IsStoredOn, cell_bytes, kind_of_cell, stored_bytes}
-use Rattle.page_build.specs.Written.{IsWritten, four_bytes}
+use Rattle.page_build.specs.Written.{IsCellWritten, four_bytes}
 use Rattle.page_build.proofs.Append.{four_back, take_front, u32_after}
 
 if_then : {A : Type 0} (b : Bool) (x y : A) → b ≡ true → (if b then x else y) ≡ x
@@ -57,11 +56,11 @@ childed_back n rest =
     if_then (nat_le 4 (length bytes)) (Some (u32_at bytes 0, drop 4 bytes)) None (le_true 4 (length bytes) (omega arith))
     ∙ ap (λ k. Some (k, rest)) (four_back n rest)
 
-module _ (family : Family) (usable : ℕ) (stored : Stored) (is : IsStoredOn family usable stored) (rest : List ℕ) where
+module _ (family : Family) (usable : ℕ) (stored : StoredCell) (is : IsStoredOn family usable stored) (rest : List ℕ) where
   abbrev many : ℕ
   many = length stored.local
 
-  abbrev got : ℕ → List ℕ → Option Stored
+  abbrev got : ℕ → List ℕ → Option StoredCell
   got local bytes =
       if nat_le stored.size local
       then (if nat_le local (length bytes) then Some (record { size = stored.size; local = take local bytes; first = 0 }) else None)
@@ -137,5 +136,5 @@ cell_back usable (index_interior left stored) is ranged rest =
     ∙ ap (λ o. option_and_then (λ size. option_map (λ s. index_interior left s) (stored_of Index usable size.0 size.1)) o) (sized_back stored.size tail is.size)
     ∙ ap (option_map (λ s. index_interior left s)) (stored_back Index usable stored is rest)
 
-pub IsWritten-cell_bytes : (usable : ℕ) (cell : Cell) → IsFor usable cell → IsRanged cell → IsWritten (kind_of_cell cell) usable (cell_bytes cell) cell
+pub IsWritten-cell_bytes : (usable : ℕ) (cell : Cell) → IsFor usable cell → IsRanged cell → IsCellWritten (kind_of_cell cell) usable (cell_bytes cell) cell
 IsWritten-cell_bytes usable cell is ranged = record { reads = cell_back usable cell is ranged }

@@ -1,17 +1,17 @@
 -- A page that was written reads as its cells.
-use Rattle.std.proofs.Common.{◌≡◌, ◌≤◌, ◌<◌, ℕ, zero, suc, ◌+◌, ◌-◌, ◌*◌, ◌/◌, Bool, true, false, List, [], ◌∷◌, ◌++◌, length, map, drop, replicate, Option, Some, None, Ok, Err, if◌then◌else◌, refl, ap, sym, subst, ◌∙◌, arith, length-append}
-use Rattle.std.specs.Prelude.{is_none, nat_le, nat_lt, slice_index, ◌&&◌}
-use Rattle.std.specs.List.{filter_map, position_or_len, range_with_len, list_all}
+use Rattle.std.proofs.Common.{◌≡◌, ◌≤◌, ◌<◌, ℕ, suc, ◌+◌, ◌-◌, ◌*◌, ◌/◌, Bool, true, false, List, [], ◌∷◌, ◌++◌, length, map, drop, replicate, Some, None, Ok, Err, if◌then◌else◌, refl, ap, sym, subst, ◌∙◌, arith, length-append}
+use Rattle.std.specs.Prelude.{is_none, nat_le, nat_lt, ◌&&◌}
+use Rattle.std.specs.List.{filter_map, position_or_len, range_with_len}
 use Rattle.std.proofs.lemmas.List.{append_assoc, append-nil, length-replicate}
 use Rattle.std.proofs.Math.Seq.{drop-append_seam}
-use Rattle.db_format.specs.Bytes.{u8_at, u16_at, u32_at}
+use Rattle.db_format.specs.Bytes.{u8_at, u16_at}
 use Rattle.btree_page.specs.declared.kind.Kind.{Kind}
 use Rattle.btree_page.specs.declared.kind.Kind.TheVariants.{IndexInterior, TableInterior, IndexLeaf, TableLeaf}
 use Rattle.btree_page.specs.declared.page.PageFault.TheVariants.{BadKind, BadCell}
 use Rattle.btree_page.specs.Cell.{Cell, cell_of}
-use Rattle.btree_page.specs.Kind.{family_of, header_at, is_interior, kind_at, kind_of, same_family}
-use Rattle.btree_page.specs.Page.{Node, array_end, array_start, cell_at, cell_count, cells_at, first_lost, header_len, is_of, node_at, read_any, read_kind, read_node, read_page, right_at}
-use Rattle.page_build.specs.Written.{AreWritten, IsWritten, are_long, content, four_bytes, kind_byte, leaf_head, offsets, page_bytes, page_head, right_child, two_bytes, used}
+use Rattle.btree_page.specs.Kind.{family_of, header_at, kind_at, kind_of}
+use Rattle.btree_page.specs.Page.{Node, array_end, array_start, cell_at, cell_count, cells_at, first_lost, header_len, is_of, node_at, read_any, read_node, read_page, right_at}
+use Rattle.page_build.specs.Written.{AreWritten, IsCellWritten, are_long, joined_cells, kind_byte, offsets, page_bytes, page_head, right_child, two_bytes, used}
 use Rattle.page_build.proofs.Append.{four_back, index_after, length-offsets, two_back, u16_after, u32_after}
 
 if_then : {A : Type 0} (b : Bool) (x y : A) → b ≡ true → (if b then x else y) ≡ x
@@ -40,7 +40,7 @@ long_rest c cells h = second (nat_le 4 (length c)) (are_long cells) h
 
 -- the cells of a page whose array of offsets begins behind its header
 module _ (kind : Kind) (usable header : ℕ) (bytes : List ℕ) (size : length bytes ≡ usable) where
-  one_back : (off i : ℕ) (front raw suf : List ℕ) (cell : Cell) → IsWritten kind usable raw cell → bytes ≡ front ++ (raw ++ suf)
+  one_back : (off i : ℕ) (front raw suf : List ℕ) (cell : Cell) → IsCellWritten kind usable raw cell → bytes ≡ front ++ (raw ++ suf)
       → length front ≡ off → u16_at bytes (array_start kind header + 2 * i) ≡ off → array_end kind bytes header ≤ off → off < usable
       → cell_at kind bytes header i ≡ Some cell
   one_back off i front raw suf cell written is long reads low high =
@@ -52,7 +52,7 @@ module _ (kind : Kind) (usable header : ℕ) (bytes : List ℕ) (size : length b
       ∙ written.reads suf
 
   pub cells_back : (raws : List (List ℕ)) (cells : List Cell) (pre mid suf : List ℕ) (i end : ℕ)
-      → AreWritten kind usable raws cells → are_long raws ≡ true → bytes ≡ pre ++ (offsets end raws ++ (mid ++ (content raws ++ suf)))
+      → AreWritten kind usable raws cells → are_long raws ≡ true → bytes ≡ pre ++ (offsets end raws ++ (mid ++ (joined_cells raws ++ suf)))
       → array_start kind header + 2 * i ≡ length pre → end + length suf ≡ usable
       → array_end kind bytes header ≤ length (pre ++ (offsets end raws ++ mid))
       → map (cell_at kind bytes header) (range_with_len i (length raws)) ≡ map Some cells
@@ -62,22 +62,22 @@ module _ (kind : Kind) (usable header : ℕ) (bytes : List ℕ) (size : length b
   cells_back (raw ∷ raws) (cell ∷ cells) pre mid suf i end written long is at ended low =
       let off : ℕ = end - length raw in
       let four : 4 ≤ length raw = long_first raw raws long in
-      let front : List ℕ = pre ++ (two_bytes off ++ (offsets off raws ++ (mid ++ content raws))) in
+      let front : List ℕ = pre ++ (two_bytes off ++ (offsets off raws ++ (mid ++ joined_cells raws))) in
       let split : bytes ≡ front ++ (raw ++ suf) = is ∙ simp append_assoc refl in
       let sizes : length bytes ≡ length front + (length raw + length suf) =
       ap length split ∙ length-append front (raw ++ suf) ∙ ap (λ n. length front + n) (length-append raw suf) in
       let front_is : length front ≡ off = omega arith in
       let reads : u16_at bytes (array_start kind header + 2 * i) ≡ off =
       ap (λ l. u16_at l (array_start kind header + 2 * i)) is
-      ∙ u16_after pre (two_bytes off ++ (offsets off raws ++ (mid ++ ((content raws ++ raw) ++ suf)))) (array_start kind header + 2 * i) 0 (omega arith)
-      ∙ two_back off (offsets off raws ++ (mid ++ ((content raws ++ raw) ++ suf)))
+      ∙ u16_after pre (two_bytes off ++ (offsets off raws ++ (mid ++ ((joined_cells raws ++ raw) ++ suf)))) (array_start kind header + 2 * i) 0 (omega arith)
+      ∙ two_back off (offsets off raws ++ (mid ++ ((joined_cells raws ++ raw) ++ suf)))
       in
-      let low_front : length front ≡ length (pre ++ (offsets end (raw ∷ raws) ++ mid)) + length (content raws) =
-      ap length (sym (append_assoc pre (offsets end (raw ∷ raws) ++ mid) (content raws)
-      ∙ ap (λ l. pre ++ l) (append_assoc (offsets end (raw ∷ raws)) mid (content raws))))
-      ∙ length-append (pre ++ (offsets end (raw ∷ raws) ++ mid)) (content raws)
+      let low_front : length front ≡ length (pre ++ (offsets end (raw ∷ raws) ++ mid)) + length (joined_cells raws) =
+      ap length (sym (append_assoc pre (offsets end (raw ∷ raws) ++ mid) (joined_cells raws)
+      ∙ ap (λ l. pre ++ l) (append_assoc (offsets end (raw ∷ raws)) mid (joined_cells raws))))
+      ∙ length-append (pre ++ (offsets end (raw ∷ raws) ++ mid)) (joined_cells raws)
       in
-      let whole : bytes ≡ (pre ++ two_bytes off) ++ (offsets off raws ++ (mid ++ (content raws ++ (raw ++ suf)))) = is ∙ simp append_assoc refl in
+      let whole : bytes ≡ (pre ++ two_bytes off) ++ (offsets off raws ++ (mid ++ (joined_cells raws ++ (raw ++ suf)))) = is ∙ simp append_assoc refl in
       let next : array_start kind header + 2 * (i + 1) ≡ length (pre ++ two_bytes off) =
       plus_two (array_start kind header) i (length pre) at ∙ sym (length-append pre (two_bytes off)) in
       let both : length (raw ++ suf) ≡ length raw + length suf = length-append raw suf in
@@ -136,30 +136,30 @@ right_back IndexInterior count start right header pre rest is =
 -- the page with these bytes in front
 module _ (usable : ℕ) (front : List ℕ) (kind : Kind) (right : ℕ) (raws : List (List ℕ)) where
   abbrev head : List ℕ
-  head = page_head kind (length raws) (usable - length (content raws)) right
+  head = page_head kind (length raws) (usable - length (joined_cells raws)) right
 
   abbrev gap : List ℕ
   gap = replicate (usable - used (length front) kind raws) 0
 
   abbrev behind : List ℕ
-  behind = offsets usable raws ++ (gap ++ content raws)
+  behind = offsets usable raws ++ (gap ++ joined_cells raws)
 
   abbrev bytes : List ℕ
   bytes = page_bytes usable front kind right raws
 
   pub length-page_bytes : used (length front) kind raws ≤ usable → length bytes ≡ usable
   length-page_bytes fits =
-      let two : length head ≡ header_len kind = length-page_head kind (length raws) (usable - length (content raws)) right in
+      let two : length head ≡ header_len kind = length-page_head kind (length raws) (usable - length (joined_cells raws)) right in
       let three : length (offsets usable raws) ≡ 2 * length raws = length-offsets usable raws in
       let four : length gap ≡ usable - used (length front) kind raws = length-replicate (usable - used (length front) kind raws) 0 in
-      let a : length (gap ++ content raws) ≡ length gap + length (content raws) = length-append gap (content raws) in
-      let b : length behind ≡ length (offsets usable raws) + length (gap ++ content raws) = length-append (offsets usable raws) (gap ++ content raws) in
+      let a : length (gap ++ joined_cells raws) ≡ length gap + length (joined_cells raws) = length-append gap (joined_cells raws) in
+      let b : length behind ≡ length (offsets usable raws) + length (gap ++ joined_cells raws) = length-append (offsets usable raws) (gap ++ joined_cells raws) in
       let c : length (head ++ behind) ≡ length head + length behind = length-append head behind in
       let d : length bytes ≡ length front + length (head ++ behind) = length-append front (head ++ behind) in
-      sum_is (length front) (length head) (length (offsets usable raws)) (length gap) (length (content raws)) (length (gap ++ content raws)) (length behind) (length (head ++ behind)) (length bytes) two three four a b c d
+      sum_is (length front) (length head) (length (offsets usable raws)) (length gap) (length (joined_cells raws)) (length (gap ++ joined_cells raws)) (length behind) (length (head ++ behind)) (length bytes) two three four a b c d
     where
       sum_is : (f h o g c gc be hb by : ℕ) → h ≡ header_len kind → o ≡ 2 * length raws → g ≡ usable - used (length front) kind raws
-          → gc ≡ g + length (content raws) → be ≡ o + gc → hb ≡ h + be → by ≡ length front + hb → by ≡ usable
+          → gc ≡ g + length (joined_cells raws) → be ≡ o + gc → hb ≡ h + be → by ≡ length front + hb → by ≡ usable
       sum_is f h o g c gc be hb by p q r s t u v = omega arith
 
   module _ (n : ℕ) (cells : List Cell) (placed : length front ≡ header_at n) (written : AreWritten kind usable raws cells)
@@ -179,12 +179,12 @@ module _ (usable : ℕ) (front : List ℕ) (kind : Kind) (right : ℕ) (raws : L
 
     pre_length : array_start kind (header_at n) + 2 * 0 ≡ length (front ++ head)
     pre_length =
-        let two : length head ≡ header_len kind = length-page_head kind (length raws) (usable - length (content raws)) right in
+        let two : length head ≡ header_len kind = length-page_head kind (length raws) (usable - length (joined_cells raws)) right in
         let both : length (front ++ head) ≡ length front + length head = length-append front head in
         omega arith
 
-    split : bytes ≡ (front ++ head) ++ (offsets usable raws ++ (gap ++ (content raws ++ [])))
-    split = sym (append_assoc front head behind) ∙ ap (λ l. (front ++ head) ++ (offsets usable raws ++ (gap ++ l))) (sym (append-nil (content raws)))
+    split : bytes ≡ (front ++ head) ++ (offsets usable raws ++ (gap ++ (joined_cells raws ++ [])))
+    split = sym (append_assoc front head behind) ∙ ap (λ l. (front ++ head) ++ (offsets usable raws ++ (gap ++ l))) (sym (append-nil (joined_cells raws)))
 
     ends_is : array_end kind bytes (header_at n) ≡ header_at n + header_len kind + 2 * length raws
     ends_is = ap (λ k. array_start kind (header_at n) + 2 * k) count_is
@@ -213,7 +213,7 @@ module _ (usable : ℕ) (front : List ℕ) (kind : Kind) (right : ℕ) (raws : L
     node_is =
         ap (λ l. record { kind = kind; cells = l; right = right_at kind bytes (header_at n) }) (ap (filter_map (λ c. c)) listed ∙ all_there cells)
         ∙ ap (λ r. record { kind = kind; cells = cells; right = r })
-        (right_back kind (length raws) (usable - length (content raws)) right (header_at n) front behind placed)
+        (right_back kind (length raws) (usable - length (joined_cells raws)) right (header_at n) front behind placed)
 
     -- the page reads as exactly these cells and this right child
     pub page_back : read_page n bytes ≡ Ok page

@@ -1,12 +1,12 @@
 -- Cells as they are written (Database File Format, section 1.6). Varints are the shortest.
-use Rattle.std.specs.Prelude.{ℕ, ◌≡◌, ◌≤◌, ◌==◌, Bool, nat_le, ℤ, FitsSigned, List, [], ◌++◌, length, if◌then◌else◌}
+use Rattle.std.specs.Prelude.{ℕ, ◌≡◌, ◌≤◌, ◌==◌, nat_le, FitsSigned, List, [], ◌++◌, length, if◌then◌else◌}
 use Rattle.std.specs.Int.{w64, cast_unsigned}
 use Rattle.db_format.specs.Varint.{varint_bytes}
 use Rattle.btree_page.specs.declared.kind.Family.{Family}
 use Rattle.btree_page.specs.declared.kind.Family.TheVariants.{Table, Index}
 use Rattle.btree_page.specs.declared.kind.Kind.{Kind}
 use Rattle.btree_page.specs.declared.kind.Kind.TheVariants.{IndexInterior, TableInterior, IndexLeaf, TableLeaf}
-use Rattle.btree_page.specs.Cell.{Cell, Stored, table_leaf, table_interior, index_leaf, index_interior}
+use Rattle.btree_page.specs.Cell.{Cell, StoredCell, table_leaf, table_interior, index_leaf, index_interior}
 use Rattle.btree_page.specs.Payload.{local_len, max_payload}
 use Rattle.page_build.specs.Written.{four_bytes}
 
@@ -18,7 +18,7 @@ kind_of_cell (index_leaf stored) = IndexLeaf
 kind_of_cell (index_interior left stored) = IndexInterior
 
 -- the local bytes of a payload, and the overflow page in which it goes on
-abbrev pub stored_bytes : Stored → List ℕ
+abbrev pub stored_bytes : StoredCell → List ℕ
 stored_bytes stored = stored.local ++ (if stored.first == 0 then [] else four_bytes stored.first)
 
 abbrev pub cell_bytes : Cell → List ℕ
@@ -29,7 +29,7 @@ cell_bytes (index_leaf stored) = varint_bytes stored.size ++ stored_bytes stored
 cell_bytes (index_interior left stored) = four_bytes left ++ (varint_bytes stored.size ++ stored_bytes stored)
 
 -- a payload that may be read, as a cell on a page of this family and usable size has it
-pub record IsStoredOn (family : Family) (usable : ℕ) (stored : Stored) : Type 0 where
+pub record IsStoredOn (family : Family) (usable : ℕ) (stored : StoredCell) : Type 0 where
   pub size : stored.size ≤ max_payload
   pub local : length stored.local ≡ local_len family usable stored.size
   -- it goes on exactly where bytes are missing

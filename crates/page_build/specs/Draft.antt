@@ -1,10 +1,10 @@
 -- A page that is being written.
-use Rattle.std.specs.Prelude.{ℕ, zero, suc, ◌≡◌, ◌+◌, ◌-◌, ◌*◌, ◌≤◌, true, List, [], ◌∷◌, ◌++◌, length, take, drop, replicate}
+use Rattle.std.specs.Prelude.{ℕ, zero, suc, ◌≡◌, ◌+◌, ◌-◌, ◌≤◌, true, List, [], ◌∷◌, ◌++◌, length, take, drop, replicate}
 use Rattle.db_format.specs.Bytes.{u16_at}
 use Rattle.db_format.specs.Pages.{IsUsable}
 use Rattle.btree_page.specs.declared.kind.Kind.{Kind}
 use Rattle.btree_page.specs.Page.{array_start, header_len}
-use Rattle.page_build.specs.Written.{are_long, content, offsets, padded, page_bytes, used}
+use Rattle.page_build.specs.Written.{are_long, joined_cells, offsets, padded, page_bytes, used}
 
 pub record Draft : Type 0 where
   -- the usable size of the page
@@ -62,9 +62,9 @@ pub record IsBuilt (page : List ℕ) (kind : Kind) (header count start : ℕ) (c
   pub first : header ≤ 100
   pub bytes : page
       ≡ replicate header 0 ++ (take (header_len kind) (drop header page)
-      ++ (offsets (length page) cells ++ (replicate (length page - used header kind cells) 0 ++ content cells)))
+      ++ (offsets (length page) cells ++ (replicate (length page - used header kind cells) 0 ++ joined_cells cells)))
   pub count_is : count ≡ length cells
-  pub start_is : start + length (content cells) ≡ length page
+  pub start_is : start + length (joined_cells cells) ≡ length page
   pub fits : used header kind cells ≤ length page
   pub long : are_long cells ≡ true
 

@@ -4,7 +4,7 @@ ghost use Rattle.db_format.specs.Pages.{IsUsable};
 ghost use Rattle.db_format.specs.Varint.{varint_bytes};
 ghost use Rattle.btree_page.specs.Shown.{cell_shown};
 ghost use Rattle.page_build.specs.CellBytes.{IsFor, IsRanged, cell_bytes, kind_of_cell};
-ghost use Rattle.page_build.specs.Written.{IsWritten, four_bytes};
+ghost use Rattle.page_build.specs.Written.{IsCellWritten, four_bytes};
 
 use crate::bytes::four_bytes;
 use btree_page::Cell;
@@ -16,7 +16,7 @@ pub fn write_cell(cell: &Cell<'_>, out: &mut Vec<u8>) -> Result<(), OutOfMemory>
     ensures err { OnErr result (out.new.items ≡ out.old.items) }
     // On a page of a usable size at which so many bytes of its payload are local, it is read back.
     ensures reads_back { (usable : ℕ) → IsUsable usable → IsFor usable (cell_shown cell.now)
-        → IsWritten (kind_of_cell (cell_shown cell.now)) usable (cell_bytes (cell_shown cell.now)) (cell_shown cell.now) }
+        → IsCellWritten (kind_of_cell (cell_shown cell.now)) usable (cell_bytes (cell_shown cell.now)) (cell_shown cell.now) }
 {
     let before = out.len();
     match push_cell(*cell, out) {

@@ -1,7 +1,7 @@
 // A cache of pages.
 ghost use Rattle.std.specs.Prelude.{◌≡◌, ◌≤◌, ◌<◌, ◌+◌, ◌-◌, ◌^◌, ◌==◌, not, [], ◌∷◌, length, nat_eq, None, Some, IfOk, IfErr, OnOk, OnErr, IsOk, IsTrue, IsSome, IfSome, MatchOption, true, false, option_map, is_some, replicate};
 ghost use Rattle.std.specs.Borrow.{sem};
-ghost use Rattle.page_cache.specs.Pages.{Pages, Page, page_at, bytes_at, pins_at, is_held, is_dirty, has_pin, moved_first, without, changed, pin_more, pin_less, with_dirty, last_unpinned, fresh_page, IsSound};
+ghost use Rattle.page_cache.specs.Pages.{HeldPages, Page, held_page, held_bytes, pins_at, is_held, is_dirty, has_pin, moved_first, without, changed, pin_more, pin_less, with_dirty, last_unpinned, fresh_frame, IsSoundCache};
 
 use crate::frame::Frame;
 use crate::index::Index;
@@ -31,13 +31,13 @@ pub struct Cache {
 
 impl Model for Cache {
     ghost use Rattle.std.specs.Prelude.{length};
-    ghost use Rattle.page_cache.specs.Pages.{Pages};
-    ghost use Rattle.page_cache.specs.Frames.{shown};
+    ghost use Rattle.page_cache.specs.Pages.{HeldPages};
+    ghost use Rattle.page_cache.specs.Frames.{shown_pages};
     ghost use Rattle.page_cache.specs.Tied.{AreTied};
 
-    ghost Value = { Pages };
+    ghost Value = { HeldPages };
 
-    ghost view = { λ c. record { held = shown c.store.items c.table.entries; frames = length c.store.items; usable = c.usable } };
+    ghost view = { λ c. record { held = shown_pages c.store.items c.table.entries; frames = length c.store.items; usable = c.usable } };
 
     ghost invariant = { λ c. AreTied c.usable c.index.frames c.store.items c.table.entries };
 }
@@ -70,7 +70,7 @@ impl Cache {
     /// Whether page n is held. The order of use stays.
     pub fn is_held(&self, n: u32) -> bool
         ensures value { result ≡ is_held n self.now.held }
-        ensures sound { IsSound self.now }
+        ensures sound { IsSoundCache self.now }
     {
         frame_of(&self.index, &self.table, n).is_some()
     }
@@ -79,7 +79,7 @@ impl Cache {
     pub fn touch(&mut self, n: u32) -> bool
         ensures value { result ≡ is_held n self.old.held }
         ensures first { self.new ≡ record self.old { held = moved_first n self.old.held } }
-        ensures sound { IsSound self.new }
+        ensures sound { IsSoundCache self.new }
     {
         match frame_of(&self.index, &self.table, n) {
             Some(frame) => {
@@ -92,7 +92,7 @@ impl Cache {
 
     /// The bytes of page n, where it is held.
     pub fn get(&self, n: u32) -> Option<&[u8]>
-        ensures value { option_map (λ bytes. bytes.now) result ≡ bytes_at n self.now.held }
+        ensures value { option_map (λ bytes. bytes.now) result ≡ held_bytes n self.now.held }
         ensures size { IfSome result (λ bytes. length bytes.now ≡ self.now.usable) }
     {
         match frame_of(&self.index, &self.table, n) {
@@ -105,7 +105,7 @@ impl Cache {
     pub fn at_mut(&mut self, n: u32) -> &mut [u8]
         requires { IsTrue (is_held n self.old.held) }
         ensures* writes_back { sem 𝓛 (LendsPage self.entry n result) }
-        ensures value { bytes_at n self.old.held ≡ Some result.now }
+        ensures value { held_bytes n self.old.held ≡ Some result.now }
         ensures size { length result.now ≡ self.old.usable }
     {
         let frame = frame_of(&self.index, &self.table, n).unwrap();
@@ -204,7 +204,7 @@ impl Cache {
     /// exactly where no frame is free.
     pub fn hold(&mut self, n: u32) -> Result<(), Full>
         requires { is_held n self.old.held ≡ false }
-        ensures placed { OnOk result (self.new ≡ record self.old { held = fresh_page n self.old.usable ∷ self.old.held }) }
+        ensures placed { OnOk result (self.new ≡ record self.old { held = fresh_frame n self.old.usable ∷ self.old.held }) }
         ensures free { OnOk result (length self.old.held < self.old.frames) }
         ensures full { OnErr result (length self.old.held ≡ self.old.frames) }
         ensures kept { OnErr result (self.new ≡ self.old) }
@@ -230,7 +230,7 @@ impl Cache {
     // Puts page n into a frame, and says whether one was free.
     pub(crate) fn claim(&mut self, n: u32) -> bool
         requires { is_held n self.old.held ≡ false }
-        ensures placed { IsTrue result → self.new ≡ record self.old { held = fresh_page n self.old.usable ∷ self.old.held } }
+        ensures placed { IsTrue result → self.new ≡ record self.old { held = fresh_frame n self.old.usable ∷ self.old.held } }
         ensures free { IsTrue result → length self.old.held < self.old.frames }
         ensures full { result ≡ false → length self.old.held ≡ self.old.frames }
         ensures kept { result ≡ false → self.new ≡ self.old }

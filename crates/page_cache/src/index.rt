@@ -2,7 +2,7 @@
 ghost use Rattle.std.specs.Prelude.{◌≡◌, ℕ, ◌≤◌, ◌<◌, ◌+◌, ◌*◌, ◌⊎◌, None, Some, cond, length, nat_eq, is_some, IfOk, IsTrue};
 ghost use Rattle.std.specs.HashMap.{get, spare};
 ghost use Rattle.page_cache.specs.Index.{named, room, Names};
-ghost use Rattle.page_cache.specs.Frames.{AreApart};
+ghost use Rattle.page_cache.specs.Frames.{HaveDistinctPages};
 
 use crate::table::Held;
 use lru::LruCache;
@@ -60,7 +60,7 @@ impl Index {
     /// There is room for one more key. Where the room is used up, only the pages in this table stay keys.
     pub(crate) fn make_room(&mut self, table: &LruCache<u32, Option<Held>>)
         requires names { Names self.old.frames table.now.entries }
-        requires apart { AreApart table.now.entries }
+        requires apart { HaveDistinctPages table.now.entries }
         requires room { (1 ≤ length table.now.entries) × (2 * length table.now.entries ≤ room self.old.frames) }
         ensures names { Names self.new.frames table.now.entries }
         ensures spare { 0 < spare self.new.frames }
@@ -73,7 +73,7 @@ impl Index {
 
     // Only the pages in this table are keys, so there is room for as many more as there are frames.
     fn rebuild(&mut self, table: &LruCache<u32, Option<Held>>)
-        requires apart { AreApart table.now.entries }
+        requires apart { HaveDistinctPages table.now.entries }
         requires room { 2 * length table.now.entries ≤ room self.old.frames }
         ensures names { Names self.new.frames table.now.entries }
         ensures spare { length table.now.entries ≤ spare self.new.frames }

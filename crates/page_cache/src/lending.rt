@@ -2,7 +2,7 @@
 // `hold` and `at_mut`, so callers whose contracts speak of the cache afterwards use those.
 ghost use Rattle.std.specs.Prelude.{◌≡◌, ◌<◌, length, false, IfOk, OnOk, OnErr, option_map, replicate};
 ghost use Rattle.std.specs.Borrow.{sem};
-ghost use Rattle.page_cache.specs.Pages.{bytes_at, is_held};
+ghost use Rattle.page_cache.specs.Pages.{held_bytes, is_held};
 
 use crate::cache::{Cache, Full};
 
@@ -13,7 +13,7 @@ impl Cache {
     /// order of use among it.
     pub fn get_mut(&mut self, n: u32) -> Option<&mut [u8]>
         ensures* writes_back { sem 𝓛 (LendsHeld self.entry n result) }
-        ensures value { option_map (λ bytes. bytes.now) result ≡ bytes_at n self.old.held }
+        ensures value { option_map (λ bytes. bytes.now) result ≡ held_bytes n self.old.held }
     {
         if self.has(n) {
             Some(self.at_mut(n))

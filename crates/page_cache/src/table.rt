@@ -2,7 +2,7 @@
 ghost use Rattle.std.specs.Prelude.{◌≡◌, ◌≤◌, ◌<◌, None, Some, List, Option, ℕ, IfOk, IfSome, IsSome, nat_eq, reverse};
 ghost use Rattle.std.specs.Map.{lookup, set_value};
 ghost use Rattle.lru.specs.LruCache.{lru_cache, IsValid};
-ghost use Rattle.page_cache.specs.Frames.{AreApart, blank, entry_of, frame_at, free_frame, freed, held_in, unpinned};
+ghost use Rattle.page_cache.specs.Frames.{HaveDistinctPages, blank_frame, frame_entry, frame_at, free_frame, freed, held_in, unpinned};
 ghost use Rattle.page_cache.specs.Index.{Names};
 
 use crate::index::Index;
@@ -25,7 +25,7 @@ pub(crate) fn free_table(
     frames: u32,
 ) -> Result<LruCache<u32, Option<Held>>, AllocError>
     requires { 1 ≤ frames }
-    ensures { IfOk result (λ t. t ≡ lru_cache (blank frames) frames) }
+    ensures { IfOk result (λ t. t ≡ lru_cache (blank_frame frames) frames) }
 {
     let Some(cap) = NonZeroUsize::new(frames as usize) else {
         return Err(AllocError);
@@ -73,8 +73,8 @@ pub(crate) fn entry_of(
     n: u32,
 ) -> Option<(u32, Held)>
     requires names { Names index.now.frames table.now.entries }
-    requires apart { AreApart table.now.entries }
-    ensures value { result ≡ entry_of n table.now.entries }
+    requires apart { HaveDistinctPages table.now.entries }
+    ensures value { result ≡ frame_entry n table.now.entries }
     ensures valid { IsValid nat_eq table.now }
 {
     match frame_of(index, table, n) {

@@ -7,11 +7,11 @@ use Rattle.std.proofs.lemmas.List.{length-append, length-drop, length-take-le}
 use Rattle.std.proofs.lemmas.Slice.{between-put_mid, drop-put_mid}
 use Rattle.std.specs.Prelude.{slice_index, slice_range}
 use Rattle.cbc_mode.specs.Cbc.{IsRoundTrip, cbc_decrypted, cbc_encrypted}
-use Rattle.cbc_mode.specs.Records.{encrypted_record, record_at}
+use Rattle.cbc_mode.specs.Records.{encrypted_record, cbc_text_at}
 use Rattle.cipher_profile.specs.declared.profile.Profile.{Profile}
 use Rattle.cipher_profile.specs.Profile.{IsLaidOut, usable}
 use Rattle.page_codec.specs.Page.{FileKeys, cipher_start, deciphered, magic, stored_iv, untagged}
-use Rattle.page_codec.specs.Pages.{AreTagged, IsTagged, page_at}
+use Rattle.page_codec.specs.Pages.{AreTagged, IsTagged, nth_page}
 use Rattle.page_codec.proofs.Parts.{part_after, part_before, part_between}
 use borrow.Rule.Slice.PartMut.{put_mid}
 
@@ -48,30 +48,30 @@ module _ (size i : ℕ) (pages page : List ℕ) (within : size * i + size ≤ le
         length-drop (size * i) pages,
       )
 
-  pub there : page_at size (replaced size i pages page) i ≡ page
+  pub there : nth_page size (replaced size i pages page) i ≡ page
   there =
-      ap (λ (l : List ℕ). page_at size l i) same_size
+      ap (λ (l : List ℕ). nth_page size l i) same_size
       ∙ ap (λ (n : ℕ). take n (drop (size * i) (put_mid (size * i) size pages page))) (sym whole)
       ∙ between-put_mid (size * i) size pages page (size * i + size) (omega (arith, within)) (omega (arith, long, whole))
 
-  pub earlier : (k : ℕ) → k < i → page_at size (replaced size i pages page) k ≡ page_at size pages k
+  pub earlier : (k : ℕ) → k < i → nth_page size (replaced size i pages page) k ≡ nth_page size pages k
   earlier k lt =
       let e : size * k + size - size * k ≡ size = omega arith in
-      ap (λ (l : List ℕ). page_at size l k) same_size
+      ap (λ (l : List ℕ). nth_page size l k) same_size
       ∙ ap (λ (n : ℕ). take n (drop (size * k) (put_mid (size * i) size pages page))) (sym e)
       ∙ part_before (size * i) size pages page (size * k) (size * k + size) (ends_by size k i lt) (omega (arith, within))
       ∙ ap (λ (n : ℕ). take n (drop (size * k) pages)) e
 
-  pub later : (k : ℕ) → i < k → page_at size (replaced size i pages page) k ≡ page_at size pages k
+  pub later : (k : ℕ) → i < k → nth_page size (replaced size i pages page) k ≡ nth_page size pages k
   later k lt =
-      ap (λ (l : List ℕ). page_at size l k) same_size
+      ap (λ (l : List ℕ). nth_page size l k) same_size
       ∙ ap (take size) (drop-put_mid (size * i) size pages page (size * k) (ends_by size i k lt) (omega (arith, within)) long)
 
 -- P holds of pages 0 to i - 1, and the others are as they were
 pub record PagesUpTo (P : ℕ → List ℕ → Type 0) (size : ℕ) (old pages : List ℕ) (i : ℕ) : Type 0 where
   pub length_kept : length pages ≡ length old
-  pub done : (k : ℕ) → k < i → P k (page_at size pages k)
-  pub left : (k : ℕ) → i ≤ k → page_at size pages k ≡ page_at size old k
+  pub done : (k : ℕ) → k < i → P k (nth_page size pages k)
+  pub left : (k : ℕ) → i ≤ k → nth_page size pages k ≡ nth_page size old k
 
 pub pages_none : (P : ℕ → List ℕ → Type 0) (size : ℕ) (old : List ℕ) → PagesUpTo P size old old 0
 pages_none P size old = record {
@@ -85,11 +85,11 @@ pub pages_more : (P : ℕ → List ℕ → Type 0) (size : ℕ) (old pages page 
     → PagesUpTo P size old (replaced size i pages page) (i + 1)
 pages_more P size old pages page i h within long is = record {
   length_kept = length-replaced size i pages page within long ∙ h.length_kept;
-  done = λ k less. elim (cases_lt k i) as (λ _. P k (page_at size (replaced size i pages page) k)) [
+  done = λ k less. elim (cases_lt k i) as (λ _. P k (nth_page size (replaced size i pages page) k)) [
     | inl lt ↦ subst (P k) (sym (earlier size i pages page within long k lt)) (h.done k lt)
     | inr le ↦
         let e : i ≡ k = omega arith in
-        subst (λ (m : ℕ). P m (page_at size (replaced size i pages page) m)) e (subst (P i) (sym (there size i pages page within long)) is)
+        subst (λ (m : ℕ). P m (nth_page size (replaced size i pages page) m)) e (subst (P i) (sym (there size i pages page within long)) is)
   ];
   left = λ k le. later size i pages page within long k (omega arith) ∙ h.left k (omega arith);
 }
@@ -106,7 +106,7 @@ tagged_none file numbers at old = record {
 
 pub tagged_one : (file : FileKeys) (numbers : List ℕ) (i : ℕ) (old page : List ℕ)
     → file.profile.page_size * i + file.profile.page_size ≤ length old → length page ≡ file.profile.page_size
-    → IsTagged file (slice_index numbers i) (page_at file.profile.page_size old i) page
+    → IsTagged file (slice_index numbers i) (nth_page file.profile.page_size old i) page
     → AreTagged file numbers i (i + 1) old (replaced file.profile.page_size i old page)
 tagged_one file numbers i old page within long is =
     let size : ℕ = file.profile.page_size in
@@ -114,8 +114,8 @@ tagged_one file numbers i old page within long is =
       length_kept = length-replaced size i old page within long;
       done = λ k from to.
           let e : i ≡ k = omega arith in
-          subst (λ (m : ℕ). IsTagged file (slice_index numbers m) (page_at size old m) (page_at size (replaced size i old page) m)) e
-          (subst (IsTagged file (slice_index numbers i) (page_at size old i)) (sym (there size i old page within long)) is);
+          subst (λ (m : ℕ). IsTagged file (slice_index numbers m) (nth_page size old m) (nth_page size (replaced size i old page) m)) e
+          (subst (IsTagged file (slice_index numbers i) (nth_page size old i)) (sym (there size i old page within long)) is);
       before = λ k lt. earlier size i old page within long k lt;
       left = λ k le. later size i old page within long k (omega arith);
     }
@@ -127,17 +127,17 @@ tagged_then file numbers from mid to old between new first second f s =
     record {
       length_kept = s.length_kept ∙ f.length_kept;
       done = λ k begins ends. elim (cases_lt k mid) as
-          (λ _. IsTagged file (slice_index numbers k) (page_at size old k) (page_at size new k)) [
-            | inl lt ↦ subst (IsTagged file (slice_index numbers k) (page_at size old k)) (sym (s.before k lt)) (f.done k begins lt)
+          (λ _. IsTagged file (slice_index numbers k) (nth_page size old k) (nth_page size new k)) [
+            | inl lt ↦ subst (IsTagged file (slice_index numbers k) (nth_page size old k)) (sym (s.before k lt)) (f.done k begins lt)
             | inr le ↦
-                subst (λ (page : List ℕ). IsTagged file (slice_index numbers k) page (page_at size new k)) (f.left k (omega arith))
+                subst (λ (page : List ℕ). IsTagged file (slice_index numbers k) page (nth_page size new k)) (f.left k (omega arith))
                 (s.done k (omega arith) ends)
           ];
       before = λ k lt. s.before k (omega arith) ∙ f.before k lt;
       left = λ k le. s.left k le ∙ f.left k (omega arith);
     }
 
-pub length-page : (size i : ℕ) (pages : List ℕ) → size * i + size ≤ length pages → length (page_at size pages i) ≡ size
+pub length-page : (size i : ℕ) (pages : List ℕ) → size * i + size ≤ length pages → length (nth_page size pages i) ≡ size
 length-page size i pages within = length-take-le size (drop (size * i) pages) (omega (arith, within, length-drop (size * i) pages))
 
 -- ---- pages as records of blocks
@@ -151,7 +151,7 @@ whole_blocks size stride count e = ap (λ (s : ℕ). s * count) (sym e) ∙ mul_
 pub size_blocks : (profile : Profile) → IsLaidOut profile → 16 * (profile.page_size / 16) ≡ profile.page_size
 size_blocks profile h = omega (arith, h.stride)
 
-pub page_is_record : (size stride : ℕ) (pages : List ℕ) (i : ℕ) → 16 * stride ≡ size → page_at size pages i ≡ record_at stride pages i
+pub page_is_record : (size stride : ℕ) (pages : List ℕ) (i : ℕ) → 16 * stride ≡ size → nth_page size pages i ≡ cbc_text_at stride pages i
 page_is_record size stride pages i e =
     (λ k. take (sym e k) (drop (whole_blocks size stride i e k) pages))
 

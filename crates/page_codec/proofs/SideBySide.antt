@@ -10,7 +10,7 @@ use Rattle.hash_lanes.specs.Messages.{message, piece}
 use Rattle.cipher_profile.specs.Hashes.{block_len, digest, digest_len}
 use Rattle.cipher_profile.specs.Profile.{usable}
 use Rattle.page_codec.specs.Page.{FileKeys, accepts, cipher_start, covered, tag}
-use Rattle.page_codec.specs.Pages.{AreAnswered, page_at}
+use Rattle.page_codec.specs.Pages.{AreAnswered, nth_page}
 use Rattle.page_codec.proofs.PageFacts.{start_later}
 
 -- pages that begin after i and then j others
@@ -23,7 +23,7 @@ pages_sum size i (suc j) =
     ap (λ (k : ℕ). size * k) more ∙ omega (arith, mul-suc size (i + j), pages_sum size i j, mul-suc size j)
 
 -- page j of the pages from page i on
-pub page_behind : (size i j : ℕ) (pages : List ℕ) → page_at size (drop (size * i) pages) j ≡ page_at size pages (i + j)
+pub page_behind : (size i j : ℕ) (pages : List ℕ) → nth_page size (drop (size * i) pages) j ≡ nth_page size pages (i + j)
 page_behind size i j pages =
     ap (take size) (drop-drop (size * j) (size * i) pages ∙ ap (λ (k : ℕ). drop k pages) (sym (pages_sum size i j)))
 
@@ -33,13 +33,13 @@ pub side_tag : (file : FileKeys) (pages ends mac : List ℕ) (n i : ℕ) → 2 �
     → take (digest_len file.profile.hash) mac
     ≡ hmac_of_block (digest file.profile.hash) (key_block (digest file.profile.hash) (block_len file.profile.hash) file.keys.mac)
     (message pages file.profile.page_size (usable file.profile + 16) ends 4 i)
-    → take file.profile.tag_len mac ≡ tag file n (page_at file.profile.page_size pages i)
+    → take file.profile.tag_len mac ≡ tag file n (nth_page file.profile.page_size pages i)
 side_tag file pages ends mac n i later within short number is =
     let size : ℕ = file.profile.page_size in
     let at : ℕ = usable file.profile + 16 in
     let len : ℕ = file.profile.tag_len in
     let hash : List ℕ → List ℕ = digest file.profile.hash in
-    let page : List ℕ = page_at size pages i in
+    let page : List ℕ = nth_page size pages i in
     let start : cipher_start n ≡ 0 = start_later n later in
     let whole : at ≡ at - 0 = omega arith in
     let body : piece pages size at i ≡ covered file.profile n page =
@@ -52,7 +52,7 @@ side_tag file pages ends mac n i later within short number is =
     ∙ (λ t. take len (hmac_of_block hash (key_block hash (block_len file.profile.hash) file.keys.mac) (body t ++ number t)))
 
 -- a page that is cut out
-pub cut_page : (pages : List ℕ) (size i from long : ℕ) → from ≡ size * i → long ≡ size → take long (drop from pages) ≡ page_at size pages i
+pub cut_page : (pages : List ℕ) (size i from long : ℕ) → from ≡ size * i → long ≡ size → take long (drop from pages) ≡ nth_page size pages i
 cut_page pages size i from long place whole = λ t. take (whole t) (drop (place t) pages)
 
 -- one of several HMACs, that is cut out
@@ -77,10 +77,10 @@ answered_none file first pages at held = record {
 
 -- one answer more
 pub answered_more : (file : FileKeys) (first : ℕ) (pages : List ℕ) (from i : ℕ) (old held : List Bool) (x : Bool) → from ≤ i → i < length old
-    → AreAnswered file first pages from i old held → x ≡ accepts file (first + i) (page_at file.profile.page_size pages i)
+    → AreAnswered file first pages from i old held → x ≡ accepts file (first + i) (nth_page file.profile.page_size pages i)
     → AreAnswered file first pages from (i + 1) old (slice_set held i x)
 answered_more file first pages from i old held x after less h is =
-    let value : ℕ → Bool = λ k. accepts file (first + k) (page_at file.profile.page_size pages k) in
+    let value : ℕ → Bool = λ k. accepts file (first + k) (nth_page file.profile.page_size pages k) in
     record {
       length_kept = length-set held i x ∙ h.length_kept;
       done = λ k begins ends. elim (cases_lt k i) as (λ _. slice_index_or (slice_set held i x) k false ≡ value k) [
@@ -96,7 +96,7 @@ pub answered_then : (file : FileKeys) (first : ℕ) (pages : List ℕ) (from mid
     → AreAnswered file first pages from mid old between → AreAnswered file first pages mid to between new
     → AreAnswered file first pages from to old new
 answered_then file first pages from mid to old between new one two f s =
-    let value : ℕ → Bool = λ k. accepts file (first + k) (page_at file.profile.page_size pages k) in
+    let value : ℕ → Bool = λ k. accepts file (first + k) (nth_page file.profile.page_size pages k) in
     record {
       length_kept = s.length_kept ∙ f.length_kept;
       done = λ k begins ends. elim (cases_lt k mid) as (λ _. slice_index_or new k false ≡ value k) [

@@ -3,7 +3,7 @@ ghost use Rattle.std.specs.Prelude.{◌≡◌, ℕ, ◌+◌, ◌*◌, ◌<◌, �
 ghost use Rattle.cipher_profile.specs.Profile.{is_plain, usable};
 ghost use Rattle.page_codec.specs.MacKey.{at_once, mac_key};
 ghost use Rattle.page_codec.specs.Page.{accepts, cipher_start, deciphered, enciphered, magic, opened, sealed, tag, untagged, with_tag};
-ghost use Rattle.page_codec.specs.Pages.{AreTagged, IsTagged, page_at, sealed_page};
+ghost use Rattle.page_codec.specs.Pages.{AreTagged, IsTagged, nth_page, sealed_page};
 
 use crate::codec::{Codec, IV_LEN, cipher_start};
 use crate::laws::key_law;
@@ -56,13 +56,13 @@ impl Codec {
         requires most { length numbers.now ≤ 64 }
         requires size { length pages.old ≡ self.now.profile.page_size * length numbers.now }
         ensures size { length pages.new ≡ length pages.old }
-        ensures value { (i : ℕ) → i < length numbers.now → page_at self.now.profile.page_size pages.new i
-            ≡ sealed_page self.now (slice_index numbers.now i) (page_at self.now.profile.page_size pages.old i) }
+        ensures value { (i : ℕ) → i < length numbers.now → nth_page self.now.profile.page_size pages.new i
+            ≡ sealed_page self.now (slice_index numbers.now i) (nth_page self.now.profile.page_size pages.old i) }
         ensures accepted { (i : ℕ) → i < length numbers.now
-            → IsTrue (accepts self.now (slice_index numbers.now i) (page_at self.now.profile.page_size pages.new i)) }
+            → IsTrue (accepts self.now (slice_index numbers.now i) (nth_page self.now.profile.page_size pages.new i)) }
         ensures opens_to { (i : ℕ) → i < length numbers.now
-            → opened self.now (slice_index numbers.now i) (page_at self.now.profile.page_size pages.new i)
-            ≡ take (usable self.now.profile) (page_at self.now.profile.page_size pages.old i) }
+            → opened self.now (slice_index numbers.now i) (nth_page self.now.profile.page_size pages.new i)
+            ≡ take (usable self.now.profile) (nth_page self.now.profile.page_size pages.old i) }
     {
         if self.profile.is_plain() {
             return;
@@ -77,11 +77,11 @@ impl Codec {
         requires size { length pages.old ≡ self.now.profile.page_size * count }
         requires ciphered { is_plain self.now.profile ≡ false }
         ensures size { length pages.new ≡ length pages.old }
-        ensures value { (i n : ℕ) → i < count → 2 ≤ n → page_at self.now.profile.page_size pages.new i
-            ≡ untagged self.now n (take (usable self.now.profile) (page_at self.now.profile.page_size pages.old i))
-            (drop (usable self.now.profile) (page_at self.now.profile.page_size pages.old i)) }
-        ensures opens_to { (i n : ℕ) → i < count → 2 ≤ n → deciphered self.now n (page_at self.now.profile.page_size pages.new i)
-            ≡ take (usable self.now.profile) (page_at self.now.profile.page_size pages.old i) }
+        ensures value { (i n : ℕ) → i < count → 2 ≤ n → nth_page self.now.profile.page_size pages.new i
+            ≡ untagged self.now n (take (usable self.now.profile) (nth_page self.now.profile.page_size pages.old i))
+            (drop (usable self.now.profile) (nth_page self.now.profile.page_size pages.old i)) }
+        ensures opens_to { (i n : ℕ) → i < count → 2 ≤ n → deciphered self.now n (nth_page self.now.profile.page_size pages.new i)
+            ≡ take (usable self.now.profile) (nth_page self.now.profile.page_size pages.old i) }
     {
         key_law(&self.keys.enc);
         cbc_round_trip_law();
@@ -97,7 +97,7 @@ impl Codec {
         requires ciphered { is_plain self.now.profile ≡ false }
         ensures size { length pages.new ≡ length pages.old }
         ensures pages { (i : ℕ) → i < length numbers.now → IsTagged self.now (slice_index numbers.now i)
-            (page_at self.now.profile.page_size pages.old i) (page_at self.now.profile.page_size pages.new i) }
+            (nth_page self.now.profile.page_size pages.old i) (nth_page self.now.profile.page_size pages.new i) }
     {
         let done = self.put_many(numbers, pages);
         let _usable = self.profile.usable();

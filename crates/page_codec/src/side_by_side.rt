@@ -7,7 +7,7 @@ ghost use Rattle.hash_lanes.specs.Messages.{message, piece};
 ghost use Rattle.cipher_profile.specs.Hashes.{digest, digest_len};
 ghost use Rattle.page_codec.specs.MacKey.{at_once, mac_key};
 ghost use Rattle.page_codec.specs.Page.{accepts, stored_tag};
-ghost use Rattle.page_codec.specs.Pages.{AreAnswered, page_at};
+ghost use Rattle.page_codec.specs.Pages.{AreAnswered, nth_page};
 
 use crate::codec::{Codec, IV_LEN};
 use cipher_profile::HashKind;
@@ -131,7 +131,7 @@ impl Codec {
         requires tagged { 0 < self.now.profile.tag_len }
         ensures count { length held.new ≡ length held.old }
         ensures value { (i : ℕ) → i < length held.old → slice_index_or held.new i false
-            ≡ accepts self.now (first + i) (page_at self.now.profile.page_size pages.now i) }
+            ≡ accepts self.now (first + i) (nth_page self.now.profile.page_size pages.now i) }
     {
         let done = self.many_hold(first, pages, held);
         self.each_holds(first, done, held.len(), pages, held);

@@ -5,17 +5,17 @@ use Rattle.std.proofs.Math.Nat.{suc-mul, mul-le-mul_right}
 use Rattle.std.proofs.Math.Seq.{drop-append-add}
 use Rattle.cipher_profile.specs.Profile.{usable}
 use Rattle.page_codec.specs.Page.{FileKeys, accepts, opened, sealed}
-use Rattle.pager.specs.Changed.{Changed, IsDrawn, IsSealed, draw_of}
+use Rattle.pager.specs.Changed.{Changed, IsDrawn, IsPageSealed, draw_of}
 use Rattle.pager.specs.File.{page_stored}
 use Rattle.pager.specs.Held.{bytes_of_page}
-use Rattle.pager.specs.Pages.{is_number}
+use Rattle.pager.specs.Pages.{is_page_number}
 use Rattle.pager.specs.UnderWay.{HasNewPages, Start}
-use Rattle.transaction.specs.Batches.{IsWritten}
-use Rattle.transaction.specs.Commit.{AreChanges}
-use Rattle.transaction.specs.Database.{stored_page}
-use Rattle.transaction.specs.Draws.{draw_at}
-use Rattle.transaction.specs.Marks.{is_marked}
-use Rattle.transaction.proofs.OwnDraws.{same_or, draw_stays}
+use Rattle.atomic_commit.specs.Batches.{IsBatchWritten}
+use Rattle.atomic_commit.specs.Commit.{AreChanges}
+use Rattle.atomic_commit.specs.Database.{stored_page}
+use Rattle.atomic_commit.specs.Draws.{drawn_at}
+use Rattle.atomic_commit.specs.Marks.{is_marked}
+use Rattle.atomic_commit.proofs.OwnDraws.{same_or, draw_stays}
 
 order : (a b : ℕ) → (a < b) ⊎ (b ≤ a)
 order a b = search arith
@@ -26,10 +26,10 @@ not_both b is not = cc
 pub and_true : (a b : Bool) → (a && b) ≡ true → (a ≡ true) × (b ≡ true)
 and_true a b is = search (rules, is)
 
-pub number_in : (count n : ℕ) → is_number count n ≡ true → (1 ≤ n) × (n ≤ count)
+pub number_in : (count n : ℕ) → is_page_number count n ≡ true → (1 ≤ n) × (n ≤ count)
 number_in count n is = search (rules, is)
 
-pub number_is : (count n : ℕ) → 1 ≤ n → n ≤ count → is_number count n ≡ true
+pub number_is : (count n : ℕ) → 1 ≤ n → n ≤ count → is_page_number count n ≡ true
 number_is count n one le = search (rules, one, le)
 
 -- a number is at one of the first places of the list, or at none
@@ -53,7 +53,7 @@ find n numbers (suc done) = go (find n numbers done) (same_or (slice_index numbe
 range_in : (reserve k count : ℕ) → k < count → k * reserve + reserve ≤ count * reserve
 range_in reserve k count lt = omega (arith, suc-mul k reserve, mul-le-mul_right reserve (let e : suc k ≤ count = omega (arith, lt) in e))
 
-drawn_last : (reserve i : ℕ) (before draws : List ℕ) → draw_at reserve (length before + i) (before ++ draws) ≡ take reserve (drop i draws)
+drawn_last : (reserve i : ℕ) (before draws : List ℕ) → drawn_at reserve (length before + i) (before ++ draws) ≡ take reserve (drop i draws)
 drawn_last reserve i before draws =
     ap (λ (l : List ℕ). take reserve l) (drop-append-add before draws i)
 
@@ -62,8 +62,8 @@ module _ (start : Start) (keys : FileKeys) (marks : List Bool) (c : Changed) (dr
     (listed : (k : ℕ) → k < length c.numbers → touched (slice_index c.numbers k) ≡ true)
     (unlisted : (n : ℕ) → 1 ≤ n → ((k : ℕ) → k < length c.numbers → slice_index c.numbers k ≢ n) → touched n ≡ is_marked n marks)
     (bytes : (k : ℕ) → k < length c.numbers → plain (slice_index c.numbers k) ≡ bytes_of_page (slice_index c.numbers k) c.held)
-    (stays : (n : ℕ) → is_number start.base.pages n ≡ true → ((k : ℕ) → k < length c.numbers → slice_index c.numbers k ≢ n) → is_marked n marks ≡ true → plain n ≡ opened keys n (page_stored keys main n))
-    (written : IsWritten start.base main c.numbers (IsSealed keys c draws) (length c.numbers) new)
+    (stays : (n : ℕ) → is_page_number start.base.pages n ≡ true → ((k : ℕ) → k < length c.numbers → slice_index c.numbers k ≢ n) → is_marked n marks ≡ true → plain n ≡ opened keys n (page_stored keys main n))
+    (written : IsBatchWritten start.base main c.numbers (IsPageSealed keys c draws) (length c.numbers) new)
     (got : IsDrawn tells drawn after (length c.numbers * keys.profile.reserve) draws)
     (old : HasNewPages start keys (λ n. is_marked n marks) (λ n. opened keys n (page_stored keys main n)) tells drawn main) where
   abbrev many : ℕ
@@ -75,34 +75,34 @@ module _ (start : Start) (keys : FileKeys) (marks : List Bool) (c : Changed) (dr
   abbrev Apart : ℕ → Type 0
   Apart n = (k : ℕ) → k < many → slice_index c.numbers k ≢ n
 
-  at_listed : (k : ℕ) → k < many → IsSealed keys c draws k (page_stored keys new (slice_index c.numbers k))
-  at_listed k lt = subst (λ (s : ℕ). IsSealed keys c draws k (stored_page s (slice_index c.numbers k) new)) (sym size) (written.sealed k lt)
+  at_listed : (k : ℕ) → k < many → IsPageSealed keys c draws k (page_stored keys new (slice_index c.numbers k))
+  at_listed k lt = subst (λ (s : ℕ). IsPageSealed keys c draws k (stored_page s (slice_index c.numbers k) new)) (sym size) (written.sealed k lt)
 
-  same : (n : ℕ) → is_number start.base.pages n ≡ true → Apart n → page_stored keys new n ≡ page_stored keys main n
+  same : (n : ℕ) → is_page_number start.base.pages n ≡ true → Apart n → page_stored keys new n ≡ page_stored keys main n
   same n num none =
       let range = number_in start.base.pages n num in
       subst (λ (s : ℕ). stored_page s n new ≡ stored_page s n main) (sym size) (written.others n range.0 range.1 none)
 
-  was : (n : ℕ) → is_number start.base.pages n ≡ true → Apart n → (b : Bool) → touched n ≡ b → is_marked n marks ≡ b
+  was : (n : ℕ) → is_page_number start.base.pages n ≡ true → Apart n → (b : Bool) → touched n ≡ b → is_marked n marks ≡ b
   was n num none b is = sym (unlisted n (number_in start.base.pages n num).0 none) ∙ is
 
-  accepted : (n : ℕ) → is_number start.base.pages n ≡ true → touched n ≡ true → Found n c.numbers many → accepts keys n (page_stored keys new n) ≡ true
+  accepted : (n : ℕ) → is_page_number start.base.pages n ≡ true → touched n ≡ true → Found n c.numbers many → accepts keys n (page_stored keys new n) ≡ true
   accepted n num is (inl at) = subst (λ (p : ℕ). accepts keys p (page_stored keys new p) ≡ true) at.2 (at_listed at.0 at.1).accepted
   accepted n num is (inr none) = ap (λ (l : List ℕ). accepts keys n l) (same n num none) ∙ old.accepted n num (was n num none true is)
 
-  whole : (n : ℕ) → is_number start.base.pages n ≡ true → touched n ≡ true → Found n c.numbers many → length (page_stored keys new n) ≡ keys.profile.page_size
+  whole : (n : ℕ) → is_page_number start.base.pages n ≡ true → touched n ≡ true → Found n c.numbers many → length (page_stored keys new n) ≡ keys.profile.page_size
   whole n num is (inl at) = subst (λ (p : ℕ). length (page_stored keys new p) ≡ keys.profile.page_size) at.2 (at_listed at.0 at.1).size
   whole n num is (inr none) = ap length (same n num none) ∙ old.whole n num (was n num none true is)
 
-  sizes : (n : ℕ) → is_number start.base.pages n ≡ true → touched n ≡ true → Found n c.numbers many → length (plain n) ≡ usable keys.profile
+  sizes : (n : ℕ) → is_page_number start.base.pages n ≡ true → touched n ≡ true → Found n c.numbers many → length (plain n) ≡ usable keys.profile
   sizes n num is (inl at) = subst (λ (p : ℕ). length (plain p) ≡ usable keys.profile) at.2 (ap length (bytes at.0 at.1) ∙ (at_listed at.0 at.1).plain)
   sizes n num is (inr none) = ap length (stays n num none (was n num none true is)) ∙ old.sizes n num (was n num none true is)
 
-  opens : (n : ℕ) → is_number start.base.pages n ≡ true → touched n ≡ true → Found n c.numbers many → opened keys n (page_stored keys new n) ≡ plain n
+  opens : (n : ℕ) → is_page_number start.base.pages n ≡ true → touched n ≡ true → Found n c.numbers many → opened keys n (page_stored keys new n) ≡ plain n
   opens n num is (inl at) = subst (λ (p : ℕ). opened keys p (page_stored keys new p) ≡ plain p) at.2 ((at_listed at.0 at.1).opens_to ∙ sym (bytes at.0 at.1))
   opens n num is (inr none) = ap (λ (l : List ℕ). opened keys n l) (same n num none) ∙ sym (stays n num none (was n num none true is))
 
-  others : (n : ℕ) → is_number start.base.pages n ≡ true → touched n ≡ false → Found n c.numbers many → page_stored keys new n ≡ page_stored keys start.base.start n
+  others : (n : ℕ) → is_page_number start.base.pages n ≡ true → touched n ≡ false → Found n c.numbers many → page_stored keys new n ≡ page_stored keys start.base.start n
   others n num is (inl at) = absurd (not_both (touched n) (subst (λ (p : ℕ). touched p ≡ true) at.2 (listed at.0 at.1)) is)
   others n num is (inr none) = same n num none ∙ old.others n num (was n num none false is)
 
@@ -112,29 +112,29 @@ module _ (start : Start) (keys : FileKeys) (marks : List Bool) (c : Changed) (dr
   place_by n (inr none) = old.own.place n
 
   abbrev is_new : ℕ → Bool
-  is_new n = is_number start.base.pages n && touched n
+  is_new n = is_page_number start.base.pages n && touched n
 
-  still : (n : ℕ) → is_new n ≡ true → Apart n → (is_number start.base.pages n && is_marked n marks) ≡ true
+  still : (n : ℕ) → is_new n ≡ true → Apart n → (is_page_number start.base.pages n && is_marked n marks) ≡ true
   still n is none =
-      let both = and_true (is_number start.base.pages n) (touched n) is in
+      let both = and_true (is_page_number start.base.pages n) (touched n) is in
       ap (λ (b : Bool). b && is_marked n marks) both.0 ∙ was n both.0 none true both.1
 
   within : (n : ℕ) → is_new n ≡ true → (f : Found n c.numbers many) → place_by n f + reserve ≤ length (old.draws ++ draws)
   within n is (inl at) = omega (arith, range_in reserve at.0 many at.1, got.many, length-append old.draws draws)
   within n is (inr none) = omega (arith, old.own.within n (still n is none), length-append old.draws draws)
 
-  is_sealed : (n : ℕ) → is_new n ≡ true → (f : Found n c.numbers many) → page_stored keys new n ≡ sealed keys n (plain n) (draw_at reserve (place_by n f) (old.draws ++ draws))
+  is_sealed : (n : ℕ) → is_new n ≡ true → (f : Found n c.numbers many) → page_stored keys new n ≡ sealed keys n (plain n) (drawn_at reserve (place_by n f) (old.draws ++ draws))
   is_sealed n is (inl at) =
-      subst (λ (p : ℕ). page_stored keys new p ≡ sealed keys p (plain p) (draw_at reserve (length old.draws + at.0 * reserve) (old.draws ++ draws))) at.2
+      subst (λ (p : ℕ). page_stored keys new p ≡ sealed keys p (plain p) (drawn_at reserve (length old.draws + at.0 * reserve) (old.draws ++ draws))) at.2
       ((at_listed at.0 at.1).is
       ∙ ap (λ (l : List ℕ). sealed keys (slice_index c.numbers at.0) l (draw_of reserve draws at.0)) (sym (bytes at.0 at.1))
       ∙ ap (λ (l : List ℕ). sealed keys (slice_index c.numbers at.0) (plain (slice_index c.numbers at.0)) l) (sym (drawn_last reserve (at.0 * reserve) old.draws draws)))
   is_sealed n is (inr none) =
-      let both = and_true (is_number start.base.pages n) (touched n) is in
+      let both = and_true (is_page_number start.base.pages n) (touched n) is in
       let marked = still n is none in
       same n both.0 none
       ∙ old.own.is_sealed n marked
-      ∙ ap (λ (l : List ℕ). sealed keys n l (draw_at reserve (old.own.place n) old.draws)) (sym (stays n both.0 none (was n both.0 none true both.1)))
+      ∙ ap (λ (l : List ℕ). sealed keys n l (drawn_at reserve (old.own.place n) old.draws)) (sym (stays n both.0 none (was n both.0 none true both.1)))
       ∙ ap (λ (l : List ℕ). sealed keys n (plain n) l) (sym (draw_stays reserve (old.own.place n) old.draws draws (old.own.within n marked)))
 
   apart_by : (j k : ℕ) → (j < k) ⊎ (k ≤ j) → j ≢ k → ((length old.draws + j * reserve) + reserve ≤ length old.draws + k * reserve) ⊎ ((length old.draws + k * reserve) + reserve ≤ length old.draws + j * reserve)

@@ -8,7 +8,7 @@ use Rattle.std.proofs.Math.ListN.{get_or-append}
 use Rattle.std.proofs.Math.Seq.{get_or-append_seam, take-append_seam}
 use Rattle.page_cache.specs.Lending.{laid_over}
 use Rattle.page_cache.specs.Cache.{written_over}
-use Rattle.page_cache.specs.Pages.{Page, Pages, page_at, bytes_at, is_held, changed, fresh_page, without}
+use Rattle.page_cache.specs.Pages.{Page, HeldPages, held_page, held_bytes, is_held, changed, fresh_frame, without}
 use Rattle.page_cache.proofs.CallerLemmas.{number_of}
 use Rattle.pager.specs.Changed.{AreListed, Changed, IsListing, is_listed, unchanged, with_bytes}
 use Rattle.pager.specs.Held.{bytes_of_page}
@@ -38,8 +38,8 @@ listed_more n x (m ∷ ms) = (elim (m == n) as (λ b. (if b then true else is_li
 
 -- ---- one page more
 
-held_more : (n m usable : ℕ) (held : List Page) → is_held m (fresh_page n usable ∷ held) ≡ (if n == m then true else is_held m held)
-held_more n m usable held = (elim (n == m) as (λ b. is_some (cond b (Some (fresh_page n usable)) (page_at m held)) ≡ (if b then true else is_held m held)) [
+held_more : (n m usable : ℕ) (held : List Page) → is_held m (fresh_frame n usable ∷ held) ≡ (if n == m then true else is_held m held)
+held_more n m usable held = (elim (n == m) as (λ b. is_some (cond b (Some (fresh_frame n usable)) (held_page m held)) ≡ (if b then true else is_held m held)) [
   | true ↦ refl
   | false ↦ refl
 ])
@@ -77,7 +77,7 @@ module _ (c : Changed) (n : ℕ) (listing : IsListing c) (from : 1 ≤ n) (to : 
       let held : is_held n c.held ≡ true = sym (listing.named n) ∙ there in
       cc
 
-  pub listing_added : IsListing (record c { numbers = c.numbers ++ n ∷ []; held = fresh_page n c.usable ∷ c.held })
+  pub listing_added : IsListing (record c { numbers = c.numbers ++ n ∷ []; held = fresh_frame n c.usable ∷ c.held })
   listing_added = record {
     in_range = λ k less. ⊎_elim
         (λ (old : k < length c.numbers). subst (λ (m : ℕ). (1 ≤ m) × (m ≤ c.pages)) (sym (before k old)) (listing.in_range k old))
@@ -103,7 +103,7 @@ module _ (n : ℕ) (w : List ℕ) where
   some_map f (Some p) = refl
 
   pub held_written : (m : ℕ) (ps : List Page) → is_held m (changed n (written_over w) ps) ≡ is_held m ps
-  held_written m ps = ap is_some (at_changed (written_over w) (λ p. refl) n m ps) ∙ some_map (λ p. cond (p.number == n) (written_over w p) p) (page_at m ps)
+  held_written m ps = ap is_some (at_changed (written_over w) (λ p. refl) n m ps) ∙ some_map (λ p. cond (p.number == n) (written_over w p) p) (held_page m ps)
 
   pub listing_written : (c : Changed) → IsListing c → IsListing (record c { held = changed n (written_over w) c.held })
   listing_written c listing = record {
@@ -117,8 +117,8 @@ module _ (n : ℕ) (w : List ℕ) where
 
 -- ---- the bytes of the pages
 
-pub is_there : (n : ℕ) (ps : List Page) → is_some (bytes_at n ps) ≡ is_held n ps
-is_there n ps = by_page (page_at n ps)
+pub is_there : (n : ℕ) (ps : List Page) → is_some (held_bytes n ps) ≡ is_held n ps
+is_there n ps = by_page (held_page n ps)
   where
     by_page : (o : Option Page) → is_some (option_map (λ page. page.bytes) o) ≡ is_some o
     by_page None = refl
@@ -130,32 +130,32 @@ laid_full old w same = subst (λ k. take k (w ++ drop (length w) old) ≡ w) sam
 some_bytes : (x y : List ℕ) → Some x ≡ Some y → x ≡ y
 some_bytes x y e = cc
 
-written_here : (n : ℕ) (w x : List ℕ) (ps : List Page) (o : Option Page) → page_at n ps ≡ o → option_map (λ p. p.bytes) o ≡ Some x → length w ≡ length x
+written_here : (n : ℕ) (w x : List ℕ) (ps : List Page) (o : Option Page) → held_page n ps ≡ o → option_map (λ p. p.bytes) o ≡ Some x → length w ≡ length x
     → option_map (λ p. p.bytes) (option_map (λ p. cond (p.number == n) (written_over w p) p) o) ≡ Some w
 written_here n w x ps None is there same = cc
 written_here n w x ps (Some p) is there same = rw (number_of n ps p is) (ap (λ (l : List ℕ). Some l) (laid_full p.bytes w (same ∙ ap length (sym (some_bytes p.bytes x there)))))
 
-not_written : (n m : ℕ) (w : List ℕ) (ps : List Page) (o : Option Page) → (m == n) ≡ false → page_at m ps ≡ o
+not_written : (n m : ℕ) (w : List ℕ) (ps : List Page) (o : Option Page) → (m == n) ≡ false → held_page m ps ≡ o
     → option_map (λ p. p.bytes) (option_map (λ p. cond (p.number == n) (written_over w p) p) o) ≡ option_map (λ p. p.bytes) o
 not_written n m w ps None other is = refl
 not_written n m w ps (Some p) other is =
     let apart : (p.number == n) ≡ false = rw (same_number p.number m (number_of m ps p is)) other in rw apart refl
 
 -- the page that is written has the new bytes, and each other page its own
-pub bytes_written : (n : ℕ) (w x : List ℕ) (ps : List Page) → bytes_at n ps ≡ Some x → length w ≡ length x → (m : ℕ)
-    → bytes_at m (changed n (written_over w) ps) ≡ (if m == n then Some w else bytes_at m ps)
+pub bytes_written : (n : ℕ) (w x : List ℕ) (ps : List Page) → held_bytes n ps ≡ Some x → length w ≡ length x → (m : ℕ)
+    → held_bytes m (changed n (written_over w) ps) ≡ (if m == n then Some w else held_bytes m ps)
 bytes_written n w x ps there same m =
     ap (λ (o : Option Page). option_map (λ p. p.bytes) o) (at_changed (written_over w) (λ p. refl) n m ps)
-    ∙ ((elim (m == n) as (λ y. (m == n) ≡ y → option_map (λ p. p.bytes) (option_map (λ p. cond (p.number == n) (written_over w p) p) (page_at m ps)) ≡ (if y then Some w else bytes_at m ps)) [
-      | true ↦ λ t. subst (λ k. option_map (λ p. p.bytes) (option_map (λ p. cond (p.number == n) (written_over w p) p) (page_at k ps)) ≡ Some w)
-          (sym (same_number m n t)) (written_here n w x ps (page_at n ps) refl there same)
-      | false ↦ λ t. not_written n m w ps (page_at m ps) t refl
+    ∙ ((elim (m == n) as (λ y. (m == n) ≡ y → option_map (λ p. p.bytes) (option_map (λ p. cond (p.number == n) (written_over w p) p) (held_page m ps)) ≡ (if y then Some w else held_bytes m ps)) [
+      | true ↦ λ t. subst (λ k. option_map (λ p. p.bytes) (option_map (λ p. cond (p.number == n) (written_over w p) p) (held_page k ps)) ≡ Some w)
+          (sym (same_number m n t)) (written_here n w x ps (held_page n ps) refl there same)
+      | false ↦ λ t. not_written n m w ps (held_page m ps) t refl
     ]) refl)
 
 -- a page that is added is zeros
-pub bytes_added : (n usable : ℕ) (ps : List Page) (m : ℕ) → bytes_at m (fresh_page n usable ∷ ps) ≡ (if m == n then Some (replicate usable 0) else bytes_at m ps)
-bytes_added n usable ps m = (elim (m == n) as (λ y. (m == n) ≡ y → bytes_at m (fresh_page n usable ∷ ps) ≡ (if y then Some (replicate usable 0) else bytes_at m ps)) [
-  | true ↦ λ t. subst (λ k. bytes_at k (fresh_page n usable ∷ ps) ≡ Some (replicate usable 0)) (sym (same_number m n t)) (rw (eqb-refl n) refl)
+pub bytes_added : (n usable : ℕ) (ps : List Page) (m : ℕ) → held_bytes m (fresh_frame n usable ∷ ps) ≡ (if m == n then Some (replicate usable 0) else held_bytes m ps)
+bytes_added n usable ps m = (elim (m == n) as (λ y. (m == n) ≡ y → held_bytes m (fresh_frame n usable ∷ ps) ≡ (if y then Some (replicate usable 0) else held_bytes m ps)) [
+  | true ↦ λ t. subst (λ k. held_bytes k (fresh_frame n usable ∷ ps) ≡ Some (replicate usable 0)) (sym (same_number m n t)) (rw (eqb-refl n) refl)
   | false ↦ λ t. let other : (n == m) ≡ false = flipped m n t in rw other refl
 ]) refl
   where
@@ -178,7 +178,7 @@ length_over at src page within = omega (
   length-drop (at + length src) page,
 )
 
-pub page_is : (n : ℕ) (x : List ℕ) (ps : List Page) → bytes_at n ps ≡ Some x → bytes_of_page n ps ≡ x
+pub page_is : (n : ℕ) (x : List ℕ) (ps : List Page) → held_bytes n ps ≡ Some x → bytes_of_page n ps ≡ x
 page_is n x ps there = ap (λ (o : Option (List ℕ)). unwrap_or o []) there
 
 -- all bytes of a page are replaced
@@ -199,7 +199,7 @@ all_listed ms [] listed = tt
 all_listed ms (p ∷ ps) listed = (listed p.number (rw (eqb-refl p.number) refl), all_listed ms ps (λ m is. listed m (later m is)))
   where
     later : (m : ℕ) → is_held m ps ≡ true → is_held m (p ∷ ps) ≡ true
-    later m is = (elim (p.number == m) as (λ b. is_some (cond b (Some p) (page_at m ps)) ≡ true) [ true ↦ refl | false ↦ is ])
+    later m is = (elim (p.number == m) as (λ b. is_some (cond b (Some p) (held_page m ps)) ≡ true) [ true ↦ refl | false ↦ is ])
 
 -- the first of the numbers leaves
 pub listed_without : (n : ℕ) (ms : List ℕ) (ps : List Page) → AreListed (n ∷ ms) ps → AreListed ms (without n ps)
@@ -215,7 +215,7 @@ listed_none [] all = refl
 listed_none (p ∷ ps) all = absurd (let is : false ≡ true = all.0 in cc)
 
 -- nothing is held, and the sizes stay
-pub emptied : (p q : Pages) → p.held ≡ [] → p.frames ≡ q.frames → p.usable ≡ q.usable → p ≡ record q { held = [] }
+pub emptied : (p q : HeldPages) → p.held ≡ [] → p.frames ≡ q.frames → p.usable ≡ q.usable → p ≡ record q { held = [] }
 emptied p q none frames usable =
     ap (λ (ps : List Page). record p { held = ps }) none
     ∙ ap (λ (n : ℕ). record p { held = []; frames = n }) frames

@@ -4,7 +4,7 @@ use Rattle.std.proofs.Math.Nat.{mul-le-mul_right}
 use Rattle.cipher_profile.specs.Profile.{IsListed}
 use Rattle.cipher_profile.specs.declared.profile.Profile.{Profile}
 use Rattle.cipher_profile.proofs.Layouts.{IsListed-laid_out}
-use Rattle.transaction.specs.Commit.{AreChanges}
+use Rattle.atomic_commit.specs.Commit.{AreChanges}
 use Rattle.pager.specs.Changed.{Changed, IsListing}
 
 pub are_changes : (c : Changed) (pages : ℕ) → IsListing c → c.pages ≡ pages → 0 < pages → AreChanges pages c.numbers

@@ -9,9 +9,9 @@ use Rattle.cipher_profile.specs.declared.profile.Profile.{Profile}
 use Rattle.cipher_profile.proofs.Layouts.{IsListed-laid_out}
 use Rattle.page_cache.specs.Pages.{is_held}
 use Rattle.page_codec.specs.Page.{FileKeys, accepts, opened, sealed}
-use Rattle.page_codec.specs.Pages.{page_at, sealed_page}
+use Rattle.page_codec.specs.Pages.{nth_page, sealed_page}
 use Rattle.page_codec.proofs.PageFacts.{ends_by}
-use Rattle.pager.specs.Changed.{AreSealed, Changed, IsLaid, IsListing, IsSealed, draw_of, is_listed}
+use Rattle.pager.specs.Changed.{AreSealed, Changed, IsLaid, IsListing, IsPageSealed, draw_of, is_listed}
 use Rattle.pager.specs.Held.{bytes_of_page}
 use Rattle.pager.proofs.ChangedLemmas.{listed_at}
 
@@ -38,7 +38,7 @@ from_two c listing others k d less =
 pub sealed_laid : (keys : FileKeys) (c : Changed) (draws page stored : List ℕ) (k : ℕ) → IsLaid keys c draws k page
     → stored ≡ sealed_page keys (slice_index c.numbers k) page → length stored ≡ keys.profile.page_size
     → IsTrue (accepts keys (slice_index c.numbers k) stored) → opened keys (slice_index c.numbers k) stored ≡ take (usable keys.profile) page
-    → IsSealed keys c draws k stored
+    → IsPageSealed keys c draws k stored
 sealed_laid keys c draws page stored k laid is size accepted opens =
     let n : ℕ = slice_index c.numbers k in
     let u : ℕ = usable keys.profile in
@@ -55,7 +55,7 @@ sealed_laid keys c draws page stored k laid is size accepted opens =
     }
 
 -- a page of the front part of the room
-page_in_front : (size k many : ℕ) (room pages : List ℕ) → take many room ≡ pages → size * k + size ≤ many → page_at size room k ≡ page_at size pages k
+page_in_front : (size k many : ℕ) (room pages : List ℕ) → take many room ≡ pages → size * k + size ≤ many → nth_page size room k ≡ nth_page size pages k
 page_in_front size k many room pages is within =
     let from : ℕ = size * k in
     let whole : from + size - from ≡ size = omega arith in
@@ -67,11 +67,11 @@ page_in_front size k many room pages is within =
 
 -- all pages are sealed at the start of the room
 pub sealed_in_front : (keys : FileKeys) (c : Changed) (draws room pages : List ℕ) (count : ℕ) → take (keys.profile.page_size * count) room ≡ pages
-    → keys.profile.page_size * count ≤ length room → ((k : ℕ) → k < count → IsSealed keys c draws k (page_at keys.profile.page_size pages k))
+    → keys.profile.page_size * count ≤ length room → ((k : ℕ) → k < count → IsPageSealed keys c draws k (nth_page keys.profile.page_size pages k))
     → AreSealed keys c draws room count
 sealed_in_front keys c draws room pages count is within each = record {
   size = within;
-  pages = λ k less. subst (IsSealed keys c draws k) (sym (page_in_front keys.profile.page_size k (keys.profile.page_size * count) room pages is (ends_by keys.profile.page_size k count less))) (each k less);
+  pages = λ k less. subst (IsPageSealed keys c draws k) (sym (page_in_front keys.profile.page_size k (keys.profile.page_size * count) room pages is (ends_by keys.profile.page_size k count less))) (each k less);
 }
 
 -- none is

@@ -8,7 +8,7 @@ use Rattle.cipher_profile.specs.Profile.{IsListed, is_plain}
 use Rattle.cipher_profile.specs.declared.profile.Profile.{Profile}
 use Rattle.cipher_profile.proofs.Layouts.{IsListed-laid_out}
 use Rattle.db_format.specs.Count.{largest_database}
-use Rattle.page_cache.specs.Pages.{Page, bytes_at, is_held}
+use Rattle.page_cache.specs.Pages.{Page, held_bytes, is_held}
 use Rattle.page_codec.specs.Page.{FileKeys, deciphered, magic, opened}
 use Rattle.page_codec.proofs.Parts.{opened_ciphered}
 use Rattle.pager.specs.Changed.{HasMagic, same_layout, with_bytes}
@@ -29,17 +29,17 @@ count_small count size some largest =
     let each : count ≤ count * size = le-mul_of_pos_right {m = size} count some in
     omega (arith, within, each)
 
-magic_as : (old new : List Page) → bytes_at 1 new ≡ bytes_at 1 old → HasMagic old → HasMagic new
+magic_as : (old new : List Page) → held_bytes 1 new ≡ held_bytes 1 old → HasMagic old → HasMagic new
 magic_as old new same begins = λ held.
     ap (λ (o : Option (List ℕ)). take 16 (unwrap_or o [])) same
     ∙ begins (sym (is_there 1 old) ∙ ap (λ (o : Option (List ℕ)). is_some o) (sym same) ∙ is_there 1 new ∙ held)
 
 -- another page is written
-pub magic_other : (n : ℕ) (w : List ℕ) (old new : List Page) → n ≢ 1 → ((m : ℕ) → bytes_at m new ≡ (if m == n then Some w else bytes_at m old))
+pub magic_other : (n : ℕ) (w : List ℕ) (old new : List Page) → n ≢ 1 → ((m : ℕ) → held_bytes m new ≡ (if m == n then Some w else held_bytes m old))
     → HasMagic old → HasMagic new
 magic_other n w old new other each begins =
     let apart : (1 == n) ≡ false = ne_eqb 1 n (λ is. other (sym is)) in
-    magic_as old new (each 1 ∙ ap (λ (b : Bool). if b then Some w else bytes_at 1 old) apart) begins
+    magic_as old new (each 1 ∙ ap (λ (b : Bool). if b then Some w else held_bytes 1 old) apart) begins
 
 first_bytes : (at : ℕ) (src page : List ℕ) → 16 ≤ at → 16 ≤ length page → take 16 (take at page ++ (src ++ drop (at + length src) page)) ≡ take 16 page
 first_bytes at src page le long =
@@ -48,20 +48,20 @@ first_bytes at src page le long =
 
 -- page 1 is written from byte 16 on
 pub magic_put : (n at : ℕ) (src : List ℕ) (old new : List Page) → (n ≡ 1 → 16 ≤ at) → is_held n old ≡ true
-    → ((m : ℕ) → bytes_at m new ≡ (if m == n then Some (with_bytes at src (bytes_of_page n old)) else bytes_at m old)) → HasMagic old → HasMagic new
+    → ((m : ℕ) → held_bytes m new ≡ (if m == n then Some (with_bytes at src (bytes_of_page n old)) else held_bytes m old)) → HasMagic old → HasMagic new
 magic_put n at src old new first there each begins = λ held. (elim (1 == n) as (λ b. (1 == n) ≡ b → take 16 (bytes_of_page 1 new) ≡ magic) [
   | true ↦ λ t.
       let is : 1 ≡ n = same_number 1 n t in
       let begun : take 16 (bytes_of_page 1 old) ≡ magic = begins (subst (λ (k : ℕ). is_held k old ≡ true) (sym is) there) in
       let sixteen : length (take 16 (bytes_of_page 1 old)) ≡ 16 = ap (λ (l : List ℕ). length l) begun in
       let long : 16 ≤ length (bytes_of_page 1 old) = omega (arith, sixteen, length-take 16 (bytes_of_page 1 old)) in
-      let now : bytes_at 1 new ≡ Some (with_bytes at src (bytes_of_page n old)) =
-      each 1 ∙ ap (λ (b : Bool). if b then Some (with_bytes at src (bytes_of_page n old)) else bytes_at 1 old) t in
+      let now : held_bytes 1 new ≡ Some (with_bytes at src (bytes_of_page n old)) =
+      each 1 ∙ ap (λ (b : Bool). if b then Some (with_bytes at src (bytes_of_page n old)) else held_bytes 1 old) t in
       ap (λ (l : List ℕ). take 16 l) (page_is 1 (with_bytes at src (bytes_of_page n old)) new now)
       ∙ ap (λ (k : ℕ). take 16 (with_bytes at src (bytes_of_page k old))) (sym is)
       ∙ first_bytes at src (bytes_of_page 1 old) (first (sym is)) long
       ∙ begun
-  | false ↦ λ t. magic_as old new (each 1 ∙ ap (λ (b : Bool). if b then Some (with_bytes at src (bytes_of_page n old)) else bytes_at 1 old) t) begins held
+  | false ↦ λ t. magic_as old new (each 1 ∙ ap (λ (b : Bool). if b then Some (with_bytes at src (bytes_of_page n old)) else held_bytes 1 old) t) begins held
 ]) refl
 
 -- page 1 of an encrypted file begins so

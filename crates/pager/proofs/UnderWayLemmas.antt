@@ -4,31 +4,30 @@ use Rattle.std.specs.Prelude.{get_or, slice_index, unwrap_or}
 use Rattle.std.proofs.Math.Nat.{mul-le-mul_right}
 use Rattle.std.proofs.Math.Seq.{take-append_seam}
 use Rattle.std.proofs.lemmas.List.{take-append-drop, length-replicate, get_or-replicate}
-use Rattle.edge_model.specs.Files.{File, Files, bytes_of as bytes_of_file}
+use Rattle.edge_model.specs.Files.{File, Files, bytes_of as bytes_of_file, contents, main_of}
 use Rattle.journal_format.specs.Records.{Record}
-use Rattle.page_cache.specs.Pages.{Page, bytes_at, is_held}
+use Rattle.page_cache.specs.Pages.{Page, held_bytes, is_held}
 use Rattle.page_codec.specs.Page.{FileKeys, accepts, magic, opened}
-use Rattle.pager.specs.Changed.{Changed, IsDrawn, IsListing, IsSealed, is_listed, with_bytes}
-use Rattle.pager.specs.File.{page_stored, main_of as file_main}
+use Rattle.pager.specs.Changed.{Changed, IsDrawn, IsListing, IsPageSealed, is_listed, with_bytes}
+use Rattle.pager.specs.File.{page_stored}
 use Rattle.pager.specs.Held.{bytes_of_page}
-use Rattle.pager.specs.Pages.{is_number, opened_pages}
+use Rattle.pager.specs.Pages.{is_page_number, opened_pages}
 use Rattle.pager.specs.UnderWay.{HasNewPages, IsUnderWay, Start, is_touched, keys_at, seen_pages, zeros}
 use Rattle.pager.proofs.BatchLemmas.{Found, find, batch_pages, number_in, number_is}
 use Rattle.pager.proofs.ChangedLemmas.{is_there, listed_at, page_is}
 use Rattle.pager.proofs.Filling.{same_number}
 use Rattle.pager.proofs.TxnLemmas.{magic_kept}
-use Rattle.rollback_journal.specs.Playing.{contents, main_of}
 use Rattle.rollback_journal.specs.Writing.{Writing}
-use Rattle.transaction.specs.Batches.{HasBatches, HasMarked, IsWritten}
-use Rattle.transaction.specs.Commit.{AreChanges}
-use Rattle.transaction.specs.Database.{Base, stored_page}
-use Rattle.transaction.specs.Facts.{Facts, IsBase, IsBegun}
+use Rattle.atomic_commit.specs.Batches.{HasBatches, HasMarked, IsBatchWritten}
+use Rattle.atomic_commit.specs.Commit.{AreChanges}
+use Rattle.atomic_commit.specs.Database.{Base, stored_page}
+use Rattle.atomic_commit.specs.Facts.{Facts, IsBase, IsCommitBegun}
 use Rattle.cipher_profile.specs.Profile.{is_plain}
-use Rattle.transaction.specs.Marks.{is_marked, marked_count}
-use Rattle.transaction.proofs.Batched.{none_or_some, batches_first, count_none}
-use Rattle.transaction.proofs.Changed.{changed_none}
-use Rattle.transaction.proofs.Kept.{begun_pages}
-use Rattle.transaction.proofs.OwnDraws.{own_none}
+use Rattle.atomic_commit.specs.Marks.{is_marked, marked_count}
+use Rattle.atomic_commit.proofs.Batched.{none_or_some, batches_first, count_none}
+use Rattle.atomic_commit.proofs.Changed.{changed_none}
+use Rattle.atomic_commit.proofs.Kept.{begun_pages}
+use Rattle.atomic_commit.proofs.OwnDraws.{own_none}
 
 not_both : (b : Bool) → b ≡ true → b ≡ false → ⊥
 not_both b is not = cc
@@ -70,7 +69,7 @@ batches_long base marks safe waiting left beside now images here has = go (none_
 
 -- ---- the beginning
 
-unmarked : (pages n : ℕ) → is_number pages n ≡ true → is_marked n (replicate pages false) ≡ false
+unmarked : (pages n : ℕ) → is_page_number pages n ≡ true → is_marked n (replicate pages false) ≡ false
 unmarked pages n num = let range = number_in pages n num in get_or-replicate pages (n - 1) false false (omega (arith, range.0, range.1))
 
 none_marked : (pages i : ℕ) → get_or (replicate pages false) i false ≡ false
@@ -91,12 +90,12 @@ none_sealed false m none = refl
 
 -- nothing was changed, and nothing drawn
 pub new_none : (start : Start) (keys : FileKeys) (plain : ℕ → List ℕ) (tells : Bool) (drawn main : List ℕ) → keys.profile.page_size ≡ start.base.size → start.drawn ≡ drawn
-    → ((n : ℕ) → is_number start.base.pages n ≡ true → stored_page start.base.size n main ≡ stored_page start.base.size n start.base.start)
+    → ((n : ℕ) → is_page_number start.base.pages n ≡ true → stored_page start.base.size n main ≡ stored_page start.base.size n start.base.start)
     → HasNewPages start keys (λ n. is_marked n (replicate start.base.pages false)) plain tells drawn main
 new_none start keys plain tells drawn main size same others = record {
   draws = [];
   since = λ told. sym same ∙ sym (append-nil start.drawn);
-  own = own_none keys.profile.reserve 0 [] _ _ (λ n. none_sealed (is_number start.base.pages n) (is_marked n (replicate start.base.pages false)) (unmarked start.base.pages n));
+  own = own_none keys.profile.reserve 0 [] _ _ (λ n. none_sealed (is_page_number start.base.pages n) (is_marked n (replicate start.base.pages false)) (unmarked start.base.pages n));
   whole = λ n num is. absurd (not_both _ is (unmarked start.base.pages n num));
   sizes = λ n num is. absurd (not_both _ is (unmarked start.base.pages n num));
   accepted = λ n num is. absurd (not_both _ is (unmarked start.base.pages n num));
@@ -105,7 +104,7 @@ new_none start keys plain tells drawn main size same others = record {
 }
 
 pub under_way_first : (start : Start) (keys : FileKeys) (w : Writing) (now : Files) (images : Files → Type 0) (tells : Bool) (drawn : List ℕ) → keys.profile.page_size ≡ start.base.size → start.drawn ≡ drawn
-    → images now → IsBegun start.base images → IsUnderWay start keys (replicate start.base.pages false) (replicate start.base.pages false) w now images tells drawn
+    → images now → IsCommitBegun start.base images → IsUnderWay start keys (replicate start.base.pages false) (replicate start.base.pages false) w now images tells drawn
 under_way_first start keys w now images tells drawn size same here begun = record {
   batches = batches_first start.base (replicate start.base.pages false) _ _ _ _ now images (count_none start.base.pages) begun;
   pages = new_none start keys _ tells drawn (main_of now) size same (λ n num.
@@ -134,7 +133,7 @@ free_unlisted c n listing none = go (is_held n c.held) refl
     go true is = absurd (let at = found_of n c.numbers (listing.named n ∙ is) in none at.0 at.1 at.2)
 
 -- a batch changes no page that was not changed
-pub touched_after : (pages : ℕ) (marks after : List Bool) (c : Changed) → IsListing c → HasMarked c.numbers (length c.numbers) marks after → (n : ℕ) → is_number pages n ≡ true
+pub touched_after : (pages : ℕ) (marks after : List Bool) (c : Changed) → IsListing c → HasMarked c.numbers (length c.numbers) marks after → (n : ℕ) → is_page_number pages n ≡ true
     → is_touched after [] n ≡ is_touched marks c.held n
 touched_after pages marks after c listing has n num = go (find n c.numbers (length c.numbers))
   where
@@ -152,27 +151,27 @@ none_or None x none = refl
 none_or (Some y) x none = absurd (not_both true refl none)
 
 -- a page that a frame holds is its bytes
-pub held_or : (n : ℕ) (held : List Page) (x : List ℕ) → is_held n held ≡ true → unwrap_or (bytes_at n held) x ≡ bytes_of_page n held
-held_or n held x is = some_or (bytes_at n held) x (is_there n held ∙ is)
+pub held_or : (n : ℕ) (held : List Page) (x : List ℕ) → is_held n held ≡ true → unwrap_or (held_bytes n held) x ≡ bytes_of_page n held
+held_or n held x is = some_or (held_bytes n held) x (is_there n held ∙ is)
 
 -- and one that none holds is what it is else
-pub free_or : (n : ℕ) (held : List Page) (x : List ℕ) → is_held n held ≡ false → unwrap_or (bytes_at n held) x ≡ x
-free_or n held x is = none_or (bytes_at n held) x (is_there n held ∙ is)
+pub free_or : (n : ℕ) (held : List Page) (x : List ℕ) → is_held n held ≡ false → unwrap_or (held_bytes n held) x ≡ x
+free_or n held x is = none_or (held_bytes n held) x (is_there n held ∙ is)
 
-pub opened_at : (keys : FileKeys) (file : List ℕ) (count n : ℕ) → is_number count n ≡ true → (opened_pages keys file count).page n ≡ opened keys n (page_stored keys file n)
+pub opened_at : (keys : FileKeys) (file : List ℕ) (count n : ℕ) → is_page_number count n ≡ true → (opened_pages keys file count).page n ≡ opened keys n (page_stored keys file n)
 opened_at keys file count n num = ap (λ (b : Bool). if b then opened keys n (page_stored keys file n) else []) num
 
 -- ---- what is seen after a batch
 
 module _ (start : Start) (read write : FileKeys) (marks : List Bool) (c : Changed) (draws main new : List ℕ) (layout : write.profile.page_size ≡ read.profile.page_size) (size : write.profile.page_size ≡ start.base.size)
-    (listing : IsListing c) (changes : AreChanges start.base.pages c.numbers) (written : IsWritten start.base main c.numbers (IsSealed write c draws) (length c.numbers) new) where
+    (listing : IsListing c) (changes : AreChanges start.base.pages c.numbers) (written : IsBatchWritten start.base main c.numbers (IsPageSealed write c draws) (length c.numbers) new) where
   abbrev Apart : ℕ → Type 0
   Apart n = (k : ℕ) → k < length c.numbers → slice_index c.numbers k ≢ n
 
-  at_listed : (k : ℕ) → k < length c.numbers → IsSealed write c draws k (page_stored write new (slice_index c.numbers k))
-  at_listed k lt = subst (λ (s : ℕ). IsSealed write c draws k (stored_page s (slice_index c.numbers k) new)) (sym size) (written.sealed k lt)
+  at_listed : (k : ℕ) → k < length c.numbers → IsPageSealed write c draws k (page_stored write new (slice_index c.numbers k))
+  at_listed k lt = subst (λ (s : ℕ). IsPageSealed write c draws k (stored_page s (slice_index c.numbers k) new)) (sym size) (written.sealed k lt)
 
-  same : (keys : FileKeys) (n : ℕ) → keys.profile.page_size ≡ start.base.size → is_number start.base.pages n ≡ true → Apart n → page_stored keys new n ≡ page_stored keys main n
+  same : (keys : FileKeys) (n : ℕ) → keys.profile.page_size ≡ start.base.size → is_page_number start.base.pages n ≡ true → Apart n → page_stored keys new n ≡ page_stored keys main n
   same keys n sized num none =
       let range = number_in start.base.pages n num in
       subst (λ (s : ℕ). stored_page s n new ≡ stored_page s n main) (sym sized) (written.others n range.0 range.1 none)
@@ -182,7 +181,7 @@ module _ (start : Start) (read write : FileKeys) (marks : List Bool) (c : Change
   at_size false = sym layout ∙ size
 
   module _ (after : List Bool) (has : HasMarked c.numbers (length c.numbers) marks after) where
-    seen_at : (n : ℕ) → is_number start.base.pages n ≡ true → Found n c.numbers (length c.numbers)
+    seen_at : (n : ℕ) → is_page_number start.base.pages n ≡ true → Found n c.numbers (length c.numbers)
         → (seen_pages read write new start.base.pages after []).page n ≡ (seen_pages read write main start.base.pages marks c.held).page n
     seen_at n num (inl at) = subst (λ (p : ℕ). (seen_pages read write new start.base.pages after []).page p ≡ (seen_pages read write main start.base.pages marks c.held).page p) at.2 (
         let p = slice_index c.numbers at.0 in
@@ -200,15 +199,15 @@ module _ (start : Start) (read write : FileKeys) (marks : List Bool) (c : Change
         ∙ sym (opened_at (keys_at read write marks n) main start.base.pages n num)
         ∙ sym (free_or n c.held _ (free_unlisted c n listing none))
 
-    unnumbered : (n : ℕ) → is_number start.base.pages n ≡ false → Apart n
+    unnumbered : (n : ℕ) → is_page_number start.base.pages n ≡ false → Apart n
     unnumbered n not k lt is =
         let range = changes.in_range k lt in
-        not_both (is_number start.base.pages n) (subst (λ (p : ℕ). is_number start.base.pages p ≡ true) is (number_is start.base.pages (slice_index c.numbers k) range.0 range.1)) not
+        not_both (is_page_number start.base.pages n) (subst (λ (p : ℕ). is_page_number start.base.pages p ≡ true) is (number_is start.base.pages (slice_index c.numbers k) range.0 range.1)) not
 
     pub seen_after : (n : ℕ) → (seen_pages read write new start.base.pages after []).page n ≡ (seen_pages read write main start.base.pages marks c.held).page n
-    seen_after n = go (is_number start.base.pages n) refl
+    seen_after n = go (is_page_number start.base.pages n) refl
       where
-        go : (b : Bool) → is_number start.base.pages n ≡ b → (seen_pages read write new start.base.pages after []).page n ≡ (seen_pages read write main start.base.pages marks c.held).page n
+        go : (b : Bool) → is_page_number start.base.pages n ≡ b → (seen_pages read write new start.base.pages after []).page n ≡ (seen_pages read write main start.base.pages marks c.held).page n
         go true num = seen_at n num (find n c.numbers (length c.numbers))
         go false not =
             ap (λ (b : Bool). if b then opened (keys_at read write after n) n (page_stored (keys_at read write after n) new n) else []) not
@@ -245,7 +244,7 @@ of_file : (o : Option File) → unwrap_or (bytes_of_file o) [] ≡ contents o
 of_file None = refl
 of_file (Some f) = refl
 
-pub same_main : (f : Files) → file_main f ≡ main_of f
+pub same_main : (f : Files) → main_of f ≡ main_of f
 same_main f = of_file f.main
 
 -- Main has page n
@@ -260,14 +259,14 @@ pub laid_whole : (len : ℕ) (new old : List ℕ) → length new ≡ len → tak
 laid_whole len new old is = ap (λ (k : ℕ). take k (new ++ drop (length new) old)) (sym is) ∙ take-append_seam new (drop (length new) old)
 
 -- page n as the transaction sees it, where no frame holds it
-pub seen_free : (read write : FileKeys) (file : List ℕ) (count n : ℕ) (marks : List Bool) (held : List Page) (b : Bool) → is_number count n ≡ true → is_held n held ≡ false → is_marked n marks ≡ b
+pub seen_free : (read write : FileKeys) (file : List ℕ) (count n : ℕ) (marks : List Bool) (held : List Page) (b : Bool) → is_page_number count n ≡ true → is_held n held ≡ false → is_marked n marks ≡ b
     → opened (if b then write else read) n (page_stored (if b then write else read) file n) ≡ (seen_pages read write file count marks held).page n
 seen_free read write file count n marks held b num free is =
     ap (λ (x : Bool). opened (if x then write else read) n (page_stored (if x then write else read) file n)) (sym is)
     ∙ sym (opened_at (keys_at read write marks n) file count n num)
     ∙ sym (free_or n held _ free)
 
-pub seen_refused : (read write : FileKeys) (file : List ℕ) (count n : ℕ) (marks : List Bool) (held : List Page) (b : Bool) → is_number count n ≡ true → is_held n held ≡ false → is_marked n marks ≡ b
+pub seen_refused : (read write : FileKeys) (file : List ℕ) (count n : ℕ) (marks : List Bool) (held : List Page) (b : Bool) → is_page_number count n ≡ true → is_held n held ≡ false → is_marked n marks ≡ b
     → accepts (if b then write else read) n (page_stored (if b then write else read) file n) ≡ false → (seen_pages read write file count marks held).accepts n ≡ false
 seen_refused read write file count n marks held b num free is not =
     ap (λ (x : Bool). x || (opened_pages (keys_at read write marks n) file count).accepts n) free
@@ -277,27 +276,27 @@ seen_refused read write file count n marks held b num free is not =
 
 -- ---- one page is changed
 
-pub seen_put : (read write : FileKeys) (file : List ℕ) (count : ℕ) (marks : List Bool) (old new : List Page) (n : ℕ) (w : List ℕ) → ((m : ℕ) → bytes_at m new ≡ (if m == n then Some w else bytes_at m old)) → (m : ℕ)
+pub seen_put : (read write : FileKeys) (file : List ℕ) (count : ℕ) (marks : List Bool) (old new : List Page) (n : ℕ) (w : List ℕ) → ((m : ℕ) → held_bytes m new ≡ (if m == n then Some w else held_bytes m old)) → (m : ℕ)
     → (seen_pages read write file count marks new).page m ≡ (if m == n then w else (seen_pages read write file count marks old).page m)
 seen_put read write file count marks old new n w put m =
     ap (λ (o : Option (List ℕ)). unwrap_or o ((opened_pages (keys_at read write marks m) file count).page m)) (put m)
-    ∙ (elim (m == n) as (λ b. unwrap_or (if b then Some w else bytes_at m old) ((opened_pages (keys_at read write marks m) file count).page m) ≡ (if b then w else (seen_pages read write file count marks old).page m)) [
+    ∙ (elim (m == n) as (λ b. unwrap_or (if b then Some w else held_bytes m old) ((opened_pages (keys_at read write marks m) file count).page m) ≡ (if b then w else (seen_pages read write file count marks old).page m)) [
       | true ↦ refl
       | false ↦ refl
     ])
 
 -- a frame holds it, and every other page as before
-pub held_put : (old new : List Page) (n : ℕ) (w : List ℕ) → ((m : ℕ) → bytes_at m new ≡ (if m == n then Some w else bytes_at m old)) → (m : ℕ) → is_held m new ≡ (if m == n then true else is_held m old)
+pub held_put : (old new : List Page) (n : ℕ) (w : List ℕ) → ((m : ℕ) → held_bytes m new ≡ (if m == n then Some w else held_bytes m old)) → (m : ℕ) → is_held m new ≡ (if m == n then true else is_held m old)
 held_put old new n w put m =
     sym (is_there m new)
     ∙ ap is_some (put m)
-    ∙ ((elim (m == n) as (λ b. is_some (if b then Some w else bytes_at m old) ≡ (if b then true else is_held m old)) [
+    ∙ ((elim (m == n) as (λ b. is_some (if b then Some w else held_bytes m old) ≡ (if b then true else is_held m old)) [
       | true ↦ refl
       | false ↦ is_there m old
     ]))
 
 -- and one that it held before
-pub held_again : (old new : List Page) (n : ℕ) (w : List ℕ) → is_held n old ≡ true → ((m : ℕ) → bytes_at m new ≡ (if m == n then Some w else bytes_at m old)) → (m : ℕ) → is_held m new ≡ is_held m old
+pub held_again : (old new : List Page) (n : ℕ) (w : List ℕ) → is_held n old ≡ true → ((m : ℕ) → held_bytes m new ≡ (if m == n then Some w else held_bytes m old)) → (m : ℕ) → is_held m new ≡ is_held m old
 held_again old new n w held put m =
     held_put old new n w put m
     ∙ ((elim (m == n) as (λ b. (m == n) ≡ b → (if b then true else is_held m old) ≡ is_held m old) [
@@ -339,7 +338,7 @@ keys_ciphered read write marks n old new = either (is_marked n marks)
     either true = new
     either false = old
 
-pub seen_begins : (read write : FileKeys) (file : List ℕ) (count n : ℕ) (marks : List Bool) (held : List Page) → is_plain read.profile ≡ false → is_plain write.profile ≡ false → n ≡ 1 → is_number count n ≡ true → is_held n held ≡ false
+pub seen_begins : (read write : FileKeys) (file : List ℕ) (count n : ℕ) (marks : List Bool) (held : List Page) → is_plain read.profile ≡ false → is_plain write.profile ≡ false → n ≡ 1 → is_page_number count n ≡ true → is_held n held ≡ false
     → take 16 ((seen_pages read write file count marks held).page n) ≡ magic
 seen_begins read write file count n marks held old new is num free =
     ap (λ (l : List ℕ). take 16 l) (free_or n held _ free ∙ opened_at (keys_at read write marks n) file count n num)
@@ -349,14 +348,14 @@ magic_whole : (plain : List ℕ) → take 16 plain ≡ magic → with_bytes 0 ma
 magic_whole plain begins = ap (λ (l : List ℕ). l ++ drop 16 plain) (sym begins) ∙ take-append-drop 16 plain
 
 -- its first bytes are put over it
-pub first_put : (n : ℕ) (plain : List ℕ) (old mid new : List Page) → n ≡ 1 → take 16 plain ≡ magic → ((m : ℕ) → bytes_at m mid ≡ (if m == n then Some plain else bytes_at m old))
-    → ((m : ℕ) → bytes_at m new ≡ (if m == 1 then Some (with_bytes 0 magic (bytes_of_page 1 mid)) else bytes_at m mid)) → (m : ℕ) → bytes_at m new ≡ (if m == n then Some plain else bytes_at m old)
+pub first_put : (n : ℕ) (plain : List ℕ) (old mid new : List Page) → n ≡ 1 → take 16 plain ≡ magic → ((m : ℕ) → held_bytes m mid ≡ (if m == n then Some plain else held_bytes m old))
+    → ((m : ℕ) → held_bytes m new ≡ (if m == 1 then Some (with_bytes 0 magic (bytes_of_page 1 mid)) else held_bytes m mid)) → (m : ℕ) → held_bytes m new ≡ (if m == n then Some plain else held_bytes m old)
 first_put n plain old mid new is begins bring put m =
-    let here : bytes_at 1 mid ≡ Some plain = bring 1 ∙ ap (λ (k : ℕ). if 1 == k then Some plain else bytes_at 1 old) is in
+    let here : held_bytes 1 mid ≡ Some plain = bring 1 ∙ ap (λ (k : ℕ). if 1 == k then Some plain else held_bytes 1 old) is in
     let whole : with_bytes 0 magic (bytes_of_page 1 mid) ≡ plain = ap (λ (l : List ℕ). with_bytes 0 magic l) (page_is 1 plain mid here) ∙ magic_whole plain begins in
     put m
-    ∙ ((elim (m == 1) as (λ b. (m == 1) ≡ b → (if b then Some (with_bytes 0 magic (bytes_of_page 1 mid)) else bytes_at m mid) ≡ (if m == n then Some plain else bytes_at m old)) [
-      | true ↦ λ t. ap (λ (l : List ℕ). Some l) whole ∙ sym (ap (λ (b : Bool). if b then Some plain else bytes_at m old) (ap (λ (k : ℕ). m == k) is ∙ t))
+    ∙ ((elim (m == 1) as (λ b. (m == 1) ≡ b → (if b then Some (with_bytes 0 magic (bytes_of_page 1 mid)) else held_bytes m mid) ≡ (if m == n then Some plain else held_bytes m old)) [
+      | true ↦ λ t. ap (λ (l : List ℕ). Some l) whole ∙ sym (ap (λ (b : Bool). if b then Some plain else held_bytes m old) (ap (λ (k : ℕ). m == k) is ∙ t))
       | false ↦ λ t. bring m
     ]) refl)
 

@@ -3,7 +3,7 @@ use Rattle.std.specs.Prelude.{ℕ, ◌==◌, Bool, false, List, Option, Some, No
 use Rattle.page_codec.specs.Page.{FileKeys}
 use Rattle.pager.specs.Database.{count_by}
 use Rattle.pager.specs.File.{page_stored}
-use Rattle.transaction.specs.Database.{Base}
+use Rattle.atomic_commit.specs.Database.{Base}
 
 -- it is this number
 abbrev pub is_some_of : ℕ → Option ℕ → Bool

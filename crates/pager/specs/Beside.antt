@@ -7,7 +7,7 @@ use Rattle.std.proofs.Transfers.{starts_with_of_eq, starts_with_trans}
 use Rattle.edge_model.specs.Files.{Files}
 use Rattle.edge_model.specs.Images.{LeavesOnly}
 use Rattle.edge_model.specs.Moments.{goes_less, started_from}
-use Rattle.disk_side.specs.OnlyFresh.{IsOld, OnlyFresh, only_fresh_joins, only_fresh_stays, run_joins}
+use Rattle.fresh_disk.specs.OnlyFresh.{IsOld, OnlyFresh, only_fresh_joins, only_fresh_stays, run_joins}
 use Rattle.pager.specs.Reads.{DiskRead, Untouched}
 
 -- They are the same objects. More may have been drawn. Main and Journal read as before, and at each moment an image has them as one had

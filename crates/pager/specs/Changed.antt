@@ -4,7 +4,7 @@ use Rattle.std.specs.List.{AllByRecursion}
 use Rattle.std.specs.Str.{bytes_eq}
 use Rattle.cipher_profile.specs.Profile.{usable}
 use Rattle.page_codec.specs.Page.{FileKeys, accepts, magic, opened, sealed}
-use Rattle.page_codec.specs.Pages.{page_at}
+use Rattle.page_codec.specs.Pages.{nth_page}
 use Rattle.page_cache.specs.Pages.{Page, is_held}
 use Rattle.pager.specs.Held.{bytes_of_page}
 
@@ -53,7 +53,7 @@ draw_of reserve draws k = take reserve (drop (k * reserve) draws)
 
 -- These stored bytes are the changed page at an index, sealed with its draw. They have the length of a page, are accepted, and open
 -- to that page again, which has the usable length.
-pub record IsSealed (keys : FileKeys) (c : Changed) (draws : List ℕ) (k : ℕ) (stored : List ℕ) : Type 0 where
+pub record IsPageSealed (keys : FileKeys) (c : Changed) (draws : List ℕ) (k : ℕ) (stored : List ℕ) : Type 0 where
   pub is :
       stored ≡ sealed keys (slice_index c.numbers k) (bytes_of_page (slice_index c.numbers k) c.held) (draw_of keys.profile.reserve draws k)
   pub size : length stored ≡ keys.profile.page_size
@@ -69,7 +69,7 @@ pub record IsLaid (keys : FileKeys) (c : Changed) (draws : List ℕ) (k : ℕ) (
 -- These bytes begin with so many of the changed pages, one after another, each sealed with its draw.
 pub record AreSealed (keys : FileKeys) (c : Changed) (draws stored : List ℕ) (count : ℕ) : Type 0 where
   pub size : keys.profile.page_size * count ≤ length stored
-  pub pages : (k : ℕ) → k < count → IsSealed keys c draws k (page_at keys.profile.page_size stored k)
+  pub pages : (k : ℕ) → k < count → IsPageSealed keys c draws k (nth_page keys.profile.page_size stored k)
 
 -- These are the bytes that were drawn in between, so many. An entropy that does not tell says only how many they are.
 pub record IsDrawn (tells : Bool) (before after : List ℕ) (count : ℕ) (draws : List ℕ) : Type 0 where

@@ -1,12 +1,7 @@
 -- The pages of Main, as they are stored.
-use Rattle.std.specs.Prelude.{ℕ, ◌/◌, List, [], length, unwrap_or}
-use Rattle.edge_model.specs.Files.{Files, bytes_of}
+use Rattle.std.specs.Prelude.{ℕ, ◌/◌, List, length}
 use Rattle.cipher_profile.specs.declared.profile.Profile.{Profile}
 use Rattle.page_codec.specs.Page.{FileKeys, stored_page}
-
--- the bytes of Main, none where it is absent
-abbrev pub main_of : Files → List ℕ
-main_of files = unwrap_or (bytes_of files.main) []
 
 -- how many whole pages a file has by its length
 abbrev pub whole_pages : Profile → List ℕ → ℕ

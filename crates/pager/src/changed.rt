@@ -3,7 +3,7 @@ ghost use Rattle.std.specs.Prelude.{◌≡◌, ◌≢◌, ◌≤◌, ◌<◌, �
 ghost use Rattle.std.specs.Option.{option_map};
 ghost use Rattle.std.specs.Prelude.{slice_index};
 ghost use Rattle.page_cache.specs.Cache.{written_over};
-ghost use Rattle.page_cache.specs.Pages.{bytes_at, changed, fresh_page, is_held};
+ghost use Rattle.page_cache.specs.Pages.{held_bytes, changed, fresh_frame, is_held};
 ghost use Rattle.pager.specs.Changed.{AreListed, IsListing, unchanged, with_bytes};
 ghost use Rattle.pager.specs.Held.{bytes_of_page};
 
@@ -108,7 +108,7 @@ impl ChangedPages {
 
     /// The bytes of page n, where it was changed.
     pub(crate) fn get(&self, n: u32) -> Option<&[u8]>
-        ensures { option_map (λ bytes. bytes.now) result ≡ bytes_at n self.now.held }
+        ensures { option_map (λ bytes. bytes.now) result ≡ held_bytes n self.now.held }
     {
         self.cache.get(n)
     }
@@ -133,7 +133,7 @@ impl ChangedPages {
         requires fresh { is_held n self.old.held ≡ false }
         requires room { length self.old.numbers < self.old.frames }
         requires size { length plain.now ≡ self.old.usable }
-        ensures bytes { (m : ℕ) → bytes_at m self.new.held ≡ (if m == n then Some plain.now else bytes_at m self.old.held) }
+        ensures bytes { (m : ℕ) → held_bytes m self.new.held ≡ (if m == n then Some plain.now else held_bytes m self.old.held) }
         ensures numbers { self.new.numbers ≡ self.old.numbers ++ n ∷ [] }
         ensures sizes { (self.new.frames ≡ self.old.frames) × (self.new.usable ≡ self.old.usable) × (self.new.pages ≡ self.old.pages) }
     {
@@ -146,7 +146,7 @@ impl ChangedPages {
         requires number { (1 ≤ n) × (n ≤ self.old.pages) }
         requires fresh { is_held n self.old.held ≡ false }
         requires room { length self.old.numbers < self.old.frames }
-        ensures bytes { (m : ℕ) → bytes_at m self.new.held ≡ (if m == n then Some (replicate self.old.usable 0) else bytes_at m self.old.held) }
+        ensures bytes { (m : ℕ) → held_bytes m self.new.held ≡ (if m == n then Some (replicate self.old.usable 0) else held_bytes m self.old.held) }
         ensures held { is_held n self.new.held ≡ true }
         ensures numbers { self.new.numbers ≡ self.old.numbers ++ n ∷ [] }
         ensures sizes { (self.new.frames ≡ self.old.frames) × (self.new.usable ≡ self.old.usable) × (self.new.pages ≡ self.old.pages) }
@@ -160,8 +160,8 @@ impl ChangedPages {
     pub(crate) fn put(&mut self, n: u32, at: usize, bytes: &[u8])
         requires held { is_held n self.old.held ≡ true }
         requires within { at + length bytes.now ≤ self.old.usable }
-        ensures bytes { (m : ℕ) → bytes_at m self.new.held
-            ≡ (if m == n then Some (with_bytes at bytes.now (bytes_of_page n self.old.held)) else bytes_at m self.old.held) }
+        ensures bytes { (m : ℕ) → held_bytes m self.new.held
+            ≡ (if m == n then Some (with_bytes at bytes.now (bytes_of_page n self.old.held)) else held_bytes m self.old.held) }
         ensures numbers { self.new.numbers ≡ self.old.numbers }
         ensures sizes { (self.new.frames ≡ self.old.frames) × (self.new.usable ≡ self.old.usable) × (self.new.pages ≡ self.old.pages) }
     {
@@ -180,7 +180,7 @@ impl ChangedPages {
     /// Page n is zeros.
     pub(crate) fn clear(&mut self, n: u32)
         requires { is_held n self.old.held ≡ true }
-        ensures bytes { (m : ℕ) → bytes_at m self.new.held ≡ (if m == n then Some (replicate self.old.usable 0) else bytes_at m self.old.held) }
+        ensures bytes { (m : ℕ) → held_bytes m self.new.held ≡ (if m == n then Some (replicate self.old.usable 0) else held_bytes m self.old.held) }
         ensures numbers { self.new.numbers ≡ self.old.numbers }
         ensures sizes { (self.new.frames ≡ self.old.frames) × (self.new.usable ≡ self.old.usable) × (self.new.pages ≡ self.old.pages) }
     {

@@ -6,7 +6,7 @@ ghost use Rattle.edge_model.specs.OnlyRead.{OnlyRead};
 ghost use Rattle.cipher_profile.specs.Profile.{usable};
 ghost use Rattle.db_format.specs.Count.{largest_database};
 ghost use Rattle.db_format.specs.Pages.{IsUsable};
-ghost use Rattle.pager.specs.File.{main_of};
+ghost use Rattle.edge_model.specs.Files.{main_of};
 ghost use Rattle.pager.specs.Opening.{HasNoJournal, IsRefusedBy, file_opened};
 
 use crate::opening::{OpenError, open_main};

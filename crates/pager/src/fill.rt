@@ -5,9 +5,10 @@ ghost use Rattle.edge_model.specs.OnlyRead.{OnlyRead};
 ghost use Rattle.cipher_profile.specs.Profile.{usable};
 ghost use Rattle.page_codec.specs.Page.{accepts, opened};
 ghost use Rattle.page_cache.specs.Pages.{is_held};
-ghost use Rattle.pager.specs.File.{main_of, page_stored};
+ghost use Rattle.pager.specs.File.{page_stored};
 ghost use Rattle.pager.specs.Held.{bytes_of_page, pins_of, AreOpened, IsAllPinned, HasRoom};
-ghost use Rattle.pager.specs.Causes.{IsCause};
+ghost use Rattle.pager.specs.Causes.{IsLoadCause};
+ghost use Rattle.edge_model.specs.Files.{main_of};
 
 use crate::main_file::read_page;
 use edge_model::Disk;
@@ -118,7 +119,7 @@ pub(crate) fn fill_page<D: Disk>(
     ensures frames { (cache.new.usable ≡ cache.old.usable) × (cache.new.frames ≡ cache.old.frames) }
     ensures pins { pins_of cache.new.held ≡ pins_of cache.old.held }
     // why it is not, and that nothing of it is left
-    ensures cause { IfErr result (IsCause (IsTrue D.tells → accepts codec.now n (page_stored codec.now (main_of (D.reads disk.old)) n) ≡ false)
+    ensures cause { IfErr result (IsLoadCause (IsTrue D.tells → accepts codec.now n (page_stored codec.now (main_of (D.reads disk.old)) n) ≡ false)
         n cache.old (D.faults disk.old) (D.faults disk.new)) }
     ensures pinned { is_held n cache.old.held ≡ false → IsAllPinned cache.old → result ≡ Err PageError.AllPinned }
     ensures gone { OnErr result (is_held n cache.new.held ≡ false) }

@@ -33,6 +33,7 @@ mod source;
 mod spilled;
 mod txn;
 
+pub use atomic_commit::CommitFault;
 pub use changed::ChangedPages;
 pub use db_format::PageSource;
 pub use file::OpenedFile;
@@ -40,5 +41,4 @@ pub use fill::PageError;
 pub use main_file::{MAX_PAGE, file_length, read_main, read_page};
 pub use opening::{OpenError, codec_of, served_length};
 pub use pager::Pager;
-pub use transaction::CommitFault;
 pub use txn::{BeginError, Txn, is_same_layout};

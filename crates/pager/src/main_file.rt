@@ -1,10 +1,9 @@
 // Main, as its pages are read.
 ghost use Rattle.std.specs.Prelude.{◌≡◌, ◌+◌, ◌-◌, ◌*◌, ◌≤◌, ◌<◌, ◌^◌, length, take, drop, IfOk, OnOk, IsTrue};
 ghost use Rattle.edge_model.specs.Causes.{HasCause};
-ghost use Rattle.edge_model.specs.Files.{file_at, length_of};
+ghost use Rattle.edge_model.specs.Files.{file_at, length_of, main_of};
 ghost use Rattle.edge_model.specs.OnlyRead.{OnlyRead};
 ghost use Rattle.page_codec.specs.Page.{stored_page};
-ghost use Rattle.pager.specs.File.{main_of};
 
 use edge_model::{Disk, Failed, Role};
 

@@ -6,8 +6,9 @@ ghost use Rattle.cipher_profile.specs.Profile.{IsListed, usable};
 ghost use Rattle.db_format.specs.Count.{count_of_pages, largest_database};
 ghost use Rattle.db_format.specs.Header.{IsPageSize};
 ghost use Rattle.page_codec.specs.Page.{fits, keys_of, opened};
-ghost use Rattle.pager.specs.File.{main_of, first_page};
+ghost use Rattle.pager.specs.File.{first_page};
 ghost use Rattle.pager.specs.Opening.{IsRefusedBy, count_error, file_header, file_opened, first_broken, header_error, key_rules, length_rules, with_count};
+ghost use Rattle.edge_model.specs.Files.{main_of};
 
 use crate::main_file::{MAX_PAGE, file_length, read_page};
 use cipher_profile::{Profile, Secret};

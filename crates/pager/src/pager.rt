@@ -6,11 +6,11 @@ ghost use Rattle.cipher_profile.specs.Profile.{usable};
 ghost use Rattle.db_format.specs.Count.{largest_database};
 ghost use Rattle.db_format.specs.Pages.{IsUsable};
 ghost use Rattle.page_cache.specs.Pages.{is_held};
-ghost use Rattle.pager.specs.File.{main_of};
+ghost use Rattle.edge_model.specs.Files.{main_of};
 ghost use Rattle.pager.specs.Held.{plain_of_page, pins_of, AreOpened, AreOpened-prop, IsAllPinned};
 ghost use Rattle.pager.specs.Opening.{HasNoJournal, IsRefusedBy, file_opened};
-ghost use Rattle.pager.specs.Pages.{is_number, opened_pages};
-ghost use Rattle.pager.specs.Causes.{IsRefused, MayRefuse};
+ghost use Rattle.pager.specs.Pages.{is_page_number, opened_pages};
+ghost use Rattle.pager.specs.Causes.{IsRefusedPage, MayRefuse};
 ghost use Rattle.pager.specs.Reads.{DiskRead, Untouched};
 
 use crate::file::OpenedFile;
@@ -95,10 +95,10 @@ impl<'d, D: Disk, E: Entropy> Pager<'d, D, E> {
             → page.now ≡ (opened_pages self.old.codec (main_of (D.reads self.old.disk.now)) self.old.count).page n) }
         ensures accepted { OnOk result (IsTrue D.tells → (opened_pages self.old.codec (main_of (D.reads self.old.disk.now)) self.old.count).accepts n ≡ true) }
         ensures size { IfOk result (λ page. length page.now ≡ usable self.old.codec.profile) }
-        ensures in_range { OnOk result (is_number self.old.count n ≡ true) }
+        ensures in_range { OnOk result (is_page_number self.old.count n ≡ true) }
         ensures refused { IfErr result (MayRefuse D.tells (opened_pages self.old.codec (main_of (D.reads self.old.disk.now)) self.old.count) n) }
-        ensures out_of_range { is_number self.old.count n ≡ false → result ≡ Err PageError.OutOfRange }
-        ensures all_pinned { is_number self.old.count n ≡ true → is_held n self.old.cache.held ≡ false → IsAllPinned self.old.cache → result ≡ Err PageError.AllPinned }
+        ensures out_of_range { is_page_number self.old.count n ≡ false → result ≡ Err PageError.OutOfRange }
+        ensures all_pinned { is_page_number self.old.count n ≡ true → is_held n self.old.cache.held ≡ false → IsAllPinned self.old.cache → result ≡ Err PageError.AllPinned }
         ensures pinned { result ≡ Err PageError.AllPinned → (is_held n self.old.cache.held ≡ false) × IsAllPinned self.old.cache }
     {
         self.bring_in(n)?;
@@ -112,14 +112,14 @@ impl<'d, D: Disk, E: Entropy> Pager<'d, D, E> {
         ensures accepted { OnOk result (IsTrue D.tells → (opened_pages self.old.codec (main_of (D.reads self.old.disk.now)) self.old.count).accepts n ≡ true) }
         ensures size { OnOk result (length (plain_of_page self.new.codec.profile self.new.last self.new.cache.held) ≡ usable self.old.codec.profile) }
         ensures usable { OnOk result (IsUsable (usable self.old.codec.profile)) }
-        ensures in_range { OnOk result (is_number self.old.count n ≡ true) }
+        ensures in_range { OnOk result (is_page_number self.old.count n ≡ true) }
         ensures held { OnOk result (is_held n self.new.cache.held ≡ true) }
         // why it is not given, and that nothing of it is left
-        ensures cause { IfErr result (IsRefused D.tells (opened_pages self.old.codec (main_of (D.reads self.old.disk.now)) self.old.count)
+        ensures cause { IfErr result (IsRefusedPage D.tells (opened_pages self.old.codec (main_of (D.reads self.old.disk.now)) self.old.count)
             n self.old.cache (D.faults self.old.disk.now) (D.faults self.new.disk.now)) }
-        ensures out_of_range { is_number self.old.count n ≡ false → result ≡ Err PageError.OutOfRange }
-        ensures all_pinned { is_number self.old.count n ≡ true → is_held n self.old.cache.held ≡ false → IsAllPinned self.old.cache → result ≡ Err PageError.AllPinned }
-        ensures gone { OnErr result (is_number self.old.count n ≡ true → is_held n self.new.cache.held ≡ false) }
+        ensures out_of_range { is_page_number self.old.count n ≡ false → result ≡ Err PageError.OutOfRange }
+        ensures all_pinned { is_page_number self.old.count n ≡ true → is_held n self.old.cache.held ≡ false → IsAllPinned self.old.cache → result ≡ Err PageError.AllPinned }
+        ensures gone { OnErr result (is_page_number self.old.count n ≡ true → is_held n self.new.cache.held ≡ false) }
         // what stays
         ensures pins { pins_of self.new.cache.held ≡ pins_of self.old.cache.held }
         ensures disk { DiskRead D.tells D.reads D.images D.moment D.since D.faults self.old.disk self.new.disk }

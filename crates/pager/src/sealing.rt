@@ -2,12 +2,12 @@
 ghost use Rattle.std.specs.Prelude.{◌≡◌, ◌≤◌, ◌<◌, ◌+◌, ◌*◌, ◌++◌, ℕ, false, length};
 ghost use Rattle.cipher_profile.specs.Profile.{is_plain, usable};
 ghost use Rattle.page_cache.specs.Pages.{is_held};
-ghost use Rattle.page_codec.specs.Pages.{page_at};
-ghost use Rattle.pager.specs.Changed.{AreSealed, HasMagic, IsLaid, IsSealed};
+ghost use Rattle.page_codec.specs.Pages.{nth_page};
+ghost use Rattle.pager.specs.Changed.{AreSealed, HasMagic, IsLaid, IsPageSealed};
 
 use crate::changed::ChangedPages;
+use atomic_commit::{Changes, DrawFailed, PageNumbers};
 use page_codec::Codec;
-use transaction::{Changes, DrawFailed, PageNumbers};
 
 /// So many pages are sealed side by side at least: fewer take as long one by one.
 const FEWEST: usize = 30;
@@ -43,7 +43,7 @@ impl<'a> PageNumbers for Sealing<'a> {
 }
 
 impl<'a> Changes for Sealing<'a> {
-    ghost seals = { λ s k stored. IsSealed s.codec.now s.changed.now s.draws.now k stored };
+    ghost seals = { λ s k stored. IsPageSealed s.codec.now s.changed.now s.draws.now k stored };
 
     ghost size = { λ s. s.codec.now.profile.page_size };
 
@@ -93,7 +93,7 @@ fn seal_all(codec: &Codec, changed: &ChangedPages, draws: &[u8], pages: &mut [u8
     requires most { length changed.now.numbers ≤ 64 }
     requires size { length pages.old ≡ codec.now.profile.page_size * length changed.now.numbers }
     ensures sealed { (k : ℕ) → k < length changed.now.numbers
-        → IsSealed codec.now changed.now draws.now k (page_at codec.now.profile.page_size pages.new k) }
+        → IsPageSealed codec.now changed.now draws.now k (nth_page codec.now.profile.page_size pages.new k) }
     ensures size { length pages.new ≡ length pages.old }
 {
     lay_out(codec, changed, draws, pages);
@@ -106,7 +106,7 @@ fn lay_out(codec: &Codec, changed: &ChangedPages, draws: &[u8], pages: &mut [u8]
     requires drawn { length changed.now.numbers * codec.now.profile.reserve ≤ length draws.now }
     requires size { length pages.old ≡ codec.now.profile.page_size * length changed.now.numbers }
     ensures laid { (k : ℕ) → k < length changed.now.numbers
-        → IsLaid codec.now changed.now draws.now k (page_at codec.now.profile.page_size pages.new k) }
+        → IsLaid codec.now changed.now draws.now k (nth_page codec.now.profile.page_size pages.new k) }
     ensures size { length pages.new ≡ length pages.old }
 {
     let size = codec.profile().page_size as usize;

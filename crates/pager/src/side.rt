@@ -1,11 +1,11 @@
 // A pager as a side: Fresh is written while pages are lent out of Main.
 ghost use Rattle.std.specs.Prelude.{◌≡◌, ℕ, IsTrue, refl};
 ghost use Rattle.edge_model.specs.Files.{bytes_of};
-ghost use Rattle.disk_side.specs.OnlyFresh.{IsFreshSynced};
+ghost use Rattle.fresh_disk.specs.OnlyFresh.{IsFreshSynced};
 
 use crate::pager::Pager;
-use disk_side::{Side, clear_fresh, create_fresh};
 use edge_model::{Disk, Entropy, Failed, Role};
+use fresh_disk::{Side, clear_fresh, create_fresh};
 
 impl<'d, D: Disk, E: Entropy> Side for Pager<'d, D, E> {
     ghost use Rattle.pager.specs.Beside.{Beside, beside_joins, beside_stays};

@@ -1,7 +1,7 @@
 // A pager as a source of pages.
 ghost use Rattle.std.specs.Prelude.{◌≡◌, ◌≤◌, ◌<◌, ◌^◌, ◌-◌, ℕ, true, nat_lt, OnOk, IfErr, IsTrue, if◌then◌else◌, refl};
 ghost use Rattle.page_cache.specs.Pages.{is_held};
-ghost use Rattle.pager.specs.File.{main_of};
+ghost use Rattle.edge_model.specs.Files.{main_of};
 ghost use Rattle.pager.specs.Held.{plain_of_page, pins_of};
 ghost use Rattle.pager.specs.Pages.{opened_pages};
 ghost use Rattle.pager.specs.Causes.{MayRefuse, is_fault};

@@ -4,21 +4,21 @@ ghost use Rattle.edge_model.specs.Causes.{HasCause, Rose};
 ghost use Rattle.edge_model.specs.Images.{Each, From, LeavesOnly};
 ghost use Rattle.cipher_profile.specs.Profile.{is_plain, usable};
 ghost use Rattle.page_codec.specs.Page.{FileKeys};
-ghost use Rattle.rollback_journal.specs.Playing.{main_of};
-ghost use Rattle.transaction.specs.Batches.{HasMarked, IsWritten};
-ghost use Rattle.transaction.specs.Commit.{IsCommitted, LeavesChanged};
-ghost use Rattle.transaction.specs.Database.{HoldsEither, HoldsOld, stored_pages};
-ghost use Rattle.transaction.specs.Facts.{IsBase, SameFresh};
-ghost use Rattle.transaction.specs.Marks.{marked_count};
-ghost use Rattle.pager.specs.Changed.{HasMagic, IsDrawn, IsSealed};
+ghost use Rattle.edge_model.specs.Files.{main_of};
+ghost use Rattle.atomic_commit.specs.Batches.{HasMarked, IsBatchWritten};
+ghost use Rattle.atomic_commit.specs.Commit.{IsCommitted, LeavesChanged};
+ghost use Rattle.atomic_commit.specs.Database.{HoldsEither, HoldsOld, stored_pages};
+ghost use Rattle.atomic_commit.specs.Facts.{IsBase, SameFresh};
+ghost use Rattle.atomic_commit.specs.Marks.{marked_count};
+ghost use Rattle.pager.specs.Changed.{HasMagic, IsDrawn, IsPageSealed};
 ghost use Rattle.pager.specs.UnderWay.{HasNewPages, IsReadyFor, IsUnderWay, Start, is_touched, seen_pages};
 
 use crate::changed::ChangedPages;
 use crate::sealing::{Sealing, seal_side_by_side};
+use atomic_commit::{CommitFault, PageMarks, end_batches, mark_pages, write_batch};
 use edge_model::{Disk, Entropy, Failed};
 use page_codec::Codec;
 use rollback_journal::JournalWriter;
-use transaction::{CommitFault, PageMarks, end_batches, mark_pages, write_batch};
 
 // Draws as many bytes, at the start of the buffer. For none the entropy is not called.
 fn draw_for<E: Entropy>(entropy: &mut E, draws: &mut [u8], count: usize) -> Result<(), Failed>
@@ -62,8 +62,8 @@ pub(crate) fn write_frames<D: Disk, E: Entropy>(
     ensures under_way { OnOk result (IsTrue D.tells → IsUnderWay start codec.now recorded.new written.new writer.new (D.reads disk.new) (D.images disk.new) E.tells (E.drawn entropy.new)) }
     ensures marks { OnOk result (HasMarked changed.now.numbers (length changed.now.numbers) written.old written.new) }
     ensures as_many { length written.new ≡ length written.old }
-    ensures written { OnOk result (IsTrue D.tells → (drawn : List ℕ) × IsWritten start.base (main_of (D.reads disk.old)) changed.now.numbers
-        (IsSealed codec.now changed.now drawn) (length changed.now.numbers) (main_of (D.reads disk.new))) }
+    ensures written { OnOk result (IsTrue D.tells → (drawn : List ℕ) × IsBatchWritten start.base (main_of (D.reads disk.old)) changed.now.numbers
+        (IsPageSealed codec.now changed.now drawn) (length changed.now.numbers) (main_of (D.reads disk.new))) }
     ensures journal { (writer.new.page_size ≡ start.base.size) × (writer.new.initial ≡ start.base.pages) }
     ensures buffers { (length draws.new ≡ length draws.old) × (length buffer.new ≡ length buffer.old) }
     ensures any_moment { IsTrue D.tells → LeavesOnly D.moment D.since disk.old disk.new (HoldsOld start.base) }

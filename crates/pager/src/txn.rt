@@ -5,16 +5,16 @@ ghost use Rattle.std.specs.List.{range_with_len};
 ghost use Rattle.edge_model.specs.Causes.{HasCause, Rose};
 ghost use Rattle.edge_model.specs.Images.{Each, From, LeavesOnly};
 ghost use Rattle.cipher_profile.specs.Profile.{is_plain, usable};
-ghost use Rattle.page_cache.specs.Pages.{bytes_at, is_held};
+ghost use Rattle.page_cache.specs.Pages.{held_bytes, is_held};
 ghost use Rattle.page_codec.specs.Page.{magic};
-ghost use Rattle.rollback_journal.specs.Playing.{main_of};
-ghost use Rattle.transaction.specs.Batches.{HasMarked};
-ghost use Rattle.transaction.specs.Commit.{IsCommitted, LeavesChanged};
-ghost use Rattle.transaction.specs.Database.{HoldsEither, HoldsOld, stored_pages};
-ghost use Rattle.transaction.specs.Facts.{IsBase, IsBegun, SameFresh};
-ghost use Rattle.transaction.specs.Marks.{marked_count};
+ghost use Rattle.edge_model.specs.Files.{main_of};
+ghost use Rattle.atomic_commit.specs.Batches.{HasMarked};
+ghost use Rattle.atomic_commit.specs.Commit.{IsCommitted, LeavesChanged};
+ghost use Rattle.atomic_commit.specs.Database.{HoldsEither, HoldsOld, stored_pages};
+ghost use Rattle.atomic_commit.specs.Facts.{IsBase, IsCommitBegun, SameFresh};
+ghost use Rattle.atomic_commit.specs.Marks.{marked_count};
 ghost use Rattle.pager.specs.Changed.{HasMagic, same_layout, unchanged, with_bytes};
-ghost use Rattle.pager.specs.Pages.{is_number};
+ghost use Rattle.pager.specs.Pages.{is_page_number};
 ghost use Rattle.pager.specs.Reads.{DiskRead, Untouched};
 ghost use Rattle.pager.specs.UnderWay.{HasNewPages, lent_out, IsReadyFor, IsRefusedAs, IsUnderWay, MayRefuseAs, Start, is_failure, is_touched, seen_pages};
 
@@ -22,11 +22,11 @@ use crate::changed::ChangedPages;
 use crate::fill::{PageError, read_plain};
 use crate::pager::Pager;
 use crate::spilled::{end_frames, write_frames};
+use atomic_commit::{CommitFault, PageMarks, guard_ahead, undo_batches};
 use edge_model::{Disk, Entropy, Failed};
 use page_codec::{Codec, MAGIC};
 use rollback_journal::JournalWriter;
 use std::alloc::Global;
-use transaction::{CommitFault, PageMarks, guard_ahead, undo_batches};
 
 /// Why a transaction was not begun.
 #[derive(Clone, Copy, Debug, PartialEq, Eq)]
@@ -113,8 +113,8 @@ impl<'d, D: Disk, E: Entropy> Txn<'d, D, E> {
         requires under_way { IsTrue D.tells → IsUnderWay start self.old.write self.old.recorded self.old.written self.old.writer (D.reads self.old.disk.now)
             (D.images self.old.disk.now) E.tells (E.drawn self.old.entropy.now) }
         ensures told { IfOk result (λ page. IsTrue D.tells → page.now ≡ (seen_pages self.old.read self.old.write (main_of (D.reads self.old.disk.now)) self.old.count self.old.written self.old.changed.held).page n) }
-        ensures range { IfOk result (λ page. is_number self.old.count n ≡ true) }
-        ensures out_of_range { is_number self.old.count n ≡ false → result ≡ Err PageError.OutOfRange }
+        ensures range { IfOk result (λ page. is_page_number self.old.count n ≡ true) }
+        ensures out_of_range { is_page_number self.old.count n ≡ false → result ≡ Err PageError.OutOfRange }
         ensures refused { IfErr result (MayRefuseAs D.tells (seen_pages self.old.read self.old.write (main_of (D.reads self.old.disk.now)) self.old.count self.old.written self.old.changed.held) n) }
     {
         self.load(n)?;
@@ -130,8 +130,8 @@ impl<'d, D: Disk, E: Entropy> Txn<'d, D, E> {
         requires under_way { IsTrue D.tells → IsUnderWay start self.old.write self.old.recorded self.old.written self.old.writer (D.reads self.old.disk.now)
             (D.images self.old.disk.now) E.tells (E.drawn self.old.entropy.now) }
         ensures told { OnOk result (IsTrue D.tells → lent_out self.new.last self.new.changed.held self.new.plain.items ≡ (seen_pages self.old.read self.old.write (main_of (D.reads self.old.disk.now)) self.old.count self.old.written self.old.changed.held).page n) }
-        ensures range { OnOk result (is_number self.old.count n ≡ true) }
-        ensures out_of_range { is_number self.old.count n ≡ false → result ≡ Err PageError.OutOfRange }
+        ensures range { OnOk result (is_page_number self.old.count n ≡ true) }
+        ensures out_of_range { is_page_number self.old.count n ≡ false → result ≡ Err PageError.OutOfRange }
         ensures refused { IfErr result (IsRefusedAs D.tells (seen_pages self.old.read self.old.write (main_of (D.reads self.old.disk.now)) self.old.count self.old.written self.old.changed.held)
             n (D.faults self.old.disk.now) (D.faults self.new.disk.now) (E.faults self.old.entropy.now) (E.faults self.new.entropy.now)) }
         // what stays
@@ -174,8 +174,8 @@ impl<'d, D: Disk, E: Entropy> Txn<'d, D, E> {
             (D.images self.old.disk.now) E.tells (E.drawn self.old.entropy.now) }
         ensures zeros { OnOk result (IsTrue D.tells → (m : ℕ) → (seen_pages self.new.read self.new.write (main_of (D.reads self.new.disk.now)) self.new.count self.new.written self.new.changed.held).page m
             ≡ (if m == n then replicate (usable self.old.write.profile) 0 else (seen_pages self.old.read self.old.write (main_of (D.reads self.old.disk.now)) self.old.count self.old.written self.old.changed.held).page m)) }
-        ensures touched { OnOk result ((m : ℕ) → is_number self.old.count m ≡ true → is_touched self.new.written self.new.changed.held m ≡ (if m == n then true else is_touched self.old.written self.old.changed.held m)) }
-        ensures out_of_range { is_number self.old.count n ≡ false → result ≡ Err PageError.OutOfRange }
+        ensures touched { OnOk result ((m : ℕ) → is_page_number self.old.count m ≡ true → is_touched self.new.written self.new.changed.held m ≡ (if m == n then true else is_touched self.old.written self.old.changed.held m)) }
+        ensures out_of_range { is_page_number self.old.count n ≡ false → result ≡ Err PageError.OutOfRange }
         ensures refused { IfErr result (IsRefusedAs D.tells (seen_pages self.old.read self.old.write (main_of (D.reads self.old.disk.now)) self.old.count self.old.written self.old.changed.held)
             n (D.faults self.old.disk.now) (D.faults self.new.disk.now) (E.faults self.old.entropy.now) (E.faults self.new.entropy.now)) }
         ensures unopened { IfErr result (λ e. (page : ℕ) → e ≢ PageError.TagRefused page) }
@@ -217,8 +217,8 @@ impl<'d, D: Disk, E: Entropy> Txn<'d, D, E> {
             (D.images self.old.disk.now) E.tells (E.drawn self.old.entropy.now) }
         ensures changed { OnOk result (IsTrue D.tells → (m : ℕ) → (seen_pages self.new.read self.new.write (main_of (D.reads self.new.disk.now)) self.new.count self.new.written self.new.changed.held).page m
             ≡ (if m == n then with_bytes at bytes.now ((seen_pages self.old.read self.old.write (main_of (D.reads self.old.disk.now)) self.old.count self.old.written self.old.changed.held).page n) else (seen_pages self.old.read self.old.write (main_of (D.reads self.old.disk.now)) self.old.count self.old.written self.old.changed.held).page m)) }
-        ensures touched { OnOk result ((m : ℕ) → is_number self.old.count m ≡ true → is_touched self.new.written self.new.changed.held m ≡ (if m == n then true else is_touched self.old.written self.old.changed.held m)) }
-        ensures out_of_range { is_number self.old.count n ≡ false → result ≡ Err PageError.OutOfRange }
+        ensures touched { OnOk result ((m : ℕ) → is_page_number self.old.count m ≡ true → is_touched self.new.written self.new.changed.held m ≡ (if m == n then true else is_touched self.old.written self.old.changed.held m)) }
+        ensures out_of_range { is_page_number self.old.count n ≡ false → result ≡ Err PageError.OutOfRange }
         ensures refused { IfErr result (IsRefusedAs D.tells (seen_pages self.old.read self.old.write (main_of (D.reads self.old.disk.now)) self.old.count self.old.written self.old.changed.held)
             n (D.faults self.old.disk.now) (D.faults self.new.disk.now) (E.faults self.old.entropy.now) (E.faults self.new.entropy.now)) }
         ensures ready { OnOk result (IsReadyFor self.new.recorded self.new.writer) }
@@ -329,7 +329,7 @@ impl<'d, D: Disk, E: Entropy> Txn<'d, D, E> {
             (D.images self.old.disk.now) E.tells (E.drawn self.old.entropy.now) }
         ensures seen { OnOk result (IsTrue D.tells → (m : ℕ) → (seen_pages self.new.read self.new.write (main_of (D.reads self.new.disk.now)) self.new.count self.new.written self.new.changed.held).page m ≡ (seen_pages self.old.read self.old.write (main_of (D.reads self.old.disk.now)) self.old.count self.old.written self.old.changed.held).page m) }
         ensures held { OnOk result (is_held n self.new.changed.held ≡ true) }
-        ensures touched { OnOk result ((m : ℕ) → is_number self.old.count m ≡ true → is_touched self.new.written self.new.changed.held m ≡ (if m == n then true else is_touched self.old.written self.old.changed.held m)) }
+        ensures touched { OnOk result ((m : ℕ) → is_page_number self.old.count m ≡ true → is_touched self.new.written self.new.changed.held m ≡ (if m == n then true else is_touched self.old.written self.old.changed.held m)) }
         ensures refused { IfErr result (IsRefusedAs D.tells (seen_pages self.old.read self.old.write (main_of (D.reads self.old.disk.now)) self.old.count self.old.written self.old.changed.held)
             n (D.faults self.old.disk.now) (D.faults self.new.disk.now) (E.faults self.old.entropy.now) (E.faults self.new.entropy.now)) }
         ensures ready { OnOk result (IsReadyFor self.new.recorded self.new.writer) }
@@ -359,7 +359,7 @@ impl<'d, D: Disk, E: Entropy> Txn<'d, D, E> {
         requires number { (1 ≤ n) × (n ≤ self.old.count) }
         requires free { is_held n self.old.changed.held ≡ false }
         requires room { length self.old.changed.numbers < self.old.changed.frames }
-        ensures bytes { (n ≡ 1 → is_plain self.old.write.profile ≡ false → take 16 self.old.plain.items ≡ magic) → (m : ℕ) → bytes_at m self.new.changed.held ≡ (if m == n then Some self.old.plain.items else bytes_at m self.old.changed.held) }
+        ensures bytes { (n ≡ 1 → is_plain self.old.write.profile ≡ false → take 16 self.old.plain.items ≡ magic) → (m : ℕ) → held_bytes m self.new.changed.held ≡ (if m == n then Some self.old.plain.items else held_bytes m self.old.changed.held) }
         ensures listed { (m : ℕ) → is_held m self.new.changed.held ≡ (if m == n then true else is_held m self.old.changed.held) }
         ensures held { is_held n self.new.changed.held ≡ true }
         ensures sizes { (self.new.changed.frames ≡ self.old.changed.frames) × (self.new.changed.usable ≡ self.old.changed.usable) × (self.new.changed.pages ≡ self.old.changed.pages) }
@@ -386,7 +386,7 @@ impl<'d, D: Disk, E: Entropy> Txn<'d, D, E> {
         requires under_way { IsTrue D.tells → IsUnderWay start self.old.write self.old.recorded self.old.written self.old.writer (D.reads self.old.disk.now)
             (D.images self.old.disk.now) E.tells (E.drawn self.old.entropy.now) }
         ensures seen { OnOk result (IsTrue D.tells → (m : ℕ) → (seen_pages self.new.read self.new.write (main_of (D.reads self.new.disk.now)) self.new.count self.new.written self.new.changed.held).page m ≡ (seen_pages self.old.read self.old.write (main_of (D.reads self.old.disk.now)) self.old.count self.old.written self.old.changed.held).page m) }
-        ensures touched { OnOk result ((m : ℕ) → is_number self.old.count m ≡ true → is_touched self.new.written self.new.changed.held m ≡ is_touched self.old.written self.old.changed.held m) }
+        ensures touched { OnOk result ((m : ℕ) → is_page_number self.old.count m ≡ true → is_touched self.new.written self.new.changed.held m ≡ is_touched self.old.written self.old.changed.held m) }
         ensures room { OnOk result (length self.new.changed.numbers < self.new.changed.frames) }
         ensures free { OnOk result ((m : ℕ) → is_held m self.old.changed.held ≡ false → is_held m self.new.changed.held ≡ false) }
         ensures ready { OnOk result (IsReadyFor self.new.recorded self.new.writer) }
@@ -419,7 +419,7 @@ impl<'d, D: Disk, E: Entropy> Txn<'d, D, E> {
         requires under_way { IsTrue D.tells → IsUnderWay start self.old.write self.old.recorded self.old.written self.old.writer (D.reads self.old.disk.now)
             (D.images self.old.disk.now) E.tells (E.drawn self.old.entropy.now) }
         ensures seen { OnOk result (IsTrue D.tells → (m : ℕ) → (seen_pages self.new.read self.new.write (main_of (D.reads self.new.disk.now)) self.new.count self.new.written self.new.changed.held).page m ≡ (seen_pages self.old.read self.old.write (main_of (D.reads self.old.disk.now)) self.old.count self.old.written self.old.changed.held).page m) }
-        ensures touched { OnOk result ((m : ℕ) → is_number self.old.count m ≡ true → is_touched self.new.written self.new.changed.held m ≡ is_touched self.old.written self.old.changed.held m) }
+        ensures touched { OnOk result ((m : ℕ) → is_page_number self.old.count m ≡ true → is_touched self.new.written self.new.changed.held m ≡ is_touched self.old.written self.old.changed.held m) }
         ensures free { OnOk result (self.new.changed ≡ unchanged self.old.changed.frames self.old.changed.usable self.old.changed.pages) }
         ensures ready { OnOk result (IsReadyFor self.new.recorded self.new.writer) }
         ensures under_way { OnOk result (IsTrue D.tells → IsUnderWay start self.new.write self.new.recorded self.new.written self.new.writer (D.reads self.new.disk.now)
@@ -599,7 +599,7 @@ impl<'d, D: Disk, E: Entropy> Pager<'d, D, E> {
         requires frames { (1 ≤ frames) × (frames ≤ 64) }
         requires sizes { (self.codec.profile.page_size ≡ start.base.size) × (self.count ≡ start.base.pages) }
         requires drawn { start.drawn ≡ E.drawn self.entropy.now }
-        requires begun { IsTrue D.tells → IsBegun start.base (D.images self.disk.now) }
+        requires begun { IsTrue D.tells → IsCommitBegun start.base (D.images self.disk.now) }
         ensures disk { IfOk result (λ t. (t.disk.ghost_name ≡ self.entry.disk.ghost_name) × (t.disk.now ≡ self.entry.disk.now)) }
         ensures entropy { IfOk result (λ t. (t.entropy.ghost_name ≡ self.entry.entropy.ghost_name) × (t.entropy.now ≡ self.entry.entropy.now)) }
         ensures file { IfOk result (λ t. (t.read ≡ self.entry.codec) × (t.write ≡ write) × (t.count ≡ self.entry.count)) }

@@ -1,7 +1,7 @@
 // A file that is changed, with its journal beside it, as a disk that tells nothing.
 ghost use Rattle.std.specs.Prelude.{◌≡◌, ◌≤◌, IfOk, Ok, length, refl, false};
 ghost use Rattle.edge_model.specs.Causes.{HasCause};
-ghost use Rattle.edge_model.specs.Files.{nothing};
+ghost use Rattle.edge_model.specs.Files.{no_files};
 ghost use Rattle.edge_model.specs.Silent.{nothing_numbered};
 
 use edge_model::{Disk, Failed, Role};
@@ -98,13 +98,13 @@ fn settle<T: Drop>(faults: &mut u64, outcome: io::Result<T>) -> Result<T, Failed
 impl<'a> Disk for ChangedFile<'a> {
     ghost tells = { false };
 
-    ghost reads = { λ _. nothing };
+    ghost reads = { λ _. no_files };
 
-    ghost images = { λ _ c. c ≡ nothing };
+    ghost images = { λ _ c. c ≡ no_files };
 
     ghost moment = { λ _. 0 };
 
-    ghost since = { λ _ _ c. c ≡ nothing };
+    ghost since = { λ _ _ c. c ≡ no_files };
 
     ghost next = { λ _. 0 };
 

@@ -1,7 +1,7 @@
 // Pages that are changed in one transaction.
 ghost use Rattle.std.specs.Prelude.{◌≡◌, OnOk};
 ghost use Rattle.pager.specs.UnderWay.{IsReadyFor, zeros};
-ghost use Rattle.transaction.specs.Facts.{IsBase};
+ghost use Rattle.atomic_commit.specs.Facts.{IsBase};
 
 use crate::changed_file::ChangedFile;
 use edge_model::SilentEntropy;

@@ -2,7 +2,7 @@
 // of a file of four pages, stopped after every number of calls of the disk, and with each of these calls failing alone.
 ghost use Rattle.std.specs.Prelude.{◌≡◌, ◌<◌, OnOk, IsTrue};
 ghost use Rattle.pager.specs.UnderWay.{IsReadyFor, zeros};
-ghost use Rattle.transaction.specs.Facts.{IsBase};
+ghost use Rattle.atomic_commit.specs.Facts.{IsBase};
 
 use crate::sealed_file::{codec_of, disk_of, put_byte, put_plain, sealed};
 use edge_model::{ImagePick, MemDisk, MemEntropy, Role, SilentDisk, SilentEntropy};

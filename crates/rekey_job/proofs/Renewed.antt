@@ -4,7 +4,7 @@ use Rattle.std.specs.Prelude.{nat_lt}
 use Rattle.std.proofs.Math.Nat.{le-mul_of_pos_right, mul-le-mul_right, mul_comm}
 use Rattle.std.proofs.Math.Seq.{drop-append_seam}
 use Rattle.std.proofs.lemmas.List.{ext_get_or, get_or-take, get_or-drop, length-replicate, take-take}
-use Rattle.edge_model.specs.Files.{File, Files, bytes_of}
+use Rattle.edge_model.specs.Files.{File, Files, bytes_of, contents, main_of}
 use Rattle.edge_model.specs.Images.{LeavesOnly}
 use Rattle.btree_model.specs.Plain.{is_leaf, with_zeros}
 use Rattle.db_format.specs.Header.{header_read}
@@ -16,19 +16,18 @@ use Rattle.pager.specs.Base.{base_of, is_some_of}
 use Rattle.pager.specs.Changed.{same_layout}
 use Rattle.pager.specs.Database.{count_by, count_of, counted}
 use Rattle.pager.specs.File.{page_stored}
-use Rattle.pager.specs.Pages.{is_number, opened_pages}
+use Rattle.pager.specs.Pages.{is_page_number, opened_pages}
 use Rattle.pager.specs.UnderWay.{HasNewPages}
 use Rattle.pager.proofs.BatchLemmas.{number_in, number_is}
 use Rattle.pager.proofs.TxnLemmas.{ciphered_alike, layout_same}
 use Rattle.pager.proofs.UnderWayLemmas.{opened_at}
 use Rattle.pager.proofs.WholeReads.{page_end}
-use Rattle.rollback_journal.specs.Playing.{contents, main_of}
 use Rattle.rollback_journal.specs.Recovery.{RecoversTo}
-use Rattle.transaction.specs.Commit.{IsCommitted, LeavesChanged}
-use Rattle.transaction.specs.Database.{Base, HoldsEither, stored_page, stored_pages}
-use Rattle.transaction.specs.Draws.{draw_at}
-use Rattle.transaction.specs.Facts.{IsBase}
-use Rattle.transaction.proofs.Pages.{same_pages}
+use Rattle.atomic_commit.specs.Commit.{IsCommitted, LeavesChanged}
+use Rattle.atomic_commit.specs.Database.{Base, HoldsEither, stored_page, stored_pages}
+use Rattle.atomic_commit.specs.Draws.{drawn_at}
+use Rattle.atomic_commit.specs.Facts.{IsBase}
+use Rattle.atomic_commit.proofs.Pages.{same_pages}
 use Rattle.rekey_job.specs.Draws.{AreDrawn, FileDraws}
 use Rattle.rekey_job.specs.Rekeyed.{IsRekeyed}
 use Rattle.rekey_job.specs.Stops.{AreClean}
@@ -139,7 +138,7 @@ same_salt read write is = search (rules, is)
 
 -- a rekeyed file, each of whose pages has bytes of its own, where the draws are told
 abbrev pub IsResealed : FileKeys → FileKeys → ℕ → List ℕ → Bool → List ℕ → List ℕ → Type 0
-IsResealed keys write count old tells drawn file = IsRekeyed keys write count old file × (IsTrue tells → FileDraws write file (is_number count) 0 drawn)
+IsResealed keys write count old tells drawn file = IsRekeyed keys write count old file × (IsTrue tells → FileDraws write file (is_page_number count) 0 drawn)
 
 module _ (keys write : FileKeys) (count : ℕ) (old : List ℕ) (tells : Bool) (before after : List ℕ) (layout : same_layout keys write ≡ true) (some : 1 ≤ count) (room : 16 ≤ keys.profile.page_size)
     (salt : keys.salt ≡ salt_of old) (clean : AreClean (opened_pages keys old count))
@@ -158,7 +157,7 @@ module _ (keys write : FileKeys) (count : ℕ) (old : List ℕ) (tells : Bool) (
   sizes : (write.profile.page_size ≡ keys.profile.page_size) × (write.profile.reserve ≡ keys.profile.reserve)
   sizes = layout_same keys write layout
 
-  one : is_number count 1 ≡ true
+  one : is_page_number count 1 ≡ true
   one = number_is count 1 (omega arith) some
 
   salt_long : length write.salt ≡ 16
@@ -167,7 +166,7 @@ module _ (keys write : FileKeys) (count : ℕ) (old : List ℕ) (tells : Bool) (
       omega (arith, ap length (same_salt keys write layout ∙ salt), length-take 16 old, base.within, each, room)
 
   module _ (main : List ℕ) (has : HasNew main) where
-    sealed_at : (n : ℕ) → is_number count n ≡ true → (is_number count n && true) ≡ true
+    sealed_at : (n : ℕ) → is_page_number count n ≡ true → (is_page_number count n && true) ≡ true
     sealed_at n num = ap (λ (b : Bool). b && true) num
 
     -- plain page 1 stays
@@ -205,11 +204,11 @@ module _ (keys write : FileKeys) (count : ℕ) (old : List ℕ) (tells : Bool) (
             ∙ sym (starts keys old room)
         by_kind false ciphered =
             ap (λ (l : List ℕ). take 16 l) (has.own.is_sealed 1 (sealed_at 1 one))
-            ∙ salt_stands write (plain 1) (draw_at write.profile.reserve (has.own.place 1) has.draws) ciphered salt_long
+            ∙ salt_stands write (plain 1) (drawn_at write.profile.reserve (has.own.place 1) has.draws) ciphered salt_long
             ∙ same_salt keys write layout ∙ salt
 
     -- a file with its pages, which counts them
-    with_pages : (file : List ℕ) → ((n : ℕ) → is_number count n ≡ true → page_stored write file n ≡ page_stored write main n) → take 16 file ≡ take 16 main
+    with_pages : (file : List ℕ) → ((n : ℕ) → is_page_number count n ≡ true → page_stored write file n ≡ page_stored write main n) → take 16 file ≡ take 16 main
         → (base_of keys old count).counts (length file) ≡ true → IsRekeyed keys write count old file
     with_pages file same begins is = record {
       salt = begins ∙ main_salt;
@@ -229,7 +228,7 @@ module _ (keys write : FileKeys) (count : ℕ) (old : List ℕ) (tells : Bool) (
     cut = take (count * keys.profile.page_size) main
 
     -- its pages are those of Main
-    cut_stored : (n : ℕ) → is_number count n ≡ true → page_stored write cut n ≡ page_stored write main n
+    cut_stored : (n : ℕ) → is_page_number count n ≡ true → page_stored write cut n ≡ page_stored write main n
     cut_stored n num =
         let within = number_in count n num in
         subst (λ (s : ℕ). stored_page s n cut ≡ stored_page s n main) (sym sizes.0) (cut_page n count keys.profile.page_size main within.0 within.1 main_long)
@@ -247,26 +246,26 @@ module _ (keys write : FileKeys) (count : ℕ) (old : List ℕ) (tells : Bool) (
     pub cut_same : stored_pages keys.profile.page_size count main ≡ stored_pages keys.profile.page_size count cut
     cut_same = sym (cut_pages count keys.profile.page_size main main_long)
 
-    pub own_draws : IsTrue tells → FileDraws write main (is_number count) 0 (drop (length before) after)
-    own_draws told ciphered = subst (λ (l : List ℕ). AreDrawn write main (is_number count) 0 l) (sym drawn) (record {
+    pub own_draws : IsTrue tells → FileDraws write main (is_page_number count) 0 (drop (length before) after)
+    own_draws told ciphered = subst (λ (l : List ℕ). AreDrawn write main (is_page_number count) 0 l) (sym drawn) (record {
       place = has.own.place;
       later = λ n num. has.own.later n (sealed_at n num);
       within = λ n num. has.own.within n (sealed_at n num);
-      is_sealed = λ n num. subst (λ (l : List ℕ). page_stored write main n ≡ sealed write n l (draw_at write.profile.reserve (has.own.place n) has.draws)) (sym (has.opens n num refl)) (has.own.is_sealed n (sealed_at n num));
+      is_sealed = λ n num. subst (λ (l : List ℕ). page_stored write main n ≡ sealed write n l (drawn_at write.profile.reserve (has.own.place n) has.draws)) (sym (has.opens n num refl)) (has.own.is_sealed n (sealed_at n num));
       apart = λ m n other is_m is_n. has.own.apart m n other (sealed_at m is_m) (sealed_at n is_n);
     })
       where
         drawn : drop (length before) after ≡ has.draws
         drawn = ap (λ (l : List ℕ). drop (length before) l) (has.since told) ∙ drop-append_seam before has.draws
 
-    pub cut_draws : IsTrue tells → FileDraws write cut (is_number count) 0 (drop (length before) after)
+    pub cut_draws : IsTrue tells → FileDraws write cut (is_page_number count) 0 (drop (length before) after)
     cut_draws told ciphered =
         let own = own_draws told ciphered in
         record {
           place = own.place;
           later = own.later;
           within = own.within;
-          is_sealed = λ n num. subst (λ (l : List ℕ). l ≡ sealed write n (opened write n l) (draw_at write.profile.reserve (own.place n) (drop (length before) after)))
+          is_sealed = λ n num. subst (λ (l : List ℕ). l ≡ sealed write n (opened write n l) (drawn_at write.profile.reserve (own.place n) (drop (length before) after)))
               (sym (cut_stored n num)) (own.is_sealed n num);
           apart = own.apart;
         }

@@ -4,7 +4,7 @@ use Rattle.std.specs.Prelude.{nat_le, nat_lt, IfErr}
 use Rattle.std.proofs.lemmas.List.{take-append-drop}
 use Rattle.std.proofs.lemmas.Bool.{eqb-true}
 use Rattle.std.proofs.lemmas.Bool.Decides.{nat_tests}
-use Rattle.edge_model.specs.Files.{Files}
+use Rattle.edge_model.specs.Files.{Files, main_of}
 use Rattle.edge_model.specs.Images.{LeavesOnly}
 use Rattle.edge_model.specs.Moments.{and_then, weaker}
 use Rattle.cipher_profile.specs.Profile.{usable}
@@ -15,21 +15,20 @@ use Rattle.db_format.specs.Seen.{marked}
 use Rattle.page_cache.specs.Pages.{Page, is_held}
 use Rattle.page_codec.specs.Page.{FileKeys, accepts, sealed}
 use Rattle.pager.specs.Changed.{same_layout, with_bytes}
-use Rattle.pager.specs.File.{page_stored, main_of as file_main}
-use Rattle.pager.specs.Pages.{is_number, opened_pages}
+use Rattle.pager.specs.File.{page_stored}
+use Rattle.pager.specs.Pages.{is_page_number, opened_pages}
 use Rattle.pager.specs.UnderWay.{HasNewPages, IsRefusedAs, IsUnderWay, Start, is_failure, is_touched, seen_pages}
 use Rattle.pager.specs.declared.fill.PageError.{PageError}
 use Rattle.pager.specs.declared.fill.PageError.TheVariants.{OutOfRange, TagRefused, DiskFault, EntropyFault, AllPinned}
 use Rattle.pager.proofs.BatchLemmas.{and_true, number_in, number_is}
 use Rattle.pager.proofs.TxnLemmas.{layout_same}
 use Rattle.pager.proofs.UnderWayLemmas.{same_at, same_main}
-use Rattle.rollback_journal.specs.Playing.{main_of}
 use Rattle.rollback_journal.specs.Writing.{Writing}
-use Rattle.transaction.specs.Commit.{LeavesChanged}
-use Rattle.transaction.specs.Database.{Base, HoldsOld, stored_page}
-use Rattle.transaction.specs.Marks.{is_marked}
+use Rattle.atomic_commit.specs.Commit.{LeavesChanged}
+use Rattle.atomic_commit.specs.Database.{Base, HoldsOld, stored_page}
+use Rattle.atomic_commit.specs.Marks.{is_marked}
 use Rattle.rekey_job.specs.Rewritten.{is_zeroed, rewritten}
-use Rattle.rekey_job.specs.Stops.{AreClean, IsChangeRefusal, is_unwritten, page_error}
+use Rattle.rekey_job.specs.Stops.{AreClean, IsChangeRefusal, is_unwritten, rekey_page_error}
 use Rattle.rekey_job.specs.declared.error.RekeyError.{RekeyError}
 use Rattle.rekey_job.proofs.Checked.{first_used}
 use Rattle.rekey_job.proofs.Stopped.{pages_same}
@@ -45,10 +44,10 @@ and_both true b x y = y
 and_both false b x y = cc
 
 module _ (start : Start) (read write : FileKeys) (recorded marks : List Bool) (w : Writing) (now : Files) (images : Files → Type 0) (tells : Bool) (drawn : List ℕ) (held : List Page) (count n : ℕ)
-    (layout : write.profile.page_size ≡ read.profile.page_size) (whole : count ≡ start.base.pages) (num : is_number count n ≡ true)
+    (layout : write.profile.page_size ≡ read.profile.page_size) (whole : count ≡ start.base.pages) (num : is_page_number count n ≡ true)
     (accepted : accepts read n (page_stored read start.base.start n) ≡ true) (way : IsUnderWay start write recorded marks w now images tells drawn) where
-  in_base : is_number start.base.pages n ≡ true
-  in_base = subst (λ (p : ℕ). is_number p n ≡ true) whole num
+  in_base : is_page_number start.base.pages n ≡ true
+  in_base = subst (λ (p : ℕ). is_page_number p n ≡ true) whole num
 
   by_mark : (b : Bool) → is_marked n marks ≡ b → accepts (if b then write else read) n (page_stored (if b then write else read) (main_of now) n) ≡ true
   by_mark true is = way.pages.accepted n in_base is
@@ -60,11 +59,11 @@ module _ (start : Start) (read write : FileKeys) (recorded marks : List Bool) (w
   -- a page that was accepted at the start is, whether it was written or not
   pub seen_accepted : (seen_pages read write (main_of now) count marks held).accepts n ≡ true
   seen_accepted =
-      or_true (is_held n held) _ (and_both (is_number count n) _ num (by_mark (is_marked n marks) refl))
+      or_true (is_held n held) _ (and_both (is_page_number count n) _ num (by_mark (is_marked n marks) refl))
 
 -- so it is refused only by a call that failed
 pub never_refused : (tells : Bool) (read write : FileKeys) (file : List ℕ) (count n : ℕ) (marks : List Bool) (held : List Page) (a b c d : ℕ) (error : PageError)
-    → is_number count n ≡ true → (IsTrue tells → (seen_pages read write file count marks held).accepts n ≡ true)
+    → is_page_number count n ≡ true → (IsTrue tells → (seen_pages read write file count marks held).accepts n ≡ true)
     → IsRefusedAs tells (seen_pages read write file count marks held) n a b c d error → is_failure error ≡ false → IsTrue tells → ⊥
 never_refused tells read write file count n marks held a b c d OutOfRange num accepted refused still told = let no : true ≡ false = sym num ∙ refused in cc
 never_refused tells read write file count n marks held a b c d (TagRefused page) num accepted refused still told = let no : true ≡ false = sym (accepted told) ∙ refused.2 told in cc
@@ -74,7 +73,7 @@ never_refused tells read write file count n marks held a b c d AllPinned num acc
 
 -- a page that becomes zeros is not opened
 pub never_opened : (tells : Bool) (read write : FileKeys) (file : List ℕ) (count n : ℕ) (marks : List Bool) (held : List Page) (a b c d : ℕ) (error : PageError)
-    → is_number count n ≡ true → ((page : ℕ) → error ≢ TagRefused page)
+    → is_page_number count n ≡ true → ((page : ℕ) → error ≢ TagRefused page)
     → IsRefusedAs tells (seen_pages read write file count marks held) n a b c d error → is_failure error ≡ false → ⊥
 never_opened tells read write file count n marks held a b c d OutOfRange num unopened refused still = let no : true ≡ false = sym num ∙ refused in cc
 never_opened tells read write file count n marks held a b c d (TagRefused page) num unopened refused still = unopened page refl
@@ -83,7 +82,7 @@ never_opened tells read write file count n marks held a b c d EntropyFault num u
 never_opened tells read write file count n marks held a b c d AllPinned num unopened refused still = refused
 
 -- a page of the file that a call which changes it refused
-pub change_refusal : (tells : Bool) (seen : Pages) (n a b c d : ℕ) (error : PageError) → is_number seen.count n ≡ true → IsRefusedAs tells seen n a b c d error → IsChangeRefusal error
+pub change_refusal : (tells : Bool) (seen : Pages) (n a b c d : ℕ) (error : PageError) → is_page_number seen.count n ≡ true → IsRefusedAs tells seen n a b c d error → IsChangeRefusal error
 change_refusal tells seen n a b c d OutOfRange num refused = let no : true ≡ false = sym num ∙ refused in cc
 change_refusal tells seen n a b c d (TagRefused page) num refused = tt
 change_refusal tells seen n a b c d DiskFault num refused = tt
@@ -163,7 +162,7 @@ none_seen m b zeros page one =
 
 pub more_touched : (count done : ℕ) (marks marks_now : List Bool) (held held_now : List Page) → done + 1 ≤ count
     → ((m : ℕ) → 1 ≤ m → m ≤ done → is_touched marks held m ≡ true)
-    → ((m : ℕ) → is_number count m ≡ true → is_touched marks_now held_now m ≡ (if m == done + 1 then true else is_touched marks held m))
+    → ((m : ℕ) → is_page_number count m ≡ true → is_touched marks_now held_now m ≡ (if m == done + 1 then true else is_touched marks held m))
     → (m : ℕ) → 1 ≤ m → m ≤ done + 1 → is_touched marks_now held_now m ≡ true
 more_touched count done marks marks_now held held_now within so_far next m one le =
     next m (number_is count m one (omega (arith, le, within)))
@@ -179,7 +178,7 @@ more_touched count done marks marks_now held held_now within so_far next m one l
 
 -- where all pages were touched, and are seen as these
 pub all_new : (start : Start) (keys : FileKeys) (touched : ℕ → Bool) (plain new : ℕ → List ℕ) (tells : Bool) (drawn main : List ℕ)
-    → ((n : ℕ) → is_number start.base.pages n ≡ true → touched n ≡ true) → ((n : ℕ) → is_number start.base.pages n ≡ true → plain n ≡ new n)
+    → ((n : ℕ) → is_page_number start.base.pages n ≡ true → touched n ≡ true) → ((n : ℕ) → is_page_number start.base.pages n ≡ true → plain n ≡ new n)
     → HasNewPages start keys touched plain tells drawn main → HasNewPages start keys (λ n. true) new tells drawn main
 all_new start keys touched plain new tells drawn main all same has = record {
   draws = has.draws;
@@ -188,7 +187,7 @@ all_new start keys touched plain new tells drawn main all same has = record {
     place = has.own.place;
     later = λ n is. has.own.later n (sealed_too n is);
     within = λ n is. has.own.within n (sealed_too n is);
-    is_sealed = λ n is. subst (λ (l : List ℕ). page_stored keys main n ≡ sealed keys n l (Rattle.transaction.specs.Draws.draw_at keys.profile.reserve (has.own.place n) has.draws)) (same n (and_true (is_number start.base.pages n) true is).0) (has.own.is_sealed n (sealed_too n is));
+    is_sealed = λ n is. subst (λ (l : List ℕ). page_stored keys main n ≡ sealed keys n l (Rattle.atomic_commit.specs.Draws.drawn_at keys.profile.reserve (has.own.place n) has.draws)) (same n (and_true (is_page_number start.base.pages n) true is).0) (has.own.is_sealed n (sealed_too n is));
     apart = λ m n other is_m is_n. has.own.apart m n other (sealed_too m is_m) (sealed_too n is_n);
   };
   whole = λ n num is. has.whole n num (all n num);
@@ -198,8 +197,8 @@ all_new start keys touched plain new tells drawn main all same has = record {
   others = λ n num is. absurd (not_both is);
 }
   where
-    sealed_too : (n : ℕ) → (is_number start.base.pages n && true) ≡ true → (is_number start.base.pages n && touched n) ≡ true
-    sealed_too n is = let num = (and_true (is_number start.base.pages n) true is).0 in and_both (is_number start.base.pages n) (touched n) num (all n num)
+    sealed_too : (n : ℕ) → (is_page_number start.base.pages n && true) ≡ true → (is_page_number start.base.pages n && touched n) ≡ true
+    sealed_too n is = let num = (and_true (is_page_number start.base.pages n) true is).0 in and_both (is_page_number start.base.pages n) (touched n) num (all n num)
 
     not_both : true ≡ false → ⊥
     not_both is = cc
@@ -237,7 +236,7 @@ zeroed_is pages leaves (suc (suc m)) sound one is =
 -- what is to be written: the plain pages, and zeros for the leaves
 pub all_plain : (read write : FileKeys) (file : List ℕ) (count : ℕ) (marks leaves : List Bool) (held : List Page) → held ≡ [] → ((n : ℕ) → is_touched marks held n ≡ false)
     → usable write.profile ≡ usable read.profile → is_database (opened_pages read file count) ≡ true → ((n : ℕ) → marked leaves n ≡ is_leaf (opened_pages read file count) n)
-    → (n : ℕ) → is_number count n ≡ true
+    → (n : ℕ) → is_page_number count n ≡ true
     → rewritten leaves (usable write.profile) (seen_pages read write file count marks held) n ≡ (with_zeros (opened_pages read file count)).page n
 all_plain read write file count marks leaves held none untouched size sound leafs n num =
     let seen = seen_pages read write file count marks held in
@@ -248,15 +247,15 @@ all_plain read write file count marks leaves held none untouched size sound leaf
 -- a page that does not become zeros is accepted
 pub all_accepted : (read : FileKeys) (file : List ℕ) (count : ℕ) (leaves : List Bool) → AreClean (opened_pages read file count)
     → ((n : ℕ) → marked leaves n ≡ is_leaf (opened_pages read file count) n)
-    → (n : ℕ) → is_number count n ≡ true → is_zeroed leaves n ≡ false → accepts read n (page_stored read file n) ≡ true
+    → (n : ℕ) → is_page_number count n ≡ true → is_zeroed leaves n ≡ false → accepts read n (page_stored read file n) ≡ true
 all_accepted read file count leaves clean leafs n num unzeroed =
     let pages = opened_pages read file count in
-    (and_true (is_number count n) (accepts read n (page_stored read file n))
+    (and_true (is_page_number count n) (accepts read n (page_stored read file n))
     (clean.accepted n num (sym (zeroed_is pages leaves n clean.sound (number_in count n num).0 (leafs n)) ∙ unzeroed))).1
 
 -- the pages of the file, by either word for the bytes of Main
 pub begun_same : (keys keys_now : FileKeys) (files files_now : Files) (count count_now : ℕ) → keys_now ≡ keys → files_now ≡ files → count_now ≡ count
-    → opened_pages keys_now (main_of files_now) count_now ≡ opened_pages keys (file_main files) count
+    → opened_pages keys_now (main_of files_now) count_now ≡ opened_pages keys (main_of files) count
 begun_same keys keys_now files files_now count count_now k f c =
     ap (λ (file : List ℕ). opened_pages keys_now file count_now) (sym (same_main files_now))
     ∙ pages_same keys keys_now files files_now count count_now k f c
@@ -269,25 +268,25 @@ usable_same read write same =
 -- what was written in a transaction that began with this clean file
 pub from_begun : (start : Start) (keys write : FileKeys) (files : Files) (count : ℕ) (keys_now write_now : FileKeys) (files_now : Files) (count_now : ℕ)
     (marks leaves : List Bool) (held : List Page) (tells : Bool) (drawn main : List ℕ)
-    → same_layout keys write ≡ true → count ≡ start.base.pages → AreClean (opened_pages keys (file_main files) count)
-    → ((n : ℕ) → marked leaves n ≡ is_leaf (opened_pages keys (file_main files) count) n)
+    → same_layout keys write ≡ true → count ≡ start.base.pages → AreClean (opened_pages keys (main_of files) count)
+    → ((n : ℕ) → marked leaves n ≡ is_leaf (opened_pages keys (main_of files) count) n)
     → keys_now ≡ keys → write_now ≡ write → files_now ≡ files → count_now ≡ count → held ≡ [] → ((n : ℕ) → is_touched marks held n ≡ false)
     → HasNewPages start write_now (λ n. true) (rewritten leaves (usable write_now.profile) (seen_pages keys_now write_now (main_of files_now) count_now marks held)) tells drawn main
-    → HasNewPages start write (λ n. true) (with_zeros (opened_pages keys (file_main files) count)).page tells drawn main
+    → HasNewPages start write (λ n. true) (with_zeros (opened_pages keys (main_of files) count)).page tells drawn main
 from_begun start keys write files count keys_now write_now files_now count_now marks leaves held tells drawn main layout whole clean leafs k w f c none untouched has =
-    let new : ℕ → List ℕ = (with_zeros (opened_pages keys (file_main files) count)).page in
+    let new : ℕ → List ℕ = (with_zeros (opened_pages keys (main_of files) count)).page in
     let path = begun_same keys keys_now files files_now count count_now k f c in
     let size : usable write_now.profile ≡ usable keys_now.profile = ap (λ (x : FileKeys). usable x.profile) w ∙ (usable_same keys write layout ∙ sym (ap (λ (x : FileKeys). usable x.profile) k)) in
     subst (λ (x : FileKeys). HasNewPages start x (λ n. true) new tells drawn main) w
     (all_new start write_now (λ n. true) (rewritten leaves (usable write_now.profile) (seen_pages keys_now write_now (main_of files_now) count_now marks held)) new tells drawn main (λ n num. refl)
     (λ n num. all_plain keys_now write_now (main_of files_now) count_now marks leaves held none untouched size
-    (ap is_database path ∙ clean.sound) (λ m. leafs m ∙ ap (λ (pages : Pages). is_leaf pages m) (sym path)) n (subst (λ (x : ℕ). is_number x n ≡ true) (sym (c ∙ whole)) num)
+    (ap is_database path ∙ clean.sound) (λ m. leafs m ∙ ap (λ (pages : Pages). is_leaf pages m) (sym path)) n (subst (λ (x : ℕ). is_page_number x n ≡ true) (sym (c ∙ whole)) num)
     ∙ ap (λ (pages : Pages). (with_zeros pages).page n) path) has)
 
 -- ---- results
 
 -- where a call failed, the error is one that may follow a write
-pub page_failed : (error : PageError) → (is_failure error ≡ false → ⊥) → is_unwritten (page_error error) ≡ false
+pub page_failed : (error : PageError) → (is_failure error ≡ false → ⊥) → is_unwritten (rekey_page_error error) ≡ false
 page_failed OutOfRange failed = absurd (failed refl)
 page_failed (TagRefused page) failed = absurd (failed refl)
 page_failed DiskFault failed = refl

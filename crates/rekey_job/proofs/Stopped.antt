@@ -6,19 +6,18 @@ use Rattle.btree_walk.specs.Causes.{IsGivenBy}
 use Rattle.btree_walk.specs.declared.error.WalkError.{WalkError}
 use Rattle.btree_walk.specs.declared.error.WalkError.TheVariants.{Defect as WalkDefect, Source, OutOfMemory as WalkMemory}
 use Rattle.db_format.specs.Pages.{Pages, Test}
-use Rattle.edge_model.specs.Files.{Files}
+use Rattle.edge_model.specs.Files.{Files, main_of}
 use Rattle.page_codec.specs.Page.{FileKeys}
 use Rattle.pager.specs.Causes.{MayRefuse}
-use Rattle.pager.specs.File.{main_of}
-use Rattle.pager.specs.Pages.{is_number, opened_pages}
+use Rattle.pager.specs.Pages.{is_page_number, opened_pages}
 use Rattle.pager.specs.declared.fill.PageError.{PageError}
 use Rattle.pager.specs.declared.fill.PageError.TheVariants.{OutOfRange, TagRefused, DiskFault, EntropyFault, AllPinned}
-use Rattle.rekey_job.specs.Stops.{IsFirstRefused, IsReadRefusal, IsShown, IsWalkStop, page_error}
+use Rattle.rekey_job.specs.Stops.{IsFirstRefused, IsReadRefusal, IsRekeyShown, IsWalkStop, rekey_page_error}
 use Rattle.rekey_job.specs.declared.error.RekeyError.TheVariants.{LayoutDiffers, EntropyFault as RekeyEntropy}
 
 -- a page that is refused behind a census is the first in use
 pub tags_shown : (pages : Pages) (passed : Test) (error : PageError) → is_database pages ≡ true → passed ≡ is_leaf pages
-    → ((n : ℕ) → error ≡ TagRefused n → IsFirstRefused pages passed n) → IsShown pages (page_error error)
+    → ((n : ℕ) → error ≡ TagRefused n → IsFirstRefused pages passed n) → IsRekeyShown pages (rekey_page_error error)
 tags_shown pages passed OutOfRange sound same first = tt
 tags_shown pages passed (TagRefused n) sound same first = inr (sound, subst (λ (test : Test). IsFirstRefused pages test n) same (first n refl))
 tags_shown pages passed DiskFault sound same first = tt
@@ -26,7 +25,7 @@ tags_shown pages passed EntropyFault sound same first = tt
 tags_shown pages passed AllPinned sound same first = tt
 
 -- a page of the file that a call which reads refused
-pub read_refusal : (tells : Bool) (pages : Pages) (n : ℕ) (error : PageError) → is_number pages.count n ≡ true → MayRefuse tells pages n error → IsReadRefusal error
+pub read_refusal : (tells : Bool) (pages : Pages) (n : ℕ) (error : PageError) → is_page_number pages.count n ≡ true → MayRefuse tells pages n error → IsReadRefusal error
 read_refusal tells pages n OutOfRange num refused = let no : true ≡ false = sym num ∙ refused in cc
 read_refusal tells pages n (TagRefused page) num refused = tt
 read_refusal tells pages n DiskFault num refused = tt
@@ -39,11 +38,11 @@ pub given_stop : {T : Type 0} (tells : Bool) (read : T → T → Type 0) (plain 
 given_stop tells read plain before (WalkDefect d) same given = tt
 given_stop tells read plain before (Source error) same given =
     read_refusal tells (plain given.state) given.page error
-    (subst (λ (count : ℕ). is_number count given.page ≡ true) (sym (same before given.state given.since)) given.range) given.refused
+    (subst (λ (count : ℕ). is_page_number count given.page ≡ true) (sym (same before given.state given.since)) given.range) given.refused
 given_stop tells read plain before WalkMemory same given = tt
 
 -- and says nothing of the layout or of the entropy
-pub reading_error : (error : PageError) → IsReadRefusal error → (page_error error ≢ LayoutDiffers) × (page_error error ≢ RekeyEntropy)
+pub reading_error : (error : PageError) → IsReadRefusal error → (rekey_page_error error ≢ LayoutDiffers) × (rekey_page_error error ≢ RekeyEntropy)
 reading_error OutOfRange reads = absurd reads
 reading_error (TagRefused page) reads = (λ is. cc, λ is. cc)
 reading_error DiskFault reads = (λ is. cc, λ is. cc)

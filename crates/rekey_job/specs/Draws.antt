@@ -4,7 +4,7 @@ use Rattle.cipher_profile.specs.Profile.{is_plain}
 use Rattle.db_format.specs.Pages.{Test}
 use Rattle.page_codec.specs.Page.{FileKeys, opened, sealed}
 use Rattle.pager.specs.File.{page_stored}
-use Rattle.transaction.specs.Draws.{OwnDraws}
+use Rattle.atomic_commit.specs.Draws.{OwnDraws}
 
 -- Each page of a test is stored as what it opens to, sealed with bytes of its own of those that were drawn, from an offset on.
 abbrev pub AreDrawn : FileKeys → List ℕ → Test → ℕ → List ℕ → Type 0

@@ -25,13 +25,13 @@ pub record IsFirstRefused (pages : Pages) (passed : Test) (n : ℕ) : Type 0 whe
 
 -- These pages show this error: a defect or a refused page of the earliest part that has one, and where none has, the first refused page
 -- in use. What else stops a rekey they do not show.
-abbrev pub IsShown : Pages → RekeyError → Type 0
-IsShown pages LayoutDiffers = ⊤
-IsShown pages (PageTag n) = Contains (first_refusals (parts pages)) n ⊎ ((is_database pages ≡ true) × IsFirstRefused pages (is_leaf pages) n)
-IsShown pages (Defect d) = Contains (first_faults (parts pages)) d
-IsShown pages DiskFault = ⊤
-IsShown pages EntropyFault = ⊤
-IsShown pages OutOfMemory = ⊤
+abbrev pub IsRekeyShown : Pages → RekeyError → Type 0
+IsRekeyShown pages LayoutDiffers = ⊤
+IsRekeyShown pages (PageTag n) = Contains (first_refusals (parts pages)) n ⊎ ((is_database pages ≡ true) × IsFirstRefused pages (is_leaf pages) n)
+IsRekeyShown pages (Defect d) = Contains (first_faults (parts pages)) d
+IsRekeyShown pages DiskFault = ⊤
+IsRekeyShown pages EntropyFault = ⊤
+IsRekeyShown pages OutOfMemory = ⊤
 
 -- nothing was written
 abbrev pub is_unwritten : RekeyError → Bool
@@ -43,13 +43,13 @@ is_unwritten EntropyFault = false
 is_unwritten OutOfMemory = true
 
 -- it may stop a rekey of a file that was checked
-abbrev pub IsLate : RekeyError → Type 0
-IsLate LayoutDiffers = ⊥
-IsLate (PageTag n) = ⊥
-IsLate (Defect d) = ⊥
-IsLate DiskFault = ⊤
-IsLate EntropyFault = ⊤
-IsLate OutOfMemory = ⊤
+abbrev pub IsLateRekey : RekeyError → Type 0
+IsLateRekey LayoutDiffers = ⊥
+IsLateRekey (PageTag n) = ⊥
+IsLateRekey (Defect d) = ⊥
+IsLateRekey DiskFault = ⊤
+IsLateRekey EntropyFault = ⊤
+IsLateRekey OutOfMemory = ⊤
 
 -- a page of the file may be refused so by a call that only reads
 abbrev pub IsReadRefusal : PageError → Type 0
@@ -74,15 +74,15 @@ IsWalkStop (Source refusal) = IsReadRefusal refusal
 IsWalkStop WalkMemory = ⊤
 
 -- how a page that is refused stops a rekey; it asks for pages of the file alone, and pins few
-abbrev pub page_error : PageError → RekeyError
-page_error OutOfRange = OutOfMemory
-page_error (TagRefused n) = PageTag n
-page_error PageFault = DiskFault
-page_error DrawFault = EntropyFault
-page_error AllPinned = OutOfMemory
+abbrev pub rekey_page_error : PageError → RekeyError
+rekey_page_error OutOfRange = OutOfMemory
+rekey_page_error (TagRefused n) = PageTag n
+rekey_page_error PageFault = DiskFault
+rekey_page_error DrawFault = EntropyFault
+rekey_page_error AllPinned = OutOfMemory
 
 -- how a walk does
-abbrev pub walk_error : WalkError PageError → RekeyError
-walk_error (WalkDefect d) = Defect d
-walk_error (Source refusal) = page_error refusal
-walk_error WalkMemory = OutOfMemory
+abbrev pub rekey_walk_error : WalkError PageError → RekeyError
+rekey_walk_error (WalkDefect d) = Defect d
+rekey_walk_error (Source refusal) = rekey_page_error refusal
+rekey_walk_error WalkMemory = OutOfMemory

@@ -6,12 +6,12 @@ ghost use Rattle.db_format.specs.Header.{header_fields};
 ghost use Rattle.db_format.specs.Seen.{marked};
 ghost use Rattle.db_format.specs.Source.{no_pins};
 ghost use Rattle.pager.specs.Causes.{MayRefuse};
-ghost use Rattle.pager.specs.File.{main_of};
+ghost use Rattle.edge_model.specs.Files.{main_of};
 ghost use Rattle.pager.specs.Held.{pins_of};
 ghost use Rattle.pager.specs.Pages.{opened_pages};
 ghost use Rattle.pager.specs.Reads.{DiskRead, Untouched};
 ghost use Rattle.schema_map.specs.Census.{IsWhole};
-ghost use Rattle.rekey_job.specs.Stops.{AreClean, IsFirstRefused, IsReadRefusal, IsShown, IsWalkStop, page_error, walk_error};
+ghost use Rattle.rekey_job.specs.Stops.{AreClean, IsFirstRefused, IsReadRefusal, IsRekeyShown, IsWalkStop, rekey_page_error, rekey_walk_error};
 
 use crate::error::RekeyError;
 use btree_walk::WalkError;
@@ -31,7 +31,7 @@ pub fn check_pages<D: Disk, E: Entropy>(
     ensures clean { OnOk result (IsTrue D.tells → AreClean (opened_pages pager.old.codec (main_of (D.reads pager.old.disk.now)) pager.old.count)) }
     ensures leaves { IfOk result (λ leaves. IsTrue D.tells → (n : ℕ)
         → marked leaves.leaves n ≡ is_leaf (opened_pages pager.old.codec (main_of (D.reads pager.old.disk.now)) pager.old.count) n) }
-    ensures shown { IfErr result (λ e. IsTrue D.tells → IsShown (opened_pages pager.old.codec (main_of (D.reads pager.old.disk.now)) pager.old.count) e) }
+    ensures shown { IfErr result (λ e. IsTrue D.tells → IsRekeyShown (opened_pages pager.old.codec (main_of (D.reads pager.old.disk.now)) pager.old.count) e) }
     ensures reading { IfErr result (λ e. (e ≢ RekeyError.LayoutDiffers) × (e ≢ RekeyError.EntropyFault)) }
     ensures fault { result ≡ Err RekeyError.DiskFault → Rose (D.faults pager.old.disk.now) (D.faults pager.new.disk.now) }
     ensures disk { DiskRead D.tells D.reads D.images D.moment D.since D.faults pager.old.disk pager.new.disk }
@@ -54,7 +54,7 @@ fn check_others<D: Disk, E: Entropy>(
     ensures clean { OnOk result (IsTrue D.tells → AreClean (opened_pages pager.old.codec (main_of (D.reads pager.old.disk.now)) pager.old.count)) }
     ensures leaves { IfOk result (λ leaves. IsTrue D.tells → (n : ℕ)
         → marked leaves.leaves n ≡ is_leaf (opened_pages pager.old.codec (main_of (D.reads pager.old.disk.now)) pager.old.count) n) }
-    ensures shown { IfErr result (λ e. IsTrue D.tells → IsShown (opened_pages pager.old.codec (main_of (D.reads pager.old.disk.now)) pager.old.count) e) }
+    ensures shown { IfErr result (λ e. IsTrue D.tells → IsRekeyShown (opened_pages pager.old.codec (main_of (D.reads pager.old.disk.now)) pager.old.count) e) }
     ensures reading { IfErr result (λ e. (e ≢ RekeyError.LayoutDiffers) × (e ≢ RekeyError.EntropyFault)) }
     ensures fault { result ≡ Err RekeyError.DiskFault → Rose (D.faults pager.old.disk.now) (D.faults pager.new.disk.now) }
     ensures disk { DiskRead D.tells D.reads D.images D.moment D.since D.faults pager.old.disk pager.new.disk }
@@ -128,7 +128,7 @@ fn check_tag<D: Disk, E: Entropy>(
 // How a page that is refused stops the check.
 fn read_error(error: PageError) -> RekeyError
     requires { IsReadRefusal error }
-    ensures { result ≡ page_error error }
+    ensures { result ≡ rekey_page_error error }
 {
     match error {
         PageError::TagRefused { page } => RekeyError::PageTag { page },
@@ -143,7 +143,7 @@ fn read_error(error: PageError) -> RekeyError
 // How a walk does.
 fn walk_error(error: &WalkError<PageError>) -> RekeyError
     requires { IsWalkStop error.now }
-    ensures { result ≡ walk_error error.now }
+    ensures { result ≡ rekey_walk_error error.now }
 {
     match error {
         WalkError::Defect(defect) => RekeyError::Defect(*defect),

@@ -10,15 +10,15 @@ ghost use Rattle.db_format.specs.Source.{no_pins};
 ghost use Rattle.page_codec.specs.Page.{salt_of};
 ghost use Rattle.pager.specs.Base.{base_of};
 ghost use Rattle.pager.specs.Changed.{same_layout};
-ghost use Rattle.pager.specs.File.{main_of};
+ghost use Rattle.edge_model.specs.Files.{main_of};
 ghost use Rattle.pager.specs.Held.{pins_of};
-ghost use Rattle.pager.specs.Pages.{is_number, opened_pages};
-ghost use Rattle.transaction.specs.Commit.{IsCommitted, LeavesChanged};
-ghost use Rattle.transaction.specs.Database.{HoldsEither, HoldsOld, stored_pages};
-ghost use Rattle.transaction.specs.Facts.{IsBegun, SameFresh};
+ghost use Rattle.pager.specs.Pages.{is_page_number, opened_pages};
+ghost use Rattle.atomic_commit.specs.Commit.{IsCommitted, LeavesChanged};
+ghost use Rattle.atomic_commit.specs.Database.{HoldsEither, HoldsOld, stored_pages};
+ghost use Rattle.atomic_commit.specs.Facts.{IsCommitBegun, SameFresh};
 ghost use Rattle.rekey_job.specs.Draws.{FileDraws};
 ghost use Rattle.rekey_job.specs.Rekeyed.{IsRekeyed};
-ghost use Rattle.rekey_job.specs.Stops.{AreClean, IsLate, IsShown, is_unwritten};
+ghost use Rattle.rekey_job.specs.Stops.{AreClean, IsLateRekey, IsRekeyShown, is_unwritten};
 
 use crate::check::check_pages;
 use crate::error::RekeyError;
@@ -39,20 +39,20 @@ pub fn rekey<'d, D: Disk, E: Entropy>(
     requires unpinned { pins_of pager.cache.held ≡ no_pins }
     requires salt { IsTrue D.tells → pager.codec.salt ≡ salt_of (main_of (D.reads pager.disk.now)) }
     requires header { IsTrue D.tells → pager.header ≡ header_fields ((opened_pages pager.codec (main_of (D.reads pager.disk.now)) pager.count).page 1) }
-    requires begun { IsTrue D.tells → IsBegun (base_of pager.codec (main_of (D.reads pager.disk.now)) pager.count) (D.images pager.disk.now) }
+    requires begun { IsTrue D.tells → IsCommitBegun (base_of pager.codec (main_of (D.reads pager.disk.now)) pager.count) (D.images pager.disk.now) }
     ensures disk { result.0.ghost_name ≡ pager.entry.disk.ghost_name }
     ensures entropy { result.1.ghost_name ≡ pager.entry.entropy.ghost_name }
     // what Ok comes to: a clean file was rekeyed, and is all that is left
     ensures rekeyed { OnOk result.2 (IsTrue D.tells → IsRekeyed pager.entry.codec write pager.entry.count (main_of (D.reads pager.entry.disk.now)) (main_of (D.reads result.0.now))) }
     ensures own_draws { OnOk result.2 (IsTrue D.tells → IsTrue E.tells
-        → FileDraws write (main_of (D.reads result.0.now)) (is_number pager.entry.count) 0 (drop (length (E.drawn pager.entry.entropy.now)) (E.drawn result.1.now))) }
+        → FileDraws write (main_of (D.reads result.0.now)) (is_page_number pager.entry.count) 0 (drop (length (E.drawn pager.entry.entropy.now)) (E.drawn result.1.now))) }
     ensures new { OnOk result.2 (IsTrue D.tells
         → Each (D.images result.0.now) (IsCommitted (base_of pager.entry.codec (main_of (D.reads pager.entry.disk.now)) pager.entry.count) (main_of (D.reads result.0.now)))) }
     ensures clean { OnOk result.2 (IsTrue D.tells → AreClean (opened_pages pager.entry.codec (main_of (D.reads pager.entry.disk.now)) pager.entry.count)) }
     // each moment: the old pages, or those of one rekeyed file, each of which has drawn bytes of its own
     ensures any_moment { IsTrue D.tells → LeavesChanged D.moment D.since (base_of pager.entry.codec (main_of (D.reads pager.entry.disk.now)) pager.entry.count)
         (λ main. IsRekeyed pager.entry.codec write pager.entry.count (main_of (D.reads pager.entry.disk.now)) main × (IsTrue E.tells
-        → FileDraws write main (is_number pager.entry.count) 0 (drop (length (E.drawn pager.entry.entropy.now)) (E.drawn result.1.now)))) pager.entry.disk.now result.0.now }
+        → FileDraws write main (is_page_number pager.entry.count) 0 (drop (length (E.drawn pager.entry.entropy.now)) (E.drawn result.1.now)))) pager.entry.disk.now result.0.now }
     ensures one_new { OnOk result.2 (IsTrue D.tells → LeavesOnly D.moment D.since pager.entry.disk.now result.0.now
         (HoldsEither (base_of pager.entry.codec (main_of (D.reads pager.entry.disk.now)) pager.entry.count)
         (stored_pages pager.entry.codec.profile.page_size pager.entry.count (main_of (D.reads result.0.now))))) }
@@ -63,7 +63,7 @@ pub fn rekey<'d, D: Disk, E: Entropy>(
     ensures layout { result.2 ≡ Err RekeyError.LayoutDiffers → same_layout pager.entry.codec write ≡ false }
     ensures differs { same_layout pager.entry.codec write ≡ false → (result.2 ≡ Err RekeyError.LayoutDiffers)
         × (result.0.now ≡ pager.entry.disk.now) × (result.1.now ≡ pager.entry.entropy.now) }
-    ensures shown { IfErr result.2 (λ e. IsTrue D.tells → IsShown (opened_pages pager.entry.codec (main_of (D.reads pager.entry.disk.now)) pager.entry.count) e) }
+    ensures shown { IfErr result.2 (λ e. IsTrue D.tells → IsRekeyShown (opened_pages pager.entry.codec (main_of (D.reads pager.entry.disk.now)) pager.entry.count) e) }
     ensures unwritten { IfErr result.2 (λ e. is_unwritten e ≡ true → IsTrue D.tells
         → OnlyRead D.reads D.images D.moment D.since pager.entry.disk.now result.0.now × (result.1.now ≡ pager.entry.entropy.now)) }
     ensures disk_fault { result.2 ≡ Err RekeyError.DiskFault → Rose (D.faults pager.entry.disk.now) (D.faults result.0.now) }
@@ -94,19 +94,19 @@ fn rekey_clean<'d, D: Disk, E: Entropy>(
 ) -> (&'d mut D, &'d mut E, Result<(), RekeyError>)
     requires layout { same_layout pager.codec write ≡ true }
     requires salt { IsTrue D.tells → pager.codec.salt ≡ salt_of (main_of (D.reads pager.disk.now)) }
-    requires begun { IsTrue D.tells → IsBegun (base_of pager.codec (main_of (D.reads pager.disk.now)) pager.count) (D.images pager.disk.now) }
+    requires begun { IsTrue D.tells → IsCommitBegun (base_of pager.codec (main_of (D.reads pager.disk.now)) pager.count) (D.images pager.disk.now) }
     requires clean { IsTrue D.tells → AreClean (opened_pages pager.codec (main_of (D.reads pager.disk.now)) pager.count) }
     requires leaves { IsTrue D.tells → (n : ℕ) → marked leaves.now.leaves n ≡ is_leaf (opened_pages pager.codec (main_of (D.reads pager.disk.now)) pager.count) n }
     ensures disk { result.0.ghost_name ≡ pager.entry.disk.ghost_name }
     ensures entropy { result.1.ghost_name ≡ pager.entry.entropy.ghost_name }
     ensures rekeyed { OnOk result.2 (IsTrue D.tells → IsRekeyed pager.entry.codec write pager.entry.count (main_of (D.reads pager.entry.disk.now)) (main_of (D.reads result.0.now))) }
     ensures own_draws { OnOk result.2 (IsTrue D.tells → IsTrue E.tells
-        → FileDraws write (main_of (D.reads result.0.now)) (is_number pager.entry.count) 0 (drop (length (E.drawn pager.entry.entropy.now)) (E.drawn result.1.now))) }
+        → FileDraws write (main_of (D.reads result.0.now)) (is_page_number pager.entry.count) 0 (drop (length (E.drawn pager.entry.entropy.now)) (E.drawn result.1.now))) }
     ensures new { OnOk result.2 (IsTrue D.tells
         → Each (D.images result.0.now) (IsCommitted (base_of pager.entry.codec (main_of (D.reads pager.entry.disk.now)) pager.entry.count) (main_of (D.reads result.0.now)))) }
     ensures any_moment { IsTrue D.tells → LeavesChanged D.moment D.since (base_of pager.entry.codec (main_of (D.reads pager.entry.disk.now)) pager.entry.count)
         (λ main. IsRekeyed pager.entry.codec write pager.entry.count (main_of (D.reads pager.entry.disk.now)) main × (IsTrue E.tells
-        → FileDraws write main (is_number pager.entry.count) 0 (drop (length (E.drawn pager.entry.entropy.now)) (E.drawn result.1.now)))) pager.entry.disk.now result.0.now }
+        → FileDraws write main (is_page_number pager.entry.count) 0 (drop (length (E.drawn pager.entry.entropy.now)) (E.drawn result.1.now)))) pager.entry.disk.now result.0.now }
     ensures one_new { OnOk result.2 (IsTrue D.tells → LeavesOnly D.moment D.since pager.entry.disk.now result.0.now
         (HoldsEither (base_of pager.entry.codec (main_of (D.reads pager.entry.disk.now)) pager.entry.count)
         (stored_pages pager.entry.codec.profile.page_size pager.entry.count (main_of (D.reads result.0.now))))) }
@@ -115,7 +115,7 @@ fn rekey_clean<'d, D: Disk, E: Entropy>(
     ensures fresh { IsTrue D.tells → LeavesOnly D.moment D.since pager.entry.disk.now result.0.now (From SameFresh (D.images pager.entry.disk.now)) }
     ensures unwritten { result.2 ≡ Err RekeyError.OutOfMemory → IsTrue D.tells → (result.0.now ≡ pager.entry.disk.now) × (result.1.now ≡ pager.entry.entropy.now) }
     ensures layout { result.2 ≢ Err RekeyError.LayoutDiffers }
-    ensures late { IfErr result.2 (λ e. IsTrue D.tells → IsLate e) }
+    ensures late { IfErr result.2 (λ e. IsTrue D.tells → IsLateRekey e) }
     ensures disk_fault { result.2 ≡ Err RekeyError.DiskFault → Rose (D.faults pager.entry.disk.now) (D.faults result.0.now) }
     ensures entropy_fault { result.2 ≡ Err RekeyError.EntropyFault → Rose (E.faults pager.entry.entropy.now) (E.faults result.1.now) }
     ensures disk_later { D.faults pager.entry.disk.now ≤ D.faults result.0.now }

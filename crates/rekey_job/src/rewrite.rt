@@ -7,16 +7,16 @@ ghost use Rattle.btree_model.specs.Plain.{is_leaf, with_zeros};
 ghost use Rattle.db_format.specs.Seen.{marked};
 ghost use Rattle.page_codec.specs.Page.{accepts};
 ghost use Rattle.pager.specs.Changed.{same_layout};
-ghost use Rattle.pager.specs.File.{main_of, page_stored};
-ghost use Rattle.pager.specs.Pages.{is_number, opened_pages};
+ghost use Rattle.pager.specs.File.{page_stored};
+ghost use Rattle.pager.specs.Pages.{is_page_number, opened_pages};
 ghost use Rattle.pager.specs.Reads.{Untouched};
 ghost use Rattle.pager.specs.UnderWay.{HasNewPages, IsReadyFor, IsUnderWay, Start, is_failure, is_touched, seen_pages};
-ghost use Rattle.rollback_journal.specs.Playing.{main_of as read_main};
-ghost use Rattle.transaction.specs.Commit.{IsCommitted, LeavesChanged};
-ghost use Rattle.transaction.specs.Database.{HoldsEither, HoldsOld, stored_pages};
-ghost use Rattle.transaction.specs.Facts.{IsBase, IsBegun, SameFresh};
+ghost use Rattle.edge_model.specs.Files.{main_of};
+ghost use Rattle.atomic_commit.specs.Commit.{IsCommitted, LeavesChanged};
+ghost use Rattle.atomic_commit.specs.Database.{HoldsEither, HoldsOld, stored_pages};
+ghost use Rattle.atomic_commit.specs.Facts.{IsBase, IsCommitBegun, SameFresh};
 ghost use Rattle.rekey_job.specs.Rewritten.{is_zeroed, rewritten};
-ghost use Rattle.rekey_job.specs.Stops.{AreClean, IsChangeRefusal, IsLate, is_unwritten, page_error};
+ghost use Rattle.rekey_job.specs.Stops.{AreClean, IsChangeRefusal, IsLateRekey, is_unwritten, rekey_page_error};
 
 use crate::error::RekeyError;
 use edge_model::{Disk, Entropy};
@@ -46,24 +46,24 @@ pub fn rewrite_pages<'d, D: Disk, E: Entropy>(
     requires sizes { (pager.codec.profile.page_size ≡ start.base.size) × (pager.count ≡ start.base.pages) }
     requires drawn { start.drawn ≡ E.drawn pager.entropy.now }
     requires base_is { IsBase start.base }
-    requires begun { IsTrue D.tells → IsBegun start.base (D.images pager.disk.now) }
+    requires begun { IsTrue D.tells → IsCommitBegun start.base (D.images pager.disk.now) }
     requires same { IsTrue D.tells → start.base.start ≡ main_of (D.reads pager.disk.now) }
     requires clean { IsTrue D.tells → AreClean (opened_pages pager.codec (main_of (D.reads pager.disk.now)) pager.count) }
     requires leaves { IsTrue D.tells → (n : ℕ) → marked leaves.now.leaves n ≡ is_leaf (opened_pages pager.codec (main_of (D.reads pager.disk.now)) pager.count) n }
     ensures disk { result.0.ghost_name ≡ pager.entry.disk.ghost_name }
     ensures entropy { result.1.ghost_name ≡ pager.entry.entropy.ghost_name }
     ensures changed { OnOk result.2 (IsTrue D.tells → HasNewPages start write (λ n. true)
-        (with_zeros (opened_pages pager.entry.codec (main_of (D.reads pager.entry.disk.now)) pager.entry.count)).page E.tells (E.drawn result.1.now) (read_main (D.reads result.0.now))) }
-    ensures new { OnOk result.2 (IsTrue D.tells → Each (D.images result.0.now) (IsCommitted start.base (read_main (D.reads result.0.now)))) }
+        (with_zeros (opened_pages pager.entry.codec (main_of (D.reads pager.entry.disk.now)) pager.entry.count)).page E.tells (E.drawn result.1.now) (main_of (D.reads result.0.now))) }
+    ensures new { OnOk result.2 (IsTrue D.tells → Each (D.images result.0.now) (IsCommitted start.base (main_of (D.reads result.0.now)))) }
     ensures one_new { OnOk result.2 (IsTrue D.tells → LeavesOnly D.moment D.since pager.entry.disk.now result.0.now
-        (HoldsEither start.base (stored_pages start.base.size start.base.pages (read_main (D.reads result.0.now))))) }
+        (HoldsEither start.base (stored_pages start.base.size start.base.pages (main_of (D.reads result.0.now))))) }
     ensures any_moment { IsTrue D.tells → LeavesChanged D.moment D.since start.base (HasNewPages start write (λ n. true)
         (with_zeros (opened_pages pager.entry.codec (main_of (D.reads pager.entry.disk.now)) pager.entry.count)).page E.tells (E.drawn result.1.now)) pager.entry.disk.now result.0.now }
     ensures only_old { result.2 ≡ Err RekeyError.EntropyFault → IsTrue D.tells → LeavesOnly D.moment D.since pager.entry.disk.now result.0.now (HoldsOld start.base) }
     ensures fresh { IsTrue D.tells → LeavesOnly D.moment D.since pager.entry.disk.now result.0.now (From SameFresh (D.images pager.entry.disk.now)) }
     ensures unwritten { result.2 ≡ Err RekeyError.OutOfMemory → IsTrue D.tells → (result.0.now ≡ pager.entry.disk.now) × (result.1.now ≡ pager.entry.entropy.now) }
     ensures layout { result.2 ≢ Err RekeyError.LayoutDiffers }
-    ensures late { IfErr result.2 (λ e. IsTrue D.tells → IsLate e) }
+    ensures late { IfErr result.2 (λ e. IsTrue D.tells → IsLateRekey e) }
     ensures disk_fault { result.2 ≡ Err RekeyError.DiskFault → Rose (D.faults pager.entry.disk.now) (D.faults result.0.now) }
     ensures entropy_fault { result.2 ≡ Err RekeyError.EntropyFault → Rose (E.faults pager.entry.entropy.now) (E.faults result.1.now) }
     ensures disk_later { D.faults pager.entry.disk.now ≤ D.faults result.0.now }
@@ -100,20 +100,20 @@ fn rewrite<'d, D: Disk, E: Entropy>(
     requires ready { IsReadyFor txn.recorded txn.writer }
     requires under_way { IsTrue D.tells → IsUnderWay start txn.write txn.recorded txn.written txn.writer (D.reads txn.disk.now)
         (D.images txn.disk.now) E.tells (E.drawn txn.entropy.now) }
-    requires accepted { IsTrue D.tells → (n : ℕ) → is_number txn.count n ≡ true → is_zeroed leaves.now.leaves n ≡ false
+    requires accepted { IsTrue D.tells → (n : ℕ) → is_page_number txn.count n ≡ true → is_zeroed leaves.now.leaves n ≡ false
         → accepts txn.read n (page_stored txn.read start.base.start n) ≡ true }
     ensures disk { result.0.ghost_name ≡ txn.entry.disk.ghost_name }
     ensures entropy { result.1.ghost_name ≡ txn.entry.entropy.ghost_name }
     ensures changed { OnOk result.2 (IsTrue D.tells → HasNewPages start txn.entry.write (λ n. true)
         (rewritten leaves.now.leaves (usable txn.entry.write.profile)
-        (seen_pages txn.entry.read txn.entry.write (read_main (D.reads txn.entry.disk.now)) txn.entry.count txn.entry.written txn.entry.changed.held))
-        E.tells (E.drawn result.1.now) (read_main (D.reads result.0.now))) }
-    ensures new { OnOk result.2 (IsTrue D.tells → Each (D.images result.0.now) (IsCommitted start.base (read_main (D.reads result.0.now)))) }
+        (seen_pages txn.entry.read txn.entry.write (main_of (D.reads txn.entry.disk.now)) txn.entry.count txn.entry.written txn.entry.changed.held))
+        E.tells (E.drawn result.1.now) (main_of (D.reads result.0.now))) }
+    ensures new { OnOk result.2 (IsTrue D.tells → Each (D.images result.0.now) (IsCommitted start.base (main_of (D.reads result.0.now)))) }
     ensures one_new { OnOk result.2 (IsTrue D.tells → LeavesOnly D.moment D.since txn.entry.disk.now result.0.now
-        (HoldsEither start.base (stored_pages start.base.size start.base.pages (read_main (D.reads result.0.now))))) }
+        (HoldsEither start.base (stored_pages start.base.size start.base.pages (main_of (D.reads result.0.now))))) }
     ensures any_moment { IsTrue D.tells → LeavesChanged D.moment D.since start.base (HasNewPages start txn.entry.write (λ n. true)
         (rewritten leaves.now.leaves (usable txn.entry.write.profile)
-        (seen_pages txn.entry.read txn.entry.write (read_main (D.reads txn.entry.disk.now)) txn.entry.count txn.entry.written txn.entry.changed.held))
+        (seen_pages txn.entry.read txn.entry.write (main_of (D.reads txn.entry.disk.now)) txn.entry.count txn.entry.written txn.entry.changed.held))
         E.tells (E.drawn result.1.now)) txn.entry.disk.now result.0.now }
     ensures only_old { result.2 ≡ Err RekeyError.EntropyFault → IsTrue D.tells → LeavesOnly D.moment D.since txn.entry.disk.now result.0.now (HoldsOld start.base) }
     ensures fresh { IsTrue D.tells → LeavesOnly D.moment D.since txn.entry.disk.now result.0.now (From SameFresh (D.images txn.entry.disk.now)) }
@@ -144,13 +144,13 @@ fn finish<'d, D: Disk, E: Entropy>(
     ensures disk { result.0.ghost_name ≡ txn.entry.disk.ghost_name }
     ensures entropy { result.1.ghost_name ≡ txn.entry.entropy.ghost_name }
     ensures changed { OnOk result.2 (IsTrue D.tells → HasNewPages start txn.entry.write (is_touched txn.entry.written txn.entry.changed.held)
-        (λ n. (seen_pages txn.entry.read txn.entry.write (read_main (D.reads txn.entry.disk.now)) txn.entry.count txn.entry.written txn.entry.changed.held).page n)
-        E.tells (E.drawn result.1.now) (read_main (D.reads result.0.now))) }
-    ensures new { OnOk result.2 (IsTrue D.tells → Each (D.images result.0.now) (IsCommitted start.base (read_main (D.reads result.0.now)))) }
+        (λ n. (seen_pages txn.entry.read txn.entry.write (main_of (D.reads txn.entry.disk.now)) txn.entry.count txn.entry.written txn.entry.changed.held).page n)
+        E.tells (E.drawn result.1.now) (main_of (D.reads result.0.now))) }
+    ensures new { OnOk result.2 (IsTrue D.tells → Each (D.images result.0.now) (IsCommitted start.base (main_of (D.reads result.0.now)))) }
     ensures one_new { OnOk result.2 (IsTrue D.tells → LeavesOnly D.moment D.since txn.entry.disk.now result.0.now
-        (HoldsEither start.base (stored_pages start.base.size start.base.pages (read_main (D.reads result.0.now))))) }
+        (HoldsEither start.base (stored_pages start.base.size start.base.pages (main_of (D.reads result.0.now))))) }
     ensures any_moment { IsTrue D.tells → LeavesChanged D.moment D.since start.base (HasNewPages start txn.entry.write (is_touched txn.entry.written txn.entry.changed.held)
-        (λ n. (seen_pages txn.entry.read txn.entry.write (read_main (D.reads txn.entry.disk.now)) txn.entry.count txn.entry.written txn.entry.changed.held).page n)
+        (λ n. (seen_pages txn.entry.read txn.entry.write (main_of (D.reads txn.entry.disk.now)) txn.entry.count txn.entry.written txn.entry.changed.held).page n)
         E.tells (E.drawn result.1.now)) txn.entry.disk.now result.0.now }
     ensures only_old { result.2 ≡ Err RekeyError.EntropyFault → IsTrue D.tells → LeavesOnly D.moment D.since txn.entry.disk.now result.0.now (HoldsOld start.base) }
     ensures fresh { IsTrue D.tells → LeavesOnly D.moment D.since txn.entry.disk.now result.0.now (From SameFresh (D.images txn.entry.disk.now)) }
@@ -181,8 +181,8 @@ fn give_up<'d, D: Disk, E: Entropy>(
     requires asked { IsChangeRefusal error }
     ensures disk { result.0.ghost_name ≡ txn.entry.disk.ghost_name }
     ensures entropy { (result.1.ghost_name ≡ txn.entry.entropy.ghost_name) × (result.1.now ≡ txn.entry.entropy.now) }
-    ensures told { IsTrue D.tells → (result.0.now ≡ txn.entry.disk.now) × (result.2 ≡ Err (page_error error)) }
-    ensures stopped { (result.2 ≡ Err (page_error error)) ⊎ ((result.2 ≡ Err RekeyError.DiskFault) × Rose (D.faults txn.entry.disk.now) (D.faults result.0.now)) }
+    ensures told { IsTrue D.tells → (result.0.now ≡ txn.entry.disk.now) × (result.2 ≡ Err (rekey_page_error error)) }
+    ensures stopped { (result.2 ≡ Err (rekey_page_error error)) ⊎ ((result.2 ≡ Err RekeyError.DiskFault) × Rose (D.faults txn.entry.disk.now) (D.faults result.0.now)) }
     ensures later { D.faults txn.entry.disk.now ≤ D.faults result.0.now }
 {
     if is_failure(error) {
@@ -199,7 +199,7 @@ fn give_up<'d, D: Disk, E: Entropy>(
 // How a page that is refused stops the transaction.
 fn change_error(error: PageError) -> RekeyError
     requires { IsChangeRefusal error }
-    ensures { result ≡ page_error error }
+    ensures { result ≡ rekey_page_error error }
 {
     match error {
         PageError::TagRefused { page } => RekeyError::PageTag { page },
@@ -230,13 +230,13 @@ fn reseal_pages<D: Disk, E: Entropy>(
     requires ready { IsReadyFor txn.old.recorded txn.old.writer }
     requires under_way { IsTrue D.tells → IsUnderWay start txn.old.write txn.old.recorded txn.old.written txn.old.writer (D.reads txn.old.disk.now)
         (D.images txn.old.disk.now) E.tells (E.drawn txn.old.entropy.now) }
-    requires accepted { IsTrue D.tells → (n : ℕ) → is_number txn.old.count n ≡ true → is_zeroed leaves.now.leaves n ≡ false
+    requires accepted { IsTrue D.tells → (n : ℕ) → is_page_number txn.old.count n ≡ true → is_zeroed leaves.now.leaves n ≡ false
         → accepts txn.old.read n (page_stored txn.old.read start.base.start n) ≡ true }
-    ensures seen { OnOk result (IsTrue D.tells → (n : ℕ) → is_number txn.old.count n ≡ true
-        → (seen_pages txn.new.read txn.new.write (read_main (D.reads txn.new.disk.now)) txn.new.count txn.new.written txn.new.changed.held).page n
+    ensures seen { OnOk result (IsTrue D.tells → (n : ℕ) → is_page_number txn.old.count n ≡ true
+        → (seen_pages txn.new.read txn.new.write (main_of (D.reads txn.new.disk.now)) txn.new.count txn.new.written txn.new.changed.held).page n
         ≡ rewritten leaves.now.leaves (usable txn.old.write.profile)
-        (seen_pages txn.old.read txn.old.write (read_main (D.reads txn.old.disk.now)) txn.old.count txn.old.written txn.old.changed.held) n) }
-    ensures touched { OnOk result ((n : ℕ) → is_number txn.old.count n ≡ true → is_touched txn.new.written txn.new.changed.held n ≡ true) }
+        (seen_pages txn.old.read txn.old.write (main_of (D.reads txn.old.disk.now)) txn.old.count txn.old.written txn.old.changed.held) n) }
+    ensures touched { OnOk result ((n : ℕ) → is_page_number txn.old.count n ≡ true → is_touched txn.new.written txn.new.changed.held n ≡ true) }
     ensures ready { OnOk result (IsReadyFor txn.new.recorded txn.new.writer) }
     ensures under_way { OnOk result (IsTrue D.tells → IsUnderWay start txn.new.write txn.new.recorded txn.new.written txn.new.writer (D.reads txn.new.disk.now)
         (D.images txn.new.disk.now) E.tells (E.drawn txn.new.entropy.now)) }
@@ -267,17 +267,17 @@ fn reseal_next<D: Disk, E: Entropy>(
     leaves: &FreeMap,
 ) -> Result<(), PageError>
     ghost start: { Start }
-    requires number { is_number txn.old.count n ≡ true }
+    requires number { is_page_number txn.old.count n ≡ true }
     requires sizes { (txn.old.write.profile.page_size ≡ start.base.size) × (txn.old.count ≡ start.base.pages) }
     requires ready { IsReadyFor txn.old.recorded txn.old.writer }
     requires under_way { IsTrue D.tells → IsUnderWay start txn.old.write txn.old.recorded txn.old.written txn.old.writer (D.reads txn.old.disk.now)
         (D.images txn.old.disk.now) E.tells (E.drawn txn.old.entropy.now) }
     requires accepted { IsTrue D.tells → is_zeroed leaves.now.leaves n ≡ false → accepts txn.old.read n (page_stored txn.old.read start.base.start n) ≡ true }
     ensures seen { OnOk result (IsTrue D.tells → (m : ℕ)
-        → (seen_pages txn.new.read txn.new.write (read_main (D.reads txn.new.disk.now)) txn.new.count txn.new.written txn.new.changed.held).page m
+        → (seen_pages txn.new.read txn.new.write (main_of (D.reads txn.new.disk.now)) txn.new.count txn.new.written txn.new.changed.held).page m
         ≡ (if (m == n) && is_zeroed leaves.now.leaves n then replicate (usable txn.old.write.profile) 0
-        else (seen_pages txn.old.read txn.old.write (read_main (D.reads txn.old.disk.now)) txn.old.count txn.old.written txn.old.changed.held).page m)) }
-    ensures touched { OnOk result ((m : ℕ) → is_number txn.old.count m ≡ true → is_touched txn.new.written txn.new.changed.held m
+        else (seen_pages txn.old.read txn.old.write (main_of (D.reads txn.old.disk.now)) txn.old.count txn.old.written txn.old.changed.held).page m)) }
+    ensures touched { OnOk result ((m : ℕ) → is_page_number txn.old.count m ≡ true → is_touched txn.new.written txn.new.changed.held m
         ≡ (if m == n then true else is_touched txn.old.written txn.old.changed.held m)) }
     ensures ready { OnOk result (IsReadyFor txn.new.recorded txn.new.writer) }
     ensures under_way { OnOk result (IsTrue D.tells → IsUnderWay start txn.new.write txn.new.recorded txn.new.written txn.new.writer (D.reads txn.new.disk.now)
@@ -317,8 +317,8 @@ fn keep_next<D: Disk, E: Entropy>(txn: &mut Txn<'_, D, E>, n: u32) -> Result<(),
     requires under_way { IsTrue D.tells → IsUnderWay start txn.old.write txn.old.recorded txn.old.written txn.old.writer (D.reads txn.old.disk.now)
         (D.images txn.old.disk.now) E.tells (E.drawn txn.old.entropy.now) }
     ensures seen { OnOk result (IsTrue D.tells → (m : ℕ)
-        → (seen_pages txn.new.read txn.new.write (read_main (D.reads txn.new.disk.now)) txn.new.count txn.new.written txn.new.changed.held).page m
-        ≡ (seen_pages txn.old.read txn.old.write (read_main (D.reads txn.old.disk.now)) txn.old.count txn.old.written txn.old.changed.held).page m) }
+        → (seen_pages txn.new.read txn.new.write (main_of (D.reads txn.new.disk.now)) txn.new.count txn.new.written txn.new.changed.held).page m
+        ≡ (seen_pages txn.old.read txn.old.write (main_of (D.reads txn.old.disk.now)) txn.old.count txn.old.written txn.old.changed.held).page m) }
     ensures kept { (txn.new.changed ≡ txn.old.changed) × (txn.new.written ≡ txn.old.written) }
     ensures ready { OnOk result (IsReadyFor txn.new.recorded txn.new.writer) }
     ensures under_way { OnOk result (IsTrue D.tells → IsUnderWay start txn.new.write txn.new.recorded txn.new.written txn.new.writer (D.reads txn.new.disk.now)
@@ -351,17 +351,17 @@ fn reseal<D: Disk, E: Entropy>(
     leaves: &FreeMap,
 ) -> Result<(), PageError>
     ghost start: { Start }
-    requires number { is_number txn.old.count n ≡ true }
+    requires number { is_page_number txn.old.count n ≡ true }
     requires sizes { (txn.old.write.profile.page_size ≡ start.base.size) × (txn.old.count ≡ start.base.pages) }
     requires ready { IsReadyFor txn.old.recorded txn.old.writer }
     requires under_way { IsTrue D.tells → IsUnderWay start txn.old.write txn.old.recorded txn.old.written txn.old.writer (D.reads txn.old.disk.now)
         (D.images txn.old.disk.now) E.tells (E.drawn txn.old.entropy.now) }
     requires accepted { IsTrue D.tells → is_zeroed leaves.now.leaves n ≡ false → accepts txn.old.read n (page_stored txn.old.read start.base.start n) ≡ true }
     ensures seen { OnOk result (IsTrue D.tells → (m : ℕ)
-        → (seen_pages txn.new.read txn.new.write (read_main (D.reads txn.new.disk.now)) txn.new.count txn.new.written txn.new.changed.held).page m
+        → (seen_pages txn.new.read txn.new.write (main_of (D.reads txn.new.disk.now)) txn.new.count txn.new.written txn.new.changed.held).page m
         ≡ (if (m == n) && is_zeroed leaves.now.leaves n then replicate (usable txn.old.write.profile) 0
-        else (seen_pages txn.old.read txn.old.write (read_main (D.reads txn.old.disk.now)) txn.old.count txn.old.written txn.old.changed.held).page m)) }
-    ensures touched { OnOk result ((m : ℕ) → is_number txn.old.count m ≡ true → is_touched txn.new.written txn.new.changed.held m
+        else (seen_pages txn.old.read txn.old.write (main_of (D.reads txn.old.disk.now)) txn.old.count txn.old.written txn.old.changed.held).page m)) }
+    ensures touched { OnOk result ((m : ℕ) → is_page_number txn.old.count m ≡ true → is_touched txn.new.written txn.new.changed.held m
         ≡ (if m == n then true else is_touched txn.old.written txn.old.changed.held m)) }
     ensures ready { OnOk result (IsReadyFor txn.new.recorded txn.new.writer) }
     ensures under_way { OnOk result (IsTrue D.tells → IsUnderWay start txn.new.write txn.new.recorded txn.new.written txn.new.writer (D.reads txn.new.disk.now)

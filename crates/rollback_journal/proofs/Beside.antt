@@ -1,7 +1,7 @@
 -- What the images of a journal play while it is written.
 use Rattle.std.proofs.Common.{◌≡◌, ◌≢◌, ◌⊎◌, inl, inr, ⊎_elim, ℕ, suc, zero, ◌+◌, ◌-◌, ◌*◌, ◌%◌, ◌<◌, ◌≤◌, true, false, List, [], ◌∷◌, ◌++◌, length, take, drop, get_or, Option, Some, None, refl, sym, ◌∙◌, ap, subst, arith}
 use Rattle.std.proofs.lemmas.List.{append-nil, get_or-drop}
-use Rattle.edge_model.specs.Files.{File, Files, bytes_of, number_of, Torn}
+use Rattle.edge_model.specs.Files.{File, Files, bytes_of, number_of, Torn, contents}
 use Rattle.edge_model.specs.Images.{MayStep, HasSynced}
 use Rattle.edge_model.specs.declared.role.Role.TheVariants.{Journal}
 use Rattle.journal_format.specs.Header.{is_header, has_header, initial_at}
@@ -9,7 +9,7 @@ use Rattle.journal_format.specs.Records.{Record}
 use Rattle.journal_format.specs.Segments.{is_hot, played}
 use Rattle.rollback_journal.specs.Laying.{PlaysTo}
 use Rattle.rollback_journal.specs.Recovery.{RecoversTo}
-use Rattle.rollback_journal.specs.Playing.{contents, pending, places_at}
+use Rattle.rollback_journal.specs.Playing.{pending, places_at}
 use Rattle.rollback_journal.proofs.Played.{either}
 use Rattle.rollback_journal.proofs.Kept.{from_hot, to_hot, from_cold, to_cold, hot_byte}
 use Rattle.rollback_journal.proofs.Closed.{header_first, no_header_cold}
@@ -18,7 +18,7 @@ use Rattle.rollback_journal.proofs.SegmentSteps.{no_header, segment_none}
 use Rattle.rollback_journal.specs.declared.stage.Stage.{Stage}
 use Rattle.rollback_journal.specs.declared.stage.Stage.TheVariants.{New, Filling, Opened, Closed}
 use Rattle.rollback_journal.specs.Plays.{Plays, PlaysNone, SameOthers, PlaysAsBefore}
-use Rattle.rollback_journal.specs.Writing.{Writing, IsSmall, end_at, next_at, earlier_records, all_records, IsWritten, IsOpened, IsAt, IsLeft, HasFront, BesideAt, IsLeftBeside, PlaysFirst, PlaysAt}
+use Rattle.rollback_journal.specs.Writing.{Writing, IsSmall, end_at, next_at, earlier_records, all_records, IsJournalWritten, IsJournalOpened, IsWriterAt, IsLeft, HasFront, BesideAt, IsLeftBeside, PlaysFirst, PlaysAt}
 use Rattle.rollback_journal.proofs.Fronts.{front_of, index_same, front_long, torn_front}
 use Rattle.rollback_journal.proofs.WrittenSegments.{own_same, plays_of, opened_leads}
 
@@ -38,7 +38,7 @@ pub leads_end : (size at : ℕ) (records : List Record) (journal : List ℕ) →
 leads_end size at records journal none is = is ∙ ap (λ (rs : List Record). records ++ rs) (segment_none size at journal none) ∙ append-nil records
 
 -- a closed gate: each journal with the front up to it plays the earlier records
-pub filling_plays : (w : Writing) (journal other : List ℕ) → IsSmall w → IsWritten w journal → take w.at other ≡ take w.at journal → has_header w.at other ≡ false → PlaysFirst w.at w.page_size w.initial (earlier_records w journal) (Some other)
+pub filling_plays : (w : Writing) (journal other : List ℕ) → IsSmall w → IsJournalWritten w journal → take w.at other ≡ take w.at journal → has_header w.at other ≡ false → PlaysFirst w.at w.page_size w.initial (earlier_records w journal) (Some other)
 filling_plays w journal other small written same none = go w.at refl
   where
     go : (n : ℕ) → w.at ≡ n → PlaysFirst n w.page_size w.initial (earlier_records w journal) (Some other)
@@ -51,7 +51,7 @@ rounded_high : (n : ℕ) → n ≤ n + (512 - n % 512) % 512
 rounded_high n = omega arith
 
 -- an open gate: each journal with the front up to the records' end, and nothing much behind it, plays all records
-pub opened_plays : (w : Writing) (journal other : List ℕ) → IsSmall w → IsOpened w journal → take (end_at w) other ≡ take (end_at w) journal → length other < next_at w + 28 → Plays w.page_size w.initial (all_records w journal) (Some other)
+pub opened_plays : (w : Writing) (journal other : List ℕ) → IsSmall w → IsJournalOpened w journal → take (end_at w) other ≡ take (end_at w) journal → length other < next_at w + 28 → Plays w.page_size w.initial (all_records w journal) (Some other)
 opened_plays w journal other small opened same short =
     plays_of w.page_size w.initial (all_records w journal) other (own_same w.page_size w.initial (end_at w) other journal (omega arith) same opened.first)
     (leads_end w.page_size (next_at w) (all_records w journal) other (no_header (next_at w) other short) (opened_leads w journal small opened other same))
@@ -75,7 +75,7 @@ plays_there file P there is = subst P (sym there) is
 pub left_plays : (w : Writing) (now image : Option File) → IsLeft w now → IsLeftBeside w now image → PlaysAt w.stage w (contents now) (bytes_of image)
 left_plays w now image left beside = go w.stage left.is_at beside
   where
-    go : (s : Stage) → IsAt s w (contents now) → BesideAt s w.at now image → PlaysAt s w (contents now) (bytes_of image)
+    go : (s : Stage) → IsWriterAt s w (contents now) → BesideAt s w.at now image → PlaysAt s w (contents now) (bytes_of image)
     go New is at = absurd at
     go Filling is at =
         let front = front_of w.at (w.at + 1) (contents image) (contents now) (omega arith) at.bytes in

@@ -1,13 +1,13 @@
 -- What closing and removing a journal leaves in the images.
 use Rattle.std.proofs.Common.{◌≡◌, ◌⊎◌, inl, inr, ℕ, suc, ◌+◌, ◌-◌, Bool, true, false, ◌&&◌, nat_le, nat_lt, nat_eq, List, [], ◌∷◌, ◌++◌, length, replicate, Option, Some, None, refl, sym, ◌∙◌, ap, subst, arith}
 use Rattle.std.proofs.lemmas.List.{append-nil, ext_get_or}
-use Rattle.edge_model.specs.Files.{Files, number_of, bytes_of, written, removed, Torn}
+use Rattle.edge_model.specs.Files.{Files, number_of, bytes_of, written, removed, Torn, main_of}
 use Rattle.edge_model.specs.Images.{MayStep, Changes, Renames, HasSynced}
 use Rattle.edge_model.specs.declared.role.Role.TheVariants.{Journal}
 use Rattle.journal_format.specs.Header.{head_at, has_header, sector_at, is_sector}
 use Rattle.journal_format.specs.Segments.{is_hot}
-use Rattle.rollback_journal.specs.Recovery.{IsSettled, Keeps, RecoversTo}
-use Rattle.rollback_journal.specs.Playing.{main_of, journal_of}
+use Rattle.rollback_journal.specs.Recovery.{IsSettled, KeepsRecovered, RecoversTo}
+use Rattle.rollback_journal.specs.Playing.{journal_of}
 use Rattle.rollback_journal.specs.Closing.{IsLaidBack, IsCold}
 use Rattle.rollback_journal.proofs.Played.{either, and_first, and_second, eq_is}
 use Rattle.rollback_journal.proofs.Kept.{from_cold, to_cold, keeps_none}
@@ -16,7 +16,7 @@ use Rattle.rollback_journal.proofs.MainSteps.{step_number}
 pub keeps_bytes : (size : ℕ) (d c : Files) (md jd mc jc : Option (List ℕ)) → bytes_of d.main ≡ md → bytes_of d.journal ≡ jd → bytes_of c.main ≡ mc
     → bytes_of c.journal ≡ jc → c.fresh ≡ d.fresh
     → ((file : List ℕ) → RecoversTo size mc jc file → RecoversTo size md jd file) →
-    ((file : List ℕ) → RecoversTo size md jd file → (other : List ℕ) × RecoversTo size mc jc other) → Keeps size d c
+    ((file : List ℕ) → RecoversTo size md jd file → (other : List ℕ) × RecoversTo size mc jc other) → KeepsRecovered size d c
 keeps_bytes size d c md jd mc jc dm dj cm cj fresh back forth = record {
   no_other = λ file is. from md jd (bytes_of d.main) (bytes_of d.journal) (sym dm) (sym dj) file
       (back file (from (bytes_of c.main) (bytes_of c.journal) mc jc cm cj file is));
@@ -75,7 +75,7 @@ gate_forth size main old new file has torn is = go (either (is_hot main new))
     go (inl hot) = (file, subst (λ (j : List ℕ). RecoversTo size (Some main) (Some j) file) (sym (gate_torn old new has torn (hot_header main new hot))) is)
     go (inr cold) = (main, to_cold size main new main cold refl)
 
-pub gate_keeps : (size : ℕ) (now d c : Files) → IsSettled now d → IsLaidBack size now → Changes Journal (Torn 0 1) now d c → Keeps size d c
+pub gate_keeps : (size : ℕ) (now d c : Files) → IsSettled now d → IsLaidBack size now → Changes Journal (Torn 0 1) now d c → KeepsRecovered size d c
 gate_keeps size now d c settled back changes = go changes.1
   where
     main_d : bytes_of d.main ≡ Some (main_of now)
@@ -88,7 +88,7 @@ gate_keeps size now d c settled back changes = go changes.1
     same = subst (λ (x : Option (List ℕ)). RecoversTo size (Some (main_of now)) x (main_of now)) back.journal
         (subst (λ (x : Option (List ℕ)). RecoversTo size x (bytes_of now.journal) (main_of now)) back.main back.same)
 
-    go : MayStep (Torn 0 1) now.journal d.journal c.journal → Keeps size d c
+    go : MayStep (Torn 0 1) now.journal d.journal c.journal → KeepsRecovered size d c
     go (inl stays) = keeps_bytes size d c (Some (main_of now)) (Some (journal_of now)) (Some (main_of now)) (Some (journal_of now)) main_d journal_d
         (ap bytes_of changes.0 ∙ main_d) (ap bytes_of stays ∙ journal_d) changes.2 (λ file is. is) (λ file is. (file, is))
     go (inr s) =
@@ -114,8 +114,8 @@ zero_closed (x ∷ xs) has = ap (λ (l : List ℕ). has_header 0 (0 ∷ l)) tail
     and_no true = refl
     and_no false = refl
 
-pub drop_keeps : (size : ℕ) (now d c : Files) → IsSettled now d → IsCold now → Renames (removed Journal) now d c → Keeps size d c
-drop_keeps size now d c settled cold (inl stays) = subst (λ (x : Files). Keeps size d x) (sym stays) (keeps_none size d)
+pub drop_keeps : (size : ℕ) (now d c : Files) → IsSettled now d → IsCold now → Renames (removed Journal) now d c → KeepsRecovered size d c
+drop_keeps size now d c settled cold (inl stays) = subst (λ (x : Files). KeepsRecovered size d x) (sym stays) (keeps_none size d)
 drop_keeps size now d c settled cold (inr gone) =
     keeps_bytes size d c (Some (main_of now)) (Some (journal_of now)) (Some (main_of now)) None main_d (ap bytes_of settled.journal ∙ cold.journal)
     (ap (λ (x : Files). bytes_of x.main) gone.1 ∙ main_d) (ap (λ (x : Files). bytes_of x.journal) gone.1) (ap (λ (x : Files). x.fresh) gone.1)

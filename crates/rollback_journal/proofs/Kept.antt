@@ -5,9 +5,9 @@ use Rattle.std.proofs.lemmas.List.{nil_from_length}
 use Rattle.std.proofs.lemmas.Bool.Decides.{nat_tests}
 use Rattle.edge_model.specs.Files.{Files, bytes_of}
 use Rattle.journal_format.specs.Header.{page_size_at}
-use Rattle.journal_format.specs.Segments.{is_hot, names_super, played, places}
+use Rattle.journal_format.specs.Segments.{is_hot, names_super, played, record_places}
 use Rattle.rollback_journal.specs.Laying.{laid, AreSized, PlaysTo, IsPartly}
-use Rattle.rollback_journal.specs.Recovery.{end_of, IsPlayed, RecoversTo, Recovers, RecoversOnlyTo, Keeps}
+use Rattle.rollback_journal.specs.Recovery.{end_of, IsPlayed, RecoversTo, Recovers, RecoversOnlyTo, KeepsRecovered}
 use Rattle.rollback_journal.proofs.Laid.{plays_as_before, plays_zeros}
 use Rattle.rollback_journal.proofs.Played.{either, pending_sized}
 
@@ -56,7 +56,7 @@ pub to_cold : (size : ℕ) (main journal file : List ℕ) → is_hot main journa
 to_cold size main journal file cold is = subst (λ (b : Bool). MatchBool b (IsPlayed size main journal file) (file ≡ main)) (sym cold) is
 
 pub played_sized : (size : ℕ) (journal : List ℕ) → AreSized size (end_of size journal) (played size journal)
-played_sized size journal = pending_sized size journal (places size journal)
+played_sized size journal = pending_sized size journal (record_places size journal)
 
 -- The journal is hot and taken. Then what is laid over Main of it, in any part, is recovered as before.
 pub partly_no_other : (size : ℕ) (main now journal file : List ℕ) → 0 < size → is_hot main journal ≡ true → page_size_at 0 journal ≡ size
@@ -93,10 +93,10 @@ partly_still size now journal some sizes no_super = go (either (is_hot now journ
     )
     go (inr cold) = (now, to_cold size now journal now cold refl)
 
-pub keeps_none : (size : ℕ) (d : Files) → Keeps size d d
+pub keeps_none : (size : ℕ) (d : Files) → KeepsRecovered size d d
 keeps_none size d = record { no_other = λ file is. is; still = λ file is. (file, is); fresh = refl }
 
-pub keeps_joins : (size : ℕ) (a b c : Files) → Keeps size a b → Keeps size b c → Keeps size a c
+pub keeps_joins : (size : ℕ) (a b c : Files) → KeepsRecovered size a b → KeepsRecovered size b c → KeepsRecovered size a c
 keeps_joins size a b c one two = record {
   no_other = λ file is. one.no_other file (two.no_other file is);
   still = λ file is. let mid = one.still file is in two.still mid.0 mid.1;
@@ -104,14 +104,14 @@ keeps_joins size a b c one two = record {
 }
 
 -- what is kept is kept of every set of files
-pub keeps_only : (size : ℕ) (set : List ℕ → Bool) (d c : Files) → Keeps size d c → RecoversOnlyTo size set d → RecoversOnlyTo size set c
+pub keeps_only : (size : ℕ) (set : List ℕ → Bool) (d c : Files) → KeepsRecovered size d c → RecoversOnlyTo size set d → RecoversOnlyTo size set c
 keeps_only size set d c keeps held = record { some = keeps.still held.some.0 held.some.1; only = λ file is. held.only file (keeps.no_other file is) }
 
 -- the same, of images
 pub keeps_partly : (size : ℕ) (main now journal : List ℕ) (d c : Files) → 0 < size → is_hot main journal ≡ true → page_size_at 0 journal ≡ size
     → IsFalse (names_super journal)
     → bytes_of d.main ≡ Some main → bytes_of d.journal ≡ Some journal → bytes_of c.main ≡ Some now → bytes_of c.journal ≡ Some journal → c.fresh ≡ d.fresh
-    → IsPartly size (end_of size journal) (played size journal) main now → Keeps size d c
+    → IsPartly size (end_of size journal) (played size journal) main now → KeepsRecovered size d c
 keeps_partly size main now journal d c some hot sizes no_super main_d journal_d main_c journal_c fresh partly = record {
   no_other = λ file is. to_d file (partly_no_other size main now journal file some hot sizes no_super partly (from_c file is));
   still = λ file is. let other = partly_still size now journal some sizes no_super in (other.0, to_c other.0 other.1);

@@ -6,7 +6,7 @@ use Rattle.edge_model.specs.Files.{filled_to, written, Torn, Shorter}
 use Rattle.edge_model.specs.Bytes.{torn_written, spliced_below, spliced_above, length-filled, length-spliced}
 use Rattle.edge_model.proofs.Ranges.{written_here}
 use Rattle.journal_format.specs.Records.{Record}
-use Rattle.rollback_journal.specs.Laying.{page_start, laid, reach, IsGiven, IsOneOf, AreSized, PlaysTo, IsPartly}
+use Rattle.rollback_journal.specs.Laying.{page_start, laid, reach, IsGivenByte, IsOneOf, AreSized, PlaysTo, IsPartly}
 
 order : (a b : ℕ) → (a < b) ⊎ (b ≤ a)
 order a b = search arith
@@ -36,7 +36,7 @@ longer : (at : ℕ) (bytes old : List ℕ) → length old ≤ length (written at
 longer at bytes old = (torn_written at bytes old).no_shorter
 
 pub laid_same : (size end : ℕ) (records : List Record) (a b : List ℕ) (i : ℕ) → AreSized size end records → i < length a → i < length b
-    → IsGiven size records i ⊎ (get_or a i 0 ≡ get_or b i 0)
+    → IsGivenByte size records i ⊎ (get_or a i 0 ≡ get_or b i 0)
     → get_or (laid size records a) i 0 ≡ get_or (laid size records b) i 0
 laid_same size end [] a b i sized in_a in_b (inl given) = absurd given
 laid_same size end [] a b i sized in_a in_b (inr same) = same
@@ -45,8 +45,8 @@ laid_same size end (entry ∷ rest) a b i sized in_a in_b given =
     laid_same size end rest (written at entry.image a) (written at entry.image b) i sized.2 (omega (arith, longer at entry.image a))
     (omega (arith, longer at entry.image b)) (go given)
   where
-    go : IsGiven size (entry ∷ rest) i ⊎ (get_or a i 0 ≡ get_or b i 0)
-        → IsGiven size rest i ⊎
+    go : IsGivenByte size (entry ∷ rest) i ⊎ (get_or a i 0 ≡ get_or b i 0)
+        → IsGivenByte size rest i ⊎
         (get_or (written (page_start size entry.page) entry.image a) i 0 ≡ get_or (written (page_start size entry.page) entry.image b) i 0)
     go (inl (inl here)) = inr (written_same (page_start size entry.page) entry.image a b i in_a in_b (inl (here.0, omega (arith, here.1, sized.0))))
     go (inl (inr later)) = inl later
@@ -77,11 +77,11 @@ fill_length size records main base long = omega
 
 filled_byte : (size end : ℕ) (records : List Record) (main now fill : List ℕ) (i : ℕ) → IsPartly size end records main now → i < end
     → i < length main + (reach size records - length main)
-    → IsGiven size records i ⊎ (get_or (now ++ fill) i 0 ≡ get_or (main ++ fill_of size records main (now ++ fill)) i 0)
+    → IsGivenByte size records i ⊎ (get_or (now ++ fill) i 0 ≡ get_or (main ++ fill_of size records main (now ++ fill)) i 0)
 filled_byte size end records main now fill i partly low within = go (order i (length main))
   where
     go : (i < length main) ⊎ (length main ≤ i)
-        → IsGiven size records i ⊎ (get_or (now ++ fill) i 0 ≡ get_or (main ++ fill_of size records main (now ++ fill)) i 0)
+        → IsGivenByte size records i ⊎ (get_or (now ++ fill) i 0 ≡ get_or (main ++ fill_of size records main (now ++ fill)) i 0)
     go (inl front) =
         ⊎_elim (λ given. inl given)
         (λ same. inr (get_or-append now fill 0 i (omega (arith, partly.no_shorter)) ∙ same ∙ sym (get_or-append main (fill_of size records main (now ++ fill)) 0 i front)))
@@ -96,7 +96,7 @@ filled_byte size end records main now fill i partly low within = go (order i (le
 -- two files that differ only where images are laid, or behind the end
 pub laid_cut : (size end : ℕ) (records : List Record) (a b : List ℕ) → AreSized size end records → reach size records ≤ length a
     → reach size records ≤ length b → min end (length a) ≡ min end (length b)
-    → ((i : ℕ) → i < end → i < length b → IsGiven size records i ⊎ (get_or a i 0 ≡ get_or b i 0)) → take end (laid size records a) ≡ take end
+    → ((i : ℕ) → i < end → i < length b → IsGivenByte size records i ⊎ (get_or a i 0 ≡ get_or b i 0)) → take end (laid size records a) ≡ take end
     (laid size records b)
 laid_cut size end records a b sized long_a long_b same each =
     let la = length-take end (laid size records a) in
@@ -145,7 +145,7 @@ partly_torn size end records entry main d c one sized partly torn = record {
   where
     go : (i : ℕ) → i < length main → i < end → (i < page_start size entry.page) ⊎ (page_start size entry.page ≤ i)
         → (i < page_start size entry.page + size) ⊎ (page_start size entry.page + size ≤ i)
-        → IsGiven size records i ⊎ (get_or c i 0 ≡ get_or main i 0)
+        → IsGivenByte size records i ⊎ (get_or c i 0 ≡ get_or main i 0)
     go i lt low (inl before) any = ⊎_elim (λ given. inl given) (λ same. inr (torn.below i (omega (arith, partly.no_shorter)) before ∙ same))
         (partly.kept i lt low)
     go i lt low (inr from) (inl to) = inl (one.given i from to)
@@ -214,15 +214,15 @@ laid_reach size end (entry ∷ rest) file some sized =
 
 -- what no image gives stays
 pub laid_keeps : (size end : ℕ) (records : List Record) (file : List ℕ) (i : ℕ) → AreSized size end records
-    → IsGiven size records i ⊎ (get_or (laid size records file) i 0 ≡ get_or file i 0)
+    → IsGivenByte size records i ⊎ (get_or (laid size records file) i 0 ≡ get_or file i 0)
 laid_keeps size end [] file i sized = inr refl
 laid_keeps size end (entry ∷ rest) file i sized = go (order i (page_start size entry.page)) (order i (page_start size entry.page + size))
     (laid_keeps size end rest (written (page_start size entry.page) entry.image file) i sized.2)
   where
     go : (i < page_start size entry.page) ⊎ (page_start size entry.page ≤ i) → (i < page_start size entry.page + size) ⊎ (page_start size entry.page + size ≤ i)
-        → IsGiven size rest i ⊎
+        → IsGivenByte size rest i ⊎
         (get_or (laid size rest (written (page_start size entry.page) entry.image file)) i 0 ≡ get_or (written (page_start size entry.page) entry.image file) i 0)
-        → IsGiven size (entry ∷ rest) i ⊎ (get_or (laid size (entry ∷ rest) file) i 0 ≡ get_or file i 0)
+        → IsGivenByte size (entry ∷ rest) i ⊎ (get_or (laid size (entry ∷ rest) file) i 0 ≡ get_or file i 0)
     go before to (inl given) = inl (inr given)
     go (inl before) to (inr same) = inr (same ∙ written_outside (page_start size entry.page) entry.image file i (inl before))
     go (inr from) (inl to) (inr same) = inl (inl (from, to))

@@ -1,12 +1,12 @@
 -- Main after a playback.
 use Rattle.std.proofs.Common.{◌≡◌, ◌≢◌, ◌⊎◌, inl, inr, ℕ, ◌<◌, true, false, List, take, Option, Some, None, refl, sym, ◌∙◌, ap, subst}
 use Rattle.std.specs.Prelude.{IsFalse}
-use Rattle.edge_model.specs.Files.{File, Files, bytes_of}
+use Rattle.edge_model.specs.Files.{File, Files, bytes_of, contents, main_of}
 use Rattle.journal_format.specs.Header.{has_header, page_size_at}
 use Rattle.journal_format.specs.Segments.{is_hot, names_super, played}
 use Rattle.rollback_journal.specs.Laying.{laid, PlaysTo}
 use Rattle.rollback_journal.specs.Recovery.{RecoversTo, HasByte, end_of}
-use Rattle.rollback_journal.specs.Playing.{contents, main_of, journal_of, IsTaken}
+use Rattle.rollback_journal.specs.Playing.{journal_of, IsPlayedHot}
 use Rattle.rollback_journal.specs.Closing.{IsLaidBack}
 use Rattle.rollback_journal.proofs.Played.{either}
 use Rattle.rollback_journal.proofs.Laid.{plays_zeros, plays_again}
@@ -39,7 +39,7 @@ played_stays size main journal file some taken is = go (either (is_hot file jour
     })
     go (inr cold) = to_cold size file journal file cold refl
 
-pub laid_back : (size : ℕ) (old new : Files) → 0 < size → IsTaken size old → new.journal ≡ old.journal → new.main ≢ None
+pub laid_back : (size : ℕ) (old new : Files) → 0 < size → IsPlayedHot size old → new.journal ≡ old.journal → new.main ≢ None
     → main_of new ≡ take (end_of size (journal_of old)) (laid size (played size (journal_of old)) (main_of old)) → IsLaidBack size new
 laid_back size old new some taken journal there main = record {
   main = there_contents new.main there;

@@ -1,17 +1,17 @@
 -- The writer's own journal is played back: what each image has for it, and what stands after it.
 use Rattle.std.proofs.Common.{◌≡◌, ◌≢◌, ◌⊎◌, inl, inr, ⊎_elim, ℕ, zero, suc, ◌*◌, ◌-◌, ◌<◌, ◌≤◌, List, [], length, take, Option, Some, None, refl, sym, ◌∙◌, ap, subst, arith}
 use Rattle.std.proofs.Math.Nat.{mul-pos}
-use Rattle.edge_model.specs.Files.{File, Files, bytes_of}
+use Rattle.edge_model.specs.Files.{File, Files, bytes_of, contents, main_of}
 use Rattle.journal_format.specs.Header.{initial_at, sector_at, page_size_at}
 use Rattle.journal_format.specs.Records.{Record}
 use Rattle.journal_format.specs.Segments.{is_hot, names_super, played}
 use Rattle.std.specs.Prelude.{IsFalse}
 use Rattle.rollback_journal.specs.Recovery.{HasByte, IsHeld}
-use Rattle.rollback_journal.specs.Playing.{contents, main_of, journal_of, IsInPlay}
+use Rattle.rollback_journal.specs.Playing.{journal_of, IsInPlay}
 use Rattle.rollback_journal.specs.declared.stage.Stage.{Stage}
 use Rattle.rollback_journal.specs.declared.stage.Stage.TheVariants.{New, Filling, Opened, Closed}
 use Rattle.rollback_journal.specs.Plays.{Plays}
-use Rattle.rollback_journal.specs.Writing.{Writing, IsSmall, safe_at, safe_records, earlier_records, IsAt, IsLeft, IsLeftBeside, Stands, PlaysFirst, PlaysAt}
+use Rattle.rollback_journal.specs.Writing.{Writing, IsSmall, safe_at, safe_records, earlier_records, IsWriterAt, IsLeft, IsLeftBeside, WriterStands, PlaysFirst, PlaysAt}
 use Rattle.rollback_journal.proofs.Beside.{left_plays}
 
 filling_not : ◌≡◌ {A = Stage} Filling Opened → ⊥
@@ -55,7 +55,7 @@ pub unbegun_none : (w : Writing) (journal : List ℕ) → w.at ≡ 0 → w.stage
 unbegun_none w journal none not stage =
     ⊎_elim (λ is. ap (λ (s : Stage). safe_at s w journal) is ∙ ap (λ (n : ℕ). played w.page_size (take n journal)) none) (λ is. absurd (not is)) stage
 
-module _ (w : Writing) (now : Files) (images : Files → Type 0) (stands : Stands w now images) (began : (0 < w.at) ⊎ (w.stage ≡ Opened)) (stage : (w.stage ≡ Filling) ⊎ (w.stage ≡ Opened)) where
+module _ (w : Writing) (now : Files) (images : Files → Type 0) (stands : WriterStands w now images) (began : (0 < w.at) ⊎ (w.stage ≡ Opened)) (stage : (w.stage ≡ Filling) ⊎ (w.stage ≡ Opened)) where
   -- the database has a page
   some_page : 0 < w.initial
   some_page = go stage began stands.read.is_at
@@ -63,9 +63,9 @@ module _ (w : Writing) (now : Files) (images : Files → Type 0) (stands : Stand
       small : IsSmall w
       small = stands.read.small
 
-      go : (w.stage ≡ Filling) ⊎ (w.stage ≡ Opened) → (0 < w.at) ⊎ (w.stage ≡ Opened) → IsAt w.stage w (contents now.journal) → 0 < w.initial
+      go : (w.stage ≡ Filling) ⊎ (w.stage ≡ Opened) → (0 < w.at) ⊎ (w.stage ≡ Opened) → IsWriterAt w.stage w (contents now.journal) → 0 < w.initial
       go (inr is) began at =
-          let opened = subst (λ (s : Stage). IsAt s w (contents now.journal)) is at in
+          let opened = subst (λ (s : Stage). IsWriterAt s w (contents now.journal)) is at in
           omega (arith, opened.some, small.count, small.total)
       go (inl is) (inl some) at = at_pos (w.total - w.count) refl some
         where
@@ -77,7 +77,7 @@ module _ (w : Writing) (now : Files) (images : Files → Type 0) (stands : Stand
   journal_byte : 0 < length (contents now.journal)
   journal_byte = go w.stage stands.read.is_at
     where
-      go : (s : Stage) → IsAt s w (contents now.journal) → 0 < length (contents now.journal)
+      go : (s : Stage) → IsWriterAt s w (contents now.journal) → 0 < length (contents now.journal)
       go New at = absurd at
       go Filling at = omega (arith, at.written.within)
       go Opened at = omega (arith, at.written.within)
@@ -122,20 +122,20 @@ module _ (w : Writing) (now : Files) (images : Files → Type 0) (stands : Stand
   pub now_sector : sector_at 0 (journal_of now) ≡ 512
   now_sector = go stage began stands.read.is_at
     where
-      go : (w.stage ≡ Filling) ⊎ (w.stage ≡ Opened) → (0 < w.at) ⊎ (w.stage ≡ Opened) → IsAt w.stage w (contents now.journal) → sector_at 0 (journal_of now) ≡ 512
-      go (inr is) began at = let opened = subst (λ (s : Stage). IsAt s w (contents now.journal)) is at in opened.first.sector
-      go (inl is) (inl some) at = let filling = subst (λ (s : Stage). IsAt s w (contents now.journal)) is at in (filling.written.own some).sector
+      go : (w.stage ≡ Filling) ⊎ (w.stage ≡ Opened) → (0 < w.at) ⊎ (w.stage ≡ Opened) → IsWriterAt w.stage w (contents now.journal) → sector_at 0 (journal_of now) ≡ 512
+      go (inr is) began at = let opened = subst (λ (s : Stage). IsWriterAt s w (contents now.journal)) is at in opened.first.sector
+      go (inl is) (inl some) at = let filling = subst (λ (s : Stage). IsWriterAt s w (contents now.journal)) is at in (filling.written.own some).sector
       go (inl is) (inr other) at = absurd (filling_not (sym is ∙ other))
 
 -- The journal stays, as it reads and in each image.
-pub stays_stands : (w : Writing) (now new : Files) (images after : Files → Type 0) → Stands w now images → images now → new.journal ≡ now.journal → ((c : Files) → after c → c.journal ≡ new.journal) → Stands w new after
+pub stays_stands : (w : Writing) (now new : Files) (images after : Files → Type 0) → WriterStands w now images → images now → new.journal ≡ now.journal → ((c : Files) → after c → c.journal ≡ new.journal) → WriterStands w new after
 stays_stands w now new images after stands here same each = record {
   read = subst (λ (f : Option File). IsLeft w f) (sym same) stands.read;
   beside = λ c left. subst (λ (f : Option File). IsLeftBeside w f c.journal) (sym same) (subst (λ (f : Option File). IsLeftBeside w now.journal f) (sym (each c left ∙ same)) (stands.beside now here));
 }
 
 -- The same, where each image comes from one with that journal.
-pub kept_stands : (w : Writing) (now new : Files) (images after : Files → Type 0) → Stands w now images → new.journal ≡ now.journal → ((c : Files) → after c → images c) → Stands w new after
+pub kept_stands : (w : Writing) (now new : Files) (images after : Files → Type 0) → WriterStands w now images → new.journal ≡ now.journal → ((c : Files) → after c → images c) → WriterStands w new after
 kept_stands w now new images after stands same less = record {
   read = subst (λ (f : Option File). IsLeft w f) (sym same) stands.read;
   beside = λ c left. subst (λ (f : Option File). IsLeftBeside w f c.journal) (sym same) (stands.beside c (less c left));

@@ -2,7 +2,7 @@
 use Rattle.std.proofs.Common.{◌≡◌, ◌≢◌, ◌⊎◌, inl, inr, ⊎_elim, ℕ, ◌<◌, Bool, true, false, ◌&&◌, nat_lt, not, ◌==◌, if◌then◌else◌, List, length, take, Option, Some, None, Result, Ok, Err, refl, sym, ◌∙◌, ap, subst, arith}
 use Rattle.std.specs.Prelude.{IsTrue, IfErr, IfOk, OnOk}
 use Rattle.std.proofs.lemmas.Bool.Decides.{nat_tests}
-use Rattle.edge_model.specs.Files.{File, Files, bytes_of}
+use Rattle.edge_model.specs.Files.{File, Files, bytes_of, main_of}
 use Rattle.edge_model.specs.Images.{LeavesOnly}
 use Rattle.edge_model.specs.Moments.{and_then, weaker}
 use Rattle.journal_format.specs.Header.{has_header, is_sector, sector_at, page_size_at}
@@ -12,8 +12,8 @@ use Rattle.rollback_journal.specs.declared.recovery.Recovery.TheVariants.{Nothin
 use Rattle.rollback_journal.specs.declared.recovery.RecoverError.{RecoverError}
 use Rattle.rollback_journal.specs.declared.recovery.RecoverError.TheVariants.{JournalPageSize, SuperJournal, DiskFault, OutOfMemory}
 use Rattle.rollback_journal.specs.Laying.{laid}
-use Rattle.rollback_journal.specs.Recovery.{HasByte, IsDone, answer_of, answer_to, changes_nothing, end_of}
-use Rattle.rollback_journal.specs.Playing.{main_of, journal_of, IsTaken}
+use Rattle.rollback_journal.specs.Recovery.{HasByte, IsPlaybackDone, answer_of, answer_to, changes_nothing, end_of}
+use Rattle.rollback_journal.specs.Playing.{journal_of, IsPlayedHot}
 use Rattle.rollback_journal.proofs.MainSteps.{some_contents, has_byte}
 use Rattle.rollback_journal.proofs.LaidBack.{there_contents}
 
@@ -104,11 +104,11 @@ reads_on images one less two = and_then one (weaker less two)
 pub done_is : (size : ℕ) (old new image : Files) → HasByte (bytes_of old.main) → bytes_of old.journal ≡ Some (journal_of old)
     → is_hot (main_of old) (journal_of old) ≡ true → bytes_of new.main ≡ Some (main_of new)
     → main_of new ≡ take (end_of size (journal_of old))
-    (laid size (played size (journal_of old)) (main_of old)) → image.main ≡ new.main → image.journal ≡ None → IsDone size (bytes_of old.main)
+    (laid size (played size (journal_of old)) (main_of old)) → image.main ≡ new.main → image.journal ≡ None → IsPlaybackDone size (bytes_of old.main)
     (bytes_of old.journal) image
 done_is size old new image some journal hot there is main gone =
-    subst (λ (m : Option (List ℕ)). IsDone size m (bytes_of old.journal) image) (sym (some_contents old.main some))
-    (subst (λ (j : Option (List ℕ)). IsDone size (Some (main_of old)) j image) (sym journal) (
+    subst (λ (m : Option (List ℕ)). IsPlaybackDone size m (bytes_of old.journal) image) (sym (some_contents old.main some))
+    (subst (λ (j : Option (List ℕ)). IsPlaybackDone size (Some (main_of old)) j image) (sym journal) (
       ap bytes_of main ∙ there ∙ ap (λ (l : List ℕ). Some l) is
           ∙ ap
           (λ (b : Bool). Some (if b then take (end_of size (journal_of old)) (laid size (played size (journal_of old)) (main_of old)) else main_of old))
@@ -121,7 +121,7 @@ has_not_none None has = absurd has
 has_not_none (Some file) has = λ is. cc
 
 -- a journal that is taken is played: that changes something
-pub taken_changes : (size : ℕ) (files : Files) → IsTaken size files → IsTrue (changes_nothing (answer_to size files)) → ⊥
+pub taken_changes : (size : ℕ) (files : Files) → IsPlayedHot size files → IsTrue (changes_nothing (answer_to size files)) → ⊥
 taken_changes size files taken idle =
     let played : changes_nothing (answer_to size files) ≡ false = ap (λ (r : Result Recovery RecoverError). changes_nothing r)
     (answer_taken size files false taken.main (has_not_none files.journal taken.journal) taken.hot taken.page_size (sym taken.no_super)) in
@@ -129,7 +129,7 @@ taken_changes size files taken idle =
 
 -- the answer to a hot journal that is taken, by what was looked at
 pub hot_answer : (tells : Bool) (n size : ℕ) (old looked : Files) (result : Result Recovery RecoverError) → IsTrue tells → n ≡ size → looked ≡ old
-    → IsTaken size old
+    → IsPlayedHot size old
     → IfOk result (λ did. IsTrue tells → did ≡ Played (length (played n (journal_of looked)))) → IfErr result (λ why. (why ≡ DiskFault) ⊎ (why ≡ OutOfMemory))
     → (result ≡ answer_to size old) ⊎ (result ≡ Err DiskFault) ⊎ (result ≡ Err OutOfMemory)
 hot_answer tells n size old looked (Ok did) told is same taken ok err =
@@ -144,8 +144,8 @@ pub on_ok : {P Q : Type 0} (result : Result Recovery RecoverError) → (P → Q)
 on_ok (Ok did) gives p = gives p
 on_ok (Err why) gives p = tt
 
-pub done_same : (n size : ℕ) (old looked image : Files) → n ≡ size → looked ≡ old → IsDone n (bytes_of looked.main) (bytes_of looked.journal) image
-    → IsDone size (bytes_of old.main) (bytes_of old.journal) image
+pub done_same : (n size : ℕ) (old looked image : Files) → n ≡ size → looked ≡ old → IsPlaybackDone n (bytes_of looked.main) (bytes_of looked.journal) image
+    → IsPlaybackDone size (bytes_of old.main) (bytes_of old.journal) image
 done_same n size old looked image is same done =
-    subst (λ (k : ℕ). IsDone k (bytes_of old.main) (bytes_of old.journal) image) is
-    (subst (λ (x : Files). IsDone n (bytes_of x.main) (bytes_of x.journal) image) same done)
+    subst (λ (k : ℕ). IsPlaybackDone k (bytes_of old.main) (bytes_of old.journal) image) is
+    (subst (λ (x : Files). IsPlaybackDone n (bytes_of x.main) (bytes_of x.journal) image) same done)

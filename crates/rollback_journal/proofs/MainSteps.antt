@@ -1,14 +1,14 @@
 -- What a call on Main leaves in the images while a hot journal stands beside it.
 use Rattle.std.proofs.Common.{◌≡◌, ◌⊎◌, inl, inr, ℕ, ◌<◌, ◌≤◌, true, List, length, Option, Some, None, refl, sym, ◌∙◌, ap, subst, arith}
-use Rattle.edge_model.specs.Files.{File, Files, number_of, bytes_of, with_bytes}
+use Rattle.edge_model.specs.Files.{File, Files, number_of, bytes_of, with_file_bytes, contents, main_of}
 use Rattle.edge_model.specs.Images.{MayStep, Changes, IsNumbered}
 use Rattle.edge_model.specs.declared.role.Role.TheVariants.{Main}
 use Rattle.journal_format.specs.Header.{page_size_at}
 use Rattle.std.specs.Prelude.{IsFalse}
 use Rattle.journal_format.specs.Segments.{is_hot, names_super, played}
 use Rattle.rollback_journal.specs.Laying.{IsPartly}
-use Rattle.rollback_journal.specs.Recovery.{HasByte, IsHeld, Keeps, end_of}
-use Rattle.rollback_journal.specs.Playing.{contents, main_of, journal_of, IsTaken, IsInPlay}
+use Rattle.rollback_journal.specs.Recovery.{HasByte, IsHeld, KeepsRecovered, end_of}
+use Rattle.rollback_journal.specs.Playing.{journal_of, IsPlayedHot, IsInPlay}
 use Rattle.rollback_journal.proofs.Laid.{partly_at_first}
 use Rattle.rollback_journal.proofs.Kept.{keeps_partly, hot_too}
 
@@ -59,7 +59,7 @@ main_partly size step now d c partly play changes = go (step_bytes step now.main
 -- a step on Main that lays a part of an image, or cuts, keeps what is recovered
 pub main_keeps : (size next : ℕ) (step : List ℕ → List ℕ → Type 0) (now d c : Files) → 0 < size
     → ((a b : List ℕ) → step a b → IsPartly size (end_of size (journal_of d)) (played size (journal_of d)) a b)
-    → IsInPlay size now d → IsNumbered next d → Changes Main step now d c → Keeps size d c
+    → IsInPlay size now d → IsNumbered next d → Changes Main step now d c → KeepsRecovered size d c
 main_keeps size next step now d c some partly play numbered changes =
     keeps_partly size (main_of d) (main_of c) (journal_of d) d c some play.taken.hot play.taken.page_size play.taken.no_super
     (some_contents d.main play.taken.main) (some_contents d.journal play.taken.journal)
@@ -79,8 +79,8 @@ main_held step next now new d c main journal fresh numbered held changes = recor
 }
 
 -- where Main keeps a byte, the journal is taken as before
-pub main_taken : (size : ℕ) (step : List ℕ → List ℕ → Type 0) (now d c : Files) → ((a b : List ℕ) → step a b → length a ≤ length b) → IsTaken size d
-    → Changes Main step now d c → IsTaken size c
+pub main_taken : (size : ℕ) (step : List ℕ → List ℕ → Type 0) (now d c : Files) → ((a b : List ℕ) → step a b → length a ≤ length b) → IsPlayedHot size d
+    → Changes Main step now d c → IsPlayedHot size c
 main_taken size step now d c longer taken changes =
     let bytes = step_bytes step now.main d.main c.main changes.0 taken.main in
     let some : 0 < length (contents c.main) = go bytes.1 in
@@ -96,6 +96,6 @@ main_taken size step now d c longer taken changes =
     go (inl same) = let was = has_byte d.main taken.main in omega (arith, ap length same)
     go (inr took) = let was = has_byte d.main taken.main in omega (arith, longer (contents d.main) (contents c.main) took)
 
-pub with_number : (change : List ℕ → List ℕ) (file : Option File) → number_of (with_bytes change file) ≡ number_of file
+pub with_number : (change : List ℕ → List ℕ) (file : Option File) → number_of (with_file_bytes change file) ≡ number_of file
 with_number change None = refl
 with_number change (Some file) = refl

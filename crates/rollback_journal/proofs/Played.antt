@@ -4,7 +4,7 @@ use Rattle.std.proofs.lemmas.List.{length-take}
 use Rattle.std.proofs.Math.Nat.{suc-mul, mul-le-mul_right}
 use Rattle.std.proofs.lemmas.Bool.Decides.{nat_tests}
 use Rattle.journal_format.specs.Header.{initial_at}
-use Rattle.journal_format.specs.Records.{Record, Place, bytes_at, page_of, image_of, record_at, is_good}
+use Rattle.journal_format.specs.Records.{Record, Place, record_bytes_at, page_of, image_of, record_at, is_good}
 use Rattle.journal_format.specs.Segments.{good_front}
 use Rattle.rollback_journal.specs.Laying.{page_start, AreSized}
 use Rattle.rollback_journal.specs.Recovery.{end_of}
@@ -32,11 +32,11 @@ pub eq_is : (a b : ℕ) → (a == b) ≡ true → a ≡ b
 eq_is a b is = grind (arith, nat_tests)
 
 -- a good record is whole, and its page has a number
-pub good_whole : (size : ℕ) (journal : List ℕ) (place : Place) → is_good size journal place ≡ true → length (bytes_at size journal place) ≡ size + 8
+pub good_whole : (size : ℕ) (journal : List ℕ) (place : Place) → is_good size journal place ≡ true → length (record_bytes_at size journal place) ≡ size + 8
 good_whole size journal place good = eq_is _ _ (and_first _ _ good)
 
-pub good_page : (size : ℕ) (journal : List ℕ) (place : Place) → is_good size journal place ≡ true → 1 ≤ page_of (bytes_at size journal place)
-good_page size journal place good = not_zero _ (and_first _ _ (and_second (length (bytes_at size journal place) == size + 8) _ good))
+pub good_page : (size : ℕ) (journal : List ℕ) (place : Place) → is_good size journal place ≡ true → 1 ≤ page_of (record_bytes_at size journal place)
+good_page size journal place good = not_zero _ (and_first _ _ (and_second (length (record_bytes_at size journal place) == size + 8) _ good))
 
 pub page_end : (size page initial : ℕ) → 1 ≤ page → page ≤ initial → page_start size page + size ≤ initial * size
 page_end size zero initial one le = absurd (omega arith)
@@ -66,7 +66,7 @@ module _ (size : ℕ) (journal : List ℕ) where
 pub pending_sized : (size : ℕ) (journal : List ℕ) (rest : List Place) → AreSized size (end_of size journal) (pending size journal rest)
 pending_sized size journal [] = tt
 pending_sized size journal (place ∷ rest) =
-    sized_if size journal (is_good size journal place) (nat_le (page_of (bytes_at size journal place)) (initial_at 0 journal))
+    sized_if size journal (is_good size journal place) (nat_le (page_of (record_bytes_at size journal place)) (initial_at 0 journal))
     (record_at size journal place) (good_front size journal rest)
-    (λ good low. (image_size size (bytes_at size journal place) (good_whole size journal place good), page_end size (page_of (bytes_at size journal place)) (initial_at 0 journal) (good_page size journal place good) (le_is _ _ low)))
+    (λ good low. (image_size size (record_bytes_at size journal place) (good_whole size journal place good), page_end size (page_of (record_bytes_at size journal place)) (initial_at 0 journal) (good_page size journal place good) (le_is _ _ low)))
     refl (pending_sized size journal rest)

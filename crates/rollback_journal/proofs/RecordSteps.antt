@@ -3,7 +3,7 @@ use Rattle.std.proofs.Common.{◌≡◌, ℕ, suc, ◌+◌, ◌-◌, ◌*◌, �
 use Rattle.std.proofs.Math.Nat.{suc-mul}
 use Rattle.journal_format.specs.Records.{Record, Place, record_at}
 use Rattle.journal_format.specs.Segments.{places_of, played}
-use Rattle.rollback_journal.specs.Laying.{page_start, reach, IsGiven, IsOneOf}
+use Rattle.rollback_journal.specs.Laying.{page_start, reach, IsGivenByte, IsOneOf}
 use Rattle.std.proofs.lemmas.Bool.Decides.{nat_tests}
 use Rattle.rollback_journal.specs.declared.playback.Step.{Step}
 use Rattle.rollback_journal.specs.declared.playback.Step.TheVariants.{End, Passed, Laid}
@@ -111,5 +111,5 @@ high_is page of initial at same too lt = let h : at < of = omega arith in go of 
 pub one_at : (size page : ℕ) (image : List ℕ) (entry : Record) (all : List Record) → page ≡ entry.page → IsOneOf size entry all
     → IsOneOf size (record { page = page; image = image }) all
 one_at size page image entry all same one =
-    let at = subst (λ (n : ℕ). (i : ℕ) → page_start size n ≤ i → i < page_start size n + size → IsGiven size all i) (sym same) one.given in
+    let at = subst (λ (n : ℕ). (i : ℕ) → page_start size n ≤ i → i < page_start size n + size → IsGivenByte size all i) (sym same) one.given in
     record { given = at; reached = subst (λ (n : ℕ). page_start size n + size ≤ reach size all) (sym same) one.reached }

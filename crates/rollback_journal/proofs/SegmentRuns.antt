@@ -1,12 +1,12 @@
 -- A whole segment of a playback.
 use Rattle.std.proofs.Common.{◌≡◌, ℕ, ◌+◌, ◌*◌, ◌<◌, Bool, true, false, if◌then◌else◌, List, [], ◌++◌, length, refl, sym, ◌∙◌, subst}
 use Rattle.std.specs.Prelude.{Option, Some, None, MatchOption}
-use Rattle.edge_model.specs.Files.{Files}
+use Rattle.edge_model.specs.Files.{Files, main_of}
 use Rattle.journal_format.specs.Header.{sector_at}
 use Rattle.journal_format.specs.Records.{Record, Place}
 use Rattle.journal_format.specs.Segments.{places_of, rounded_up}
 use Rattle.rollback_journal.specs.declared.segments.Segment.{Segment}
-use Rattle.rollback_journal.specs.Playing.{journal_of, main_of, pending, places_at, GoesOn, todo_at, IsSegmentAt}
+use Rattle.rollback_journal.specs.Playing.{journal_of, pending, places_at, GoesOn, todo_at, IsSegmentAt}
 use Rattle.rollback_journal.proofs.SegmentSteps.{next_todo, goes_then}
 
 abbrev behind : ℕ → List ℕ → Segment → List Place

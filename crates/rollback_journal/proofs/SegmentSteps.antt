@@ -6,7 +6,7 @@ use Rattle.std.proofs.lemmas.Bool.Decides.{nat_tests}
 use Rattle.std.proofs.Math.Nat.{suc-mul, mul-le-mul_right}
 use Rattle.edge_model.specs.Files.{written}
 use Rattle.journal_format.specs.Header.{head_at, has_header, count_at, nonce_at, initial_at, sector_at}
-use Rattle.journal_format.specs.Records.{Record, Place, bytes_at, page_of, record_at, is_good}
+use Rattle.journal_format.specs.Records.{Record, Place, record_bytes_at, page_of, record_at, is_good}
 use Rattle.journal_format.specs.Segments.{good_front, places_from, places_of, rounded_up, sought, is_open_ended}
 use Rattle.rollback_journal.specs.Laying.{page_start, IsOneOf}
 use Rattle.rollback_journal.specs.declared.segments.Segment.{Segment}
@@ -72,7 +72,7 @@ places_unrolled size at journal some lt has = go (length journal) refl
 -- a place from which a record would go past the end
 pub bad_place : (size : ℕ) (journal : List ℕ) (place : Place) → length journal < place.at + (size + 8) → is_good size journal place ≡ false
 bad_place size journal place past = and_false _ _
-    (eq_not (length (bytes_at size journal place)) (size + 8) (λ whole. omega (arith, whole, length-take (size + 8) (drop place.at journal), length-drop place.at journal)))
+    (eq_not (length (record_bytes_at size journal place)) (size + 8) (λ whole. omega (arith, whole, length-take (size + 8) (drop place.at journal), length-drop place.at journal)))
 
 front_bad : (size : ℕ) (journal : List ℕ) (place : Place) (rest : List Place) → is_good size journal place ≡ false → good_front size journal (place ∷ rest) ≡ []
 front_bad size journal place rest bad = ap (λ (b : Bool). if b then record_at size journal place ∷ good_front size journal rest else []) bad
@@ -192,13 +192,13 @@ pub pending_bad : (size : ℕ) (journal : List ℕ) (place : Place) (rest : List
 pending_bad size journal place rest bad = ap (λ (rs : List Record). filter (low_page journal) rs) (front_bad size journal place rest bad)
 
 pub pending_high : (size : ℕ) (journal : List ℕ) (place : Place) (rest : List Place) → is_good size journal place ≡ true
-    → nat_le (page_of (bytes_at size journal place)) (initial_at 0 journal) ≡ false → pending size journal (place ∷ rest) ≡ pending size journal rest
+    → nat_le (page_of (record_bytes_at size journal place)) (initial_at 0 journal) ≡ false → pending size journal (place ∷ rest) ≡ pending size journal rest
 pending_high size journal place rest good high =
     ap (λ (rs : List Record). filter (low_page journal) rs) (front_good size journal place rest good)
     ∙ ap (λ (b : Bool). if b then record_at size journal place ∷ pending size journal rest else pending size journal rest) high
 
 pub pending_low : (size : ℕ) (journal : List ℕ) (place : Place) (rest : List Place) → is_good size journal place ≡ true
-    → nat_le (page_of (bytes_at size journal place)) (initial_at 0 journal) ≡ true
+    → nat_le (page_of (record_bytes_at size journal place)) (initial_at 0 journal) ≡ true
     → pending size journal (place ∷ rest) ≡ record_at size journal place ∷ pending size journal rest
 pending_low size journal place rest good low =
     ap (λ (rs : List Record). filter (low_page journal) rs) (front_good size journal place rest good)

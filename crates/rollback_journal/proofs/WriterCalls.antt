@@ -10,13 +10,13 @@ use Rattle.edge_model.specs.Files.{written, Torn}
 use Rattle.edge_model.specs.Bytes.{torn_written}
 use Rattle.journal_format.specs.Bytes.{u32_at}
 use Rattle.journal_format.specs.Header.{is_header, head_at, has_header}
-use Rattle.journal_format.specs.Records.{Record, Place, page_of, image_of, is_sound, record_at, is_good, record_bytes}
+use Rattle.journal_format.specs.Records.{Record, Place, page_of, image_of, is_sound_record, record_at, is_good, journal_record_bytes}
 use Rattle.journal_format.specs.Segments.{has_mark, played}
 use Rattle.rollback_journal.specs.Playing.{pending, places_at}
 use Rattle.rollback_journal.proofs.SegmentSteps.{places_split, no_header}
 use Rattle.rollback_journal.specs.declared.stage.Stage.{Stage}
 use Rattle.rollback_journal.specs.declared.stage.Stage.TheVariants.{Opened}
-use Rattle.rollback_journal.specs.Writing.{Writing, IsSmall, end_at, next_at, with_stage, with_record, with_segment, present_places, earlier_records, present_records, all_records, Leads, HasOwnHeader, IsWritten, IsOpened, IsFilling, IsShut, sector_of, IsHeaded}
+use Rattle.rollback_journal.specs.Writing.{Writing, IsSmall, end_at, next_at, with_stage, with_record, with_segment, present_places, earlier_records, present_records, all_records, Leads, HasOwnHeader, IsJournalWritten, IsJournalOpened, IsFilling, IsJournalShut, sector_of, IsJournalHeaded}
 use Rattle.rollback_journal.proofs.Fronts.{take_front, front_of, part_same, index_same, rest_of, written_front, written_rest, written_part, written_length}
 use Rattle.rollback_journal.proofs.WrittenBytes.{record_length, record_image, record_page, record_sound, sector_length, head_is, head_count, head_nonce, head_initial, head_sector, head_size, head_mark}
 use Rattle.rollback_journal.proofs.Beside.{leads_end}
@@ -72,11 +72,11 @@ small_segment w small some = record {
 leads_moved : (size at : ℕ) (journal new : List ℕ) → take at new ≡ take at journal → Leads size at at (played size (take at journal)) journal → Leads size at at (played size (take at new)) new
 leads_moved size at journal new same leads other is = leads other (is ∙ same) ∙ ap (λ (l : List ℕ). played size l ++ pending size other (places_at size other at)) (sym same)
 
-own_moved : (w : Writing) (journal new : List ℕ) → IsSmall w → take w.at new ≡ take w.at journal → IsWritten w journal → 0 < w.at → HasOwnHeader w.page_size w.initial new
+own_moved : (w : Writing) (journal new : List ℕ) → IsSmall w → take w.at new ≡ take w.at journal → IsJournalWritten w journal → 0 < w.at → HasOwnHeader w.page_size w.initial new
 own_moved w journal new small same written some = own_same w.page_size w.initial w.at new journal (omega (arith, small.boundary)) same (written.own some)
 
 -- a change within the first sector of the present segment
-module _ (stage : Stage) (w : Writing) (journal new : List ℕ) (small : IsSmall w) (was : IsWritten w journal) (front : take w.at new ≡ take w.at journal) (rest : drop (w.at + 512) new ≡ drop (w.at + 512) journal) where
+module _ (stage : Stage) (w : Writing) (journal new : List ℕ) (small : IsSmall w) (was : IsJournalWritten w journal) (front : take w.at new ≡ take w.at journal) (rest : drop (w.at + 512) new ≡ drop (w.at + 512) journal) where
   at_same : SameAt w.count w.page_size (w.at + 512) new journal
   at_same place from to = ap (λ (l : List ℕ). take (w.page_size + 8) l) (rest_of (w.at + 512) place new journal rest from)
 
@@ -85,7 +85,7 @@ module _ (stage : Stage) (w : Writing) (journal new : List ℕ) (small : IsSmall
       ap (λ (l : List ℕ). played w.page_size l ++ present_records w new) front
       ∙ ap (λ (rs : List Record). earlier_records w journal ++ rs) (same_records w.count w.page_size w.nonce (w.at + 512) new journal at_same)
 
-  pub head_written : length new ≡ length journal → IsWritten (with_stage stage w) new
+  pub head_written : length new ≡ length journal → IsJournalWritten (with_stage stage w) new
   head_written long =
       let records = same_records w.count w.page_size w.nonce (w.at + 512) new journal at_same in
       record {
@@ -113,10 +113,10 @@ size_eq a b is = grind (arith, nat_tests)
 -- one record more
 module _ (w : Writing) (journal image : List ℕ) (n : ℕ) (small : IsSmall w) (filling : IsFilling w journal) (one : 1 ≤ n) (most : n ≤ w.initial) (size : length image ≡ w.page_size) where
   abbrev bytes : List ℕ
-  bytes = record_bytes w.nonce n image
+  bytes = journal_record_bytes w.nonce n image
 
   abbrev new : List ℕ
-  new = written (end_at w) (record_bytes w.nonce n image) journal
+  new = written (end_at w) (journal_record_bytes w.nonce n image) journal
 
   abbrev entry : Record
   entry = record { page = n; image = image }
@@ -150,7 +150,7 @@ module _ (w : Writing) (journal image : List ℕ) (n : ℕ) (small : IsSmall w) 
 
   last_good : is_good w.page_size new last ≡ true
   last_good =
-      ap (λ (l : List ℕ). length l == w.page_size + 8 && is_sound w.nonce l) last_bytes
+      ap (λ (l : List ℕ). length l == w.page_size + 8 && is_sound_record w.nonce l) last_bytes
       ∙ both _ _ (size_eq (length bytes) (w.page_size + 8) long) (record_sound w.nonce n image one (omega (arith, small.initial, most)))
 
   places : present_places (with_record w) ≡ present_places w ++ last ∷ []
@@ -198,7 +198,7 @@ module _ (w : Writing) (journal image : List ℕ) (n : ℕ) (small : IsSmall w) 
       all_entry (suc k) d lt = absurd (omega arith)
 
 -- a segment with a record is as long as its records say
-pub full_length : (w : Writing) (journal : List ℕ) → IsWritten w journal → 0 < w.count → length journal ≡ end_at w
+pub full_length : (w : Writing) (journal : List ℕ) → IsJournalWritten w journal → 0 < w.count → length journal ≡ end_at w
 full_length w journal was some =
     let whole = whole_within w.count w.page_size w.nonce (w.at + 512) journal some was.whole in
     omega (arith, was.ends, whole)
@@ -232,14 +232,14 @@ module _ (w : Writing) (journal tail : List ℕ) (small : IsSmall w) (filling : 
   pub headed_records : all_records w headed ≡ all_records w journal
   headed_records = head_records w.stage w journal headed small filling.written (front_of w.at (w.at + 1) headed journal (omega arith) head_front) head_rest
 
-  pub headed_is : IsHeaded w headed
+  pub headed_is : IsJournalHeaded w headed
   headed_is = record { head = ap (λ (k : ℕ). take k (drop (w.at + 1) headed)) (sym tail_long) ∙ written_part (w.at + 1) tail journal (omega (arith, tail_long)) ∙ tail_is }
 
 order : (a b : ℕ) → (a < b) ⊎ (b ≤ a)
 order a b = search arith
 
 -- the gate
-module _ (w : Writing) (journal : List ℕ) (small : IsSmall w) (filling : IsFilling w journal) (some : 0 < w.count) (headed : IsHeaded w journal) where
+module _ (w : Writing) (journal : List ℕ) (small : IsSmall w) (filling : IsFilling w journal) (some : 0 < w.count) (headed : IsJournalHeaded w journal) where
   abbrev opened : List ℕ
   opened = written w.at (217 ∷ []) journal
 
@@ -289,9 +289,9 @@ module _ (w : Writing) (journal : List ℕ) (small : IsSmall w) (filling : IsFil
       let marked : take 44 opened ≡ take 44 (sector_of w) = ap (λ (n : ℕ). take 44 (drop n opened)) (sym is) ∙ front in
       record {
         header = ap is_header head ∙ head_is w;
-        sector = ap (λ (l : List ℕ). u32_at 20 l) head ∙ head_sector w;
-        page_size = ap (λ (l : List ℕ). u32_at 24 l) head ∙ head_size w (omega (arith, small.size_high));
-        pages = ap (λ (l : List ℕ). u32_at 16 l) head ∙ head_initial w (omega (arith, small.initial));
+        sector = ap (λ (l : List ℕ). u32_at l 20) head ∙ head_sector w;
+        page_size = ap (λ (l : List ℕ). u32_at l 24) head ∙ head_size w (omega (arith, small.size_high));
+        pages = ap (λ (l : List ℕ). u32_at l 16) head ∙ head_initial w (omega (arith, small.initial));
         mark = ap (λ (l : List ℕ). has_mark 512 l) marked ∙ head_mark w is;
       }
 
@@ -302,13 +302,13 @@ module _ (w : Writing) (journal : List ℕ) (small : IsSmall w) (filling : IsFil
   gate_rest_512 : drop (w.at + 512) opened ≡ drop (w.at + 512) journal
   gate_rest_512 = rest_of (w.at + 1) (w.at + 512) opened journal gate_rest (omega arith)
 
-  pub gate_opened : IsOpened (with_stage Opened w) opened
+  pub gate_opened : IsJournalOpened (with_stage Opened w) opened
   gate_opened = record {
     written = head_written Opened w journal opened small filling.written gate_front gate_rest_512 gate_long;
     some = some;
     header = gate_header;
-    count = ap (λ (l : List ℕ). u32_at 8 l) head_28 ∙ head_count w counted;
-    nonce = ap (λ (l : List ℕ). u32_at 12 l) head_28 ∙ head_nonce w numbered;
+    count = ap (λ (l : List ℕ). u32_at l 8) head_28 ∙ head_count w counted;
+    nonce = ap (λ (l : List ℕ). u32_at l 12) head_28 ∙ head_nonce w numbered;
     first = own_any w.at refl;
   }
 
@@ -330,7 +330,7 @@ module _ (w : Writing) (journal : List ℕ) (small : IsSmall w) (filling : IsFil
           ap (λ (k : ℕ). get_or other k 0) at ∙ is ∙ sym gate_byte ∙ ap (λ (k : ℕ). get_or opened k 0) (sym at)
 
 -- a further segment
-module _ (w : Writing) (journal : List ℕ) (small : IsSmall w) (opened : IsOpened w journal) where
+module _ (w : Writing) (journal : List ℕ) (small : IsSmall w) (opened : IsJournalOpened w journal) where
   abbrev begun : List ℕ
   begun = written (next_at w) (0 ∷ []) journal
 
@@ -380,7 +380,7 @@ module _ (journal : List ℕ) (some : 0 < length journal) where
   shut_long : length (written 0 (0 ∷ []) journal) ≡ length journal
   shut_long = omega (arith, written_length 0 (0 ∷ []) journal (omega arith))
 
-  pub shut_is : IsShut (written 0 (0 ∷ []) journal)
+  pub shut_is : IsJournalShut (written 0 (0 ∷ []) journal)
   shut_is = record {
     within = omega (arith, shut_long);
     gate = sym (get_or-take 1 (written 0 (0 ∷ []) journal) 0 0 (omega arith)) ∙ ap (λ (l : List ℕ). get_or l 0 0) (written_part 0 (0 ∷ []) journal (omega arith));

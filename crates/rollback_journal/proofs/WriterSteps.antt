@@ -1,12 +1,11 @@
 -- What each call leaves of the images.
 use Rattle.std.proofs.Common.{◌≡◌, ◌≢◌, ◌⊎◌, inl, inr, ⊎_elim, ℕ, suc, zero, ◌+◌, ◌-◌, ◌%◌, ◌<◌, ◌≤◌, true, false, ◌==◌, List, [], ◌∷◌, ◌++◌, length, take, drop, get_or, Option, Some, None, refl, sym, ◌∙◌, ap, subst, arith}
-use Rattle.edge_model.specs.Files.{File, Files, bytes_of, number_of, with_bytes, written, Torn, created, removed}
+use Rattle.edge_model.specs.Files.{File, Files, bytes_of, number_of, with_file_bytes, written, Torn, created, removed, contents}
 use Rattle.edge_model.specs.Images.{From, MayStep, Changes, Renames, HasSynced}
 use Rattle.edge_model.specs.declared.role.Role.TheVariants.{Journal}
 use Rattle.journal_format.specs.Header.{has_header}
-use Rattle.journal_format.specs.Records.{Record, record_bytes}
+use Rattle.journal_format.specs.Records.{Record, journal_record_bytes}
 use Rattle.journal_format.specs.Segments.{is_hot}
-use Rattle.rollback_journal.specs.Playing.{contents}
 use Rattle.rollback_journal.proofs.Played.{either, eq_is}
 use Rattle.rollback_journal.proofs.SegmentSteps.{no_header}
 use Rattle.rollback_journal.proofs.Closed.{no_header_cold, hot_header, gate_torn}
@@ -14,21 +13,21 @@ use Rattle.rollback_journal.proofs.MainSteps.{step_number, with_number}
 use Rattle.rollback_journal.specs.declared.stage.Stage.{Stage}
 use Rattle.rollback_journal.specs.declared.stage.Stage.TheVariants.{New, Filling, Opened, Closed}
 use Rattle.rollback_journal.specs.Plays.{Plays, PlaysNone, SameOthers, PlaysAsBefore, PlaysAsBeforeOrAll, PlaysAsBeforeOrNone}
-use Rattle.rollback_journal.specs.Writing.{Writing, end_at, next_at, with_stage, with_record, with_segment, earlier_records, all_records, IsOpened, IsFilling, IsShut, IsAt, IsLeft, HasFront, BesideAt, IsLeftBeside, Stands, PlaysFirst, PlaysAt, sector_of, IsHeaded}
+use Rattle.rollback_journal.specs.Writing.{Writing, end_at, next_at, with_stage, with_record, with_segment, earlier_records, all_records, IsJournalOpened, IsFilling, IsJournalShut, IsWriterAt, IsLeft, HasFront, BesideAt, IsLeftBeside, WriterStands, PlaysFirst, PlaysAt, sector_of, IsJournalHeaded}
 use Rattle.rollback_journal.proofs.Fronts.{torn_front}
 use Rattle.rollback_journal.proofs.Beside.{other_closed, filling_plays, opened_plays, there_of, left_plays, keeps_alike, as_before_none, as_before_joins, front_step}
 use Rattle.rollback_journal.proofs.WriterCalls.{small_stage, small_record, small_segment, full_length, append_front, append_filling, append_records, headed_filling, headed_records, headed_is, gate_opened, gate_records, gate_torn_is, begun_filling, begun_all, shut_is}
 
 -- a file with other bytes
-pub with_contents : (change : List ℕ → List ℕ) (file : Option File) → bytes_of file ≡ Some (contents file) → contents (with_bytes change file) ≡ change (contents file)
+pub with_contents : (change : List ℕ → List ℕ) (file : Option File) → bytes_of file ≡ Some (contents file) → contents (with_file_bytes change file) ≡ change (contents file)
 with_contents change None there = absurd (none_not there)
   where
     none_not : ◌≡◌ {A = Option (List ℕ)} None (Some []) → ⊥
     none_not is = cc
 with_contents change (Some file) there = refl
 
-pub with_there : (change : List ℕ → List ℕ) (file : Option File) → bytes_of file ≡ Some (contents file) → bytes_of (with_bytes change file) ≡ Some (contents (with_bytes change file))
-with_there change file there = there_of file (with_bytes change file) (with_number change file) there
+pub with_there : (change : List ℕ → List ℕ) (file : Option File) → bytes_of file ≡ Some (contents file) → bytes_of (with_file_bytes change file) ≡ Some (contents (with_file_bytes change file))
+with_there change file there = there_of file (with_file_bytes change file) (with_number change file) there
 
 pub there_is : (file new : Option File) → new ≡ file → bytes_of file ≡ Some (contents file) → bytes_of new ≡ Some (contents new)
 there_is file new is there = subst (λ (f : Option File). bytes_of f ≡ Some (contents f)) (sym is) there
@@ -40,9 +39,9 @@ pub front_all : (k : ℕ) (now image : Option File) → image ≡ now → HasFro
 front_all k now image is = record { number = ap number_of is; bytes = ap (λ (f : Option File). take k (contents f)) is }
 
 -- the journal after a write of it
-module _ (at : ℕ) (bytes : List ℕ) (old new : Option File) (done : new ≡ with_bytes (written at bytes) old) (there : bytes_of old ≡ Some (contents old)) where
+module _ (at : ℕ) (bytes : List ℕ) (old new : Option File) (done : new ≡ with_file_bytes (written at bytes) old) (there : bytes_of old ≡ Some (contents old)) where
   pub wrote_there : bytes_of new ≡ Some (contents new)
-  wrote_there = there_is (with_bytes (written at bytes) old) new done (with_there (written at bytes) old there)
+  wrote_there = there_is (with_file_bytes (written at bytes) old) new done (with_there (written at bytes) old there)
 
   pub wrote_contents : contents new ≡ written at bytes (contents old)
   wrote_contents = ap contents done ∙ with_contents (written at bytes) old there
@@ -58,10 +57,10 @@ pub others_of : (at n : ℕ) (old d c : Files) → Changes Journal (Torn at n) o
 others_of at n old d c changes = record { main = changes.0; fresh = changes.2 }
 
 pub is_filling : (w : Writing) (journal : Option File) → w.stage ≡ Filling → IsLeft w journal → IsFilling w (contents journal)
-is_filling w journal stage left = subst (λ (s : Stage). IsAt s w (contents journal)) stage left.is_at
+is_filling w journal stage left = subst (λ (s : Stage). IsWriterAt s w (contents journal)) stage left.is_at
 
-pub is_opened : (w : Writing) (journal : Option File) → w.stage ≡ Opened → IsLeft w journal → IsOpened w (contents journal)
-is_opened w journal stage left = subst (λ (s : Stage). IsAt s w (contents journal)) stage left.is_at
+pub is_opened : (w : Writing) (journal : Option File) → w.stage ≡ Opened → IsLeft w journal → IsJournalOpened w (contents journal)
+is_opened w journal stage left = subst (λ (s : Stage). IsWriterAt s w (contents journal)) stage left.is_at
 
 pub beside_filling : (w : Writing) (now image : Option File) → w.stage ≡ Filling → IsLeftBeside w now image → HasFront (w.at + 1) now image
 beside_filling w now image stage beside = subst (λ (s : Stage). BesideAt s w.at now image) stage beside
@@ -70,7 +69,7 @@ pub beside_opened : (w : Writing) (now image : Option File) → w.stage ≡ Open
 beside_opened w now image stage beside = subst (λ (s : Stage). BesideAt s w.at now image) stage beside
 
 -- the present gate is closed
-module _ (w : Writing) (old : Files) (images : Files → Type 0) (stage : w.stage ≡ Filling) (stands : Stands w old images) where
+module _ (w : Writing) (old : Files) (images : Files → Type 0) (stage : w.stage ≡ Filling) (stands : WriterStands w old images) where
   abbrev J : List ℕ
   J = contents old.journal
 
@@ -93,53 +92,53 @@ module _ (w : Writing) (old : Files) (images : Files → Type 0) (stage : w.stag
       keeps_alike w.page_size w.initial w.at (earlier_records w (contents old.journal)) d c (others_of at n old d c changes) (front_plays d.journal (front_in d here)) (front_plays c.journal (behind_front at n d c here low changes))
 
   -- one record more
-  module _ (n : ℕ) (image : List ℕ) (one : 1 ≤ n) (most : n ≤ w.initial) (size : length image ≡ w.page_size) (room : w.total < w.initial) (new : Files) (done : new.journal ≡ with_bytes (written (end_at w) (record_bytes w.nonce n image)) old.journal) where
-    appended : contents new.journal ≡ written (end_at w) (record_bytes w.nonce n image) (contents old.journal)
-    appended = wrote_contents (end_at w) (record_bytes w.nonce n image) old.journal new.journal done stands.read.there
+  module _ (n : ℕ) (image : List ℕ) (one : 1 ≤ n) (most : n ≤ w.initial) (size : length image ≡ w.page_size) (room : w.total < w.initial) (new : Files) (done : new.journal ≡ with_file_bytes (written (end_at w) (journal_record_bytes w.nonce n image)) old.journal) where
+    appended : contents new.journal ≡ written (end_at w) (journal_record_bytes w.nonce n image) (contents old.journal)
+    appended = wrote_contents (end_at w) (journal_record_bytes w.nonce n image) old.journal new.journal done stands.read.there
 
     pub appended_records : all_records (with_record w) (contents new.journal) ≡ all_records w (contents old.journal) ++ record { page = n; image = image } ∷ []
     appended_records = ap (λ (l : List ℕ). all_records (with_record w) l) appended ∙ append_records w (contents old.journal) image n stands.read.small filling one most size
 
-    pub appended_stands : (after : Files → Type 0) → ((c : Files) → after c → From (Changes Journal (Torn (end_at w) (length (record_bytes w.nonce n image))) old) images c) → Stands (with_record w) new after
+    pub appended_stands : (after : Files → Type 0) → ((c : Files) → after c → From (Changes Journal (Torn (end_at w) (length (journal_record_bytes w.nonce n image))) old) images c) → WriterStands (with_record w) new after
     appended_stands after from = record {
       read = record {
         small = small_record w stands.read.small room;
-        there = wrote_there (end_at w) (record_bytes w.nonce n image) old.journal new.journal done stands.read.there;
+        there = wrote_there (end_at w) (journal_record_bytes w.nonce n image) old.journal new.journal done stands.read.there;
         is_at = subst (λ (l : List ℕ). IsFilling (with_record w) l) (sym appended) (append_filling w (contents old.journal) image n stands.read.small filling one most size);
       };
       beside = λ c here.
           let was = from c here in
-          front_to (w.at + 1) old.journal new.journal c.journal (wrote_number (end_at w) (record_bytes w.nonce n image) old.journal new.journal done stands.read.there)
+          front_to (w.at + 1) old.journal new.journal c.journal (wrote_number (end_at w) (journal_record_bytes w.nonce n image) old.journal new.journal done stands.read.there)
           (ap (λ (l : List ℕ). take (w.at + 1) l) appended ∙ append_front w (contents old.journal) image n stands.read.small filling one most size)
-          (behind_front (end_at w) (length (record_bytes w.nonce n image)) was.0 c was.1 (omega arith) was.2);
+          (behind_front (end_at w) (length (journal_record_bytes w.nonce n image)) was.0 c was.1 (omega arith) was.2);
     }
 
   -- the header but its first byte, synced
-  module _ (tail : List ℕ) (tail_is : tail ≡ drop 1 (sector_of w)) (some : 0 < w.count) (new : Files) (done : new.journal ≡ with_bytes (written (w.at + 1) tail) old.journal) where
+  module _ (tail : List ℕ) (tail_is : tail ≡ drop 1 (sector_of w)) (some : 0 < w.count) (new : Files) (done : new.journal ≡ with_file_bytes (written (w.at + 1) tail) old.journal) where
     head_contents : contents new.journal ≡ written (w.at + 1) tail (contents old.journal)
     head_contents = wrote_contents (w.at + 1) tail old.journal new.journal done stands.read.there
 
     pub head_all : all_records w (contents new.journal) ≡ all_records w (contents old.journal)
     head_all = ap (λ (l : List ℕ). all_records w l) head_contents ∙ headed_records w (contents old.journal) tail stands.read.small filling some tail_is
 
-    pub head_is_there : IsHeaded w (contents new.journal)
-    head_is_there = subst (λ (l : List ℕ). IsHeaded w l) (sym head_contents) (headed_is w (contents old.journal) tail stands.read.small filling some tail_is)
+    pub head_is_there : IsJournalHeaded w (contents new.journal)
+    head_is_there = subst (λ (l : List ℕ). IsJournalHeaded w l) (sym head_contents) (headed_is w (contents old.journal) tail stands.read.small filling some tail_is)
 
     pub head_synced : (c : Files) → From (Changes Journal (Torn (w.at + 1) (length tail)) old) images c → HasSynced Journal new c → c.journal ≡ new.journal
     head_synced c from synced = synced_journal (w.at + 1) (length tail) old new from.0 c (wrote_number (w.at + 1) tail old.journal new.journal done stands.read.there) (front_in from.0 from.1).number from.2 synced
 
-    pub head_stands : (after : Files → Type 0) → ((c : Files) → after c → c.journal ≡ new.journal) → Stands w new after
+    pub head_stands : (after : Files → Type 0) → ((c : Files) → after c → c.journal ≡ new.journal) → WriterStands w new after
     head_stands after whole = record {
       read = record {
         small = stands.read.small;
         there = wrote_there (w.at + 1) tail old.journal new.journal done stands.read.there;
-        is_at = subst (λ (s : Stage). IsAt s w (contents new.journal)) (sym stage) (subst (λ (l : List ℕ). IsFilling w l) (sym head_contents) (headed_filling w (contents old.journal) tail stands.read.small filling some tail_is));
+        is_at = subst (λ (s : Stage). IsWriterAt s w (contents new.journal)) (sym stage) (subst (λ (l : List ℕ). IsFilling w l) (sym head_contents) (headed_filling w (contents old.journal) tail stands.read.small filling some tail_is));
       };
       beside = λ c here. subst (λ (s : Stage). BesideAt s w.at new.journal c.journal) (sym stage) (front_all (w.at + 1) new.journal c.journal (whole c here));
     }
 
   -- the gate
-  module _ (headed : IsHeaded w (contents old.journal)) (whole : (d : Files) → images d → d.journal ≡ old.journal) (some : 0 < w.count) where
+  module _ (headed : IsJournalHeaded w (contents old.journal)) (whole : (d : Files) → images d → d.journal ≡ old.journal) (some : 0 < w.count) where
     pub gate_middle : (d c : Files) → images d → Changes Journal (Torn w.at 1) old d c → PlaysAsBeforeOrAll w.page_size w.initial (all_records w (contents old.journal)) d c
     gate_middle d c here changes = go changes.1
       where
@@ -176,19 +175,19 @@ module _ (w : Writing) (old : Files) (images : Files → Type 0) (stage : w.stag
             let before : s.before ≡ contents old.journal = sym (ap contents s.was) ∙ ap contents (whole d here) in
             by_byte s.after (subst (λ (l : List ℕ). Torn w.at 1 l s.after) before s.took) (ap bytes_of s.is) (either (get_or s.after w.at 0 == 217))
 
-    module _ (new : Files) (done : new.journal ≡ with_bytes (written w.at (217 ∷ [])) old.journal) where
+    module _ (new : Files) (done : new.journal ≡ with_file_bytes (written w.at (217 ∷ [])) old.journal) where
       gate_contents : contents new.journal ≡ written w.at (217 ∷ []) (contents old.journal)
       gate_contents = wrote_contents w.at (217 ∷ []) old.journal new.journal done stands.read.there
 
       pub gate_all : all_records w (contents new.journal) ≡ all_records w (contents old.journal)
       gate_all = ap (λ (l : List ℕ). all_records w l) gate_contents ∙ gate_records w (contents old.journal) stands.read.small filling some headed
 
-      pub gate_stands : (after : Files → Type 0) → ((c : Files) → after c → From (Changes Journal (Torn w.at 1) old) images c) → ((c : Files) → after c → HasSynced Journal new c) → Stands (with_stage Opened w) new after
+      pub gate_stands : (after : Files → Type 0) → ((c : Files) → after c → From (Changes Journal (Torn w.at 1) old) images c) → ((c : Files) → after c → HasSynced Journal new c) → WriterStands (with_stage Opened w) new after
       gate_stands after from synced = record {
         read = record {
           small = small_stage Opened w stands.read.small;
           there = wrote_there w.at (217 ∷ []) old.journal new.journal done stands.read.there;
-          is_at = subst (λ (l : List ℕ). IsOpened (with_stage Opened w) l) (sym gate_contents) (gate_opened w (contents old.journal) stands.read.small filling some headed);
+          is_at = subst (λ (l : List ℕ). IsJournalOpened (with_stage Opened w) l) (sym gate_contents) (gate_opened w (contents old.journal) stands.read.small filling some headed);
         };
         beside = λ c here.
             let was = from c here in
@@ -196,8 +195,8 @@ module _ (w : Writing) (old : Files) (images : Files → Type 0) (stage : w.stag
       }
 
 -- the present gate is open
-module _ (w : Writing) (old : Files) (images : Files → Type 0) (stage : w.stage ≡ Opened) (stands : Stands w old images) where
-  opened : IsOpened w (contents old.journal)
+module _ (w : Writing) (old : Files) (images : Files → Type 0) (stage : w.stage ≡ Opened) (stands : WriterStands w old images) where
+  opened : IsJournalOpened w (contents old.journal)
   opened = is_opened w old.journal stage stands.read
 
   all_in : (d : Files) → images d → d.journal ≡ old.journal
@@ -227,14 +226,14 @@ module _ (w : Writing) (old : Files) (images : Files → Type 0) (stage : w.stag
           let torn : Torn (next_at w) 1 (contents old.journal) s.after = subst (λ (l : List ℕ). Torn (next_at w) 1 l s.after) before s.took in
           all_plays s.after c.journal (ap bytes_of s.is) (torn_front (end_at w) (next_at w) 1 (contents old.journal) s.after torn (high_next (end_at w)) (omega (arith, long_is))) (omega (arith, torn.no_longer, long_is, high_next (end_at w)))
 
-  module _ (new : Files) (done : new.journal ≡ with_bytes (written (next_at w) (0 ∷ [])) old.journal) where
+  module _ (new : Files) (done : new.journal ≡ with_file_bytes (written (next_at w) (0 ∷ [])) old.journal) where
     begun_contents : contents new.journal ≡ written (next_at w) (0 ∷ []) (contents old.journal)
     begun_contents = wrote_contents (next_at w) (0 ∷ []) old.journal new.journal done stands.read.there
 
     pub begun_same : all_records (with_segment w) (contents new.journal) ≡ all_records w (contents old.journal)
     begun_same = ap (λ (l : List ℕ). all_records (with_segment w) l) begun_contents ∙ begun_all w (contents old.journal) stands.read.small opened
 
-    pub begun_stands : (after : Files → Type 0) → ((c : Files) → after c → From (Changes Journal (Torn (next_at w) 1) old) images c) → ((c : Files) → after c → HasSynced Journal new c) → Stands (with_segment w) new after
+    pub begun_stands : (after : Files → Type 0) → ((c : Files) → after c → From (Changes Journal (Torn (next_at w) 1) old) images c) → ((c : Files) → after c → HasSynced Journal new c) → WriterStands (with_segment w) new after
     begun_stands after from synced = record {
       read = record {
         small = small_segment w stands.read.small opened.some;
@@ -277,9 +276,9 @@ module _ (size initial : ℕ) (records : List Record) (old d c : Files) (plays :
       go (inr s) = by_header s.before s.after (ap bytes_of s.was) (ap bytes_of s.is) s.took (either (has_header 0 s.after))
 
 -- the journal is closed
-module _ (w : Writing) (old : Files) (images : Files → Type 0) (stands : Stands w old images) where
+module _ (w : Writing) (old : Files) (images : Files → Type 0) (stands : WriterStands w old images) where
   -- no gate was opened, and nothing is written
-  pub never_opened : w.stage ≡ Filling → w.at ≡ 0 → Stands (with_stage Closed w) old images
+  pub never_opened : w.stage ≡ Filling → w.at ≡ 0 → WriterStands (with_stage Closed w) old images
   never_opened stage first = record {
     read = record {
       small = small_stage Closed w stands.read.small;
@@ -291,7 +290,7 @@ module _ (w : Writing) (old : Files) (images : Files → Type 0) (stands : Stand
     beside = λ c here. subst (λ (n : ℕ). HasFront (n + 1) old.journal c.journal) first (beside_filling w old.journal c.journal stage (stands.beside c here));
   }
 
-  within_of : (s : Stage) → IsAt s w (contents old.journal) → 0 < length (contents old.journal)
+  within_of : (s : Stage) → IsWriterAt s w (contents old.journal) → 0 < length (contents old.journal)
   within_of New is = absurd is
   within_of Filling is = omega (arith, is.written.within)
   within_of Opened is = omega (arith, is.written.within)
@@ -306,12 +305,12 @@ module _ (w : Writing) (old : Files) (images : Files → Type 0) (stands : Stand
       go Opened at = ap number_of at
       go Closed at = at.number
 
-  pub shut_stands : (new : Files) → new.journal ≡ with_bytes (written 0 (0 ∷ [])) old.journal → (after : Files → Type 0) → ((c : Files) → after c → From (Changes Journal (Torn 0 1) old) images c) → ((c : Files) → after c → HasSynced Journal new c) → Stands (with_stage Closed w) new after
+  pub shut_stands : (new : Files) → new.journal ≡ with_file_bytes (written 0 (0 ∷ [])) old.journal → (after : Files → Type 0) → ((c : Files) → after c → From (Changes Journal (Torn 0 1) old) images c) → ((c : Files) → after c → HasSynced Journal new c) → WriterStands (with_stage Closed w) new after
   shut_stands new done after from synced = record {
     read = record {
       small = small_stage Closed w stands.read.small;
       there = wrote_there 0 (0 ∷ []) old.journal new.journal done stands.read.there;
-      is_at = subst (λ (l : List ℕ). IsShut l) (sym (wrote_contents 0 (0 ∷ []) old.journal new.journal done stands.read.there)) (shut_is (contents old.journal) (within_of w.stage stands.read.is_at));
+      is_at = subst (λ (l : List ℕ). IsJournalShut l) (sym (wrote_contents 0 (0 ∷ []) old.journal new.journal done stands.read.there)) (shut_is (contents old.journal) (within_of w.stage stands.read.is_at));
     };
     beside = λ c here.
         let was = from c here in

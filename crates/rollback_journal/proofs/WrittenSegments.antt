@@ -7,14 +7,14 @@ use Rattle.std.proofs.lemmas.List.Elements.{All-cons}
 use Rattle.std.proofs.lemmas.Bool.Decides.{nat_tests}
 use Rattle.journal_format.specs.Bytes.{u32_at}
 use Rattle.journal_format.specs.Header.{is_header, is_sector, head_at, has_header, count_at, nonce_at, initial_at, sector_at}
-use Rattle.journal_format.specs.Records.{Record, Place, bytes_at, page_of, image_of, is_sound, record_at, is_good}
+use Rattle.journal_format.specs.Records.{Record, Place, record_bytes_at, page_of, image_of, is_sound_record, record_at, is_good}
 use Rattle.journal_format.specs.Segments.{places_of, rounded_up, sought, is_open_ended, has_mark, names_super, played}
 use Rattle.rollback_journal.specs.Playing.{pending, places_at}
 use Rattle.rollback_journal.proofs.Played.{good_whole}
 use Rattle.rollback_journal.proofs.SegmentSteps.{places_unrolled, pending_low}
 use Rattle.rollback_journal.proofs.Looks.{is_hot_by}
 use Rattle.rollback_journal.specs.Plays.{Plays}
-use Rattle.rollback_journal.specs.Writing.{Writing, IsSmall, end_at, next_at, present_places, earlier_records, present_records, all_records, Leads, HasOwnHeader, IsOpened}
+use Rattle.rollback_journal.specs.Writing.{Writing, IsSmall, end_at, next_at, present_places, earlier_records, present_records, all_records, Leads, HasOwnHeader, IsJournalOpened}
 use Rattle.rollback_journal.proofs.Fronts.{front_of, part_same, front_long}
 
 le_makes : (a b : ℕ) → a ≤ b → nat_le a b ≡ true
@@ -45,8 +45,8 @@ pending_whole : (size initial : ℕ) (journal : List ℕ) (ps qs : List Place) �
     → pending size journal (ps ++ qs) ≡ map (record_at size journal) ps ++ pending size journal qs
 pending_whole size initial journal [] qs pages whole low = refl
 pending_whole size initial journal (p ∷ ps) qs pages whole low =
-    let first : page_of (bytes_at size journal p) ≤ initial_at 0 journal = omega (arith, low 0 (record_at size journal p) (omega arith), pages) in
-    pending_low size journal p (ps ++ qs) (whole 0 p (omega arith)) (le_makes (page_of (bytes_at size journal p)) (initial_at 0 journal) first)
+    let first : page_of (record_bytes_at size journal p) ≤ initial_at 0 journal = omega (arith, low 0 (record_at size journal p) (omega arith), pages) in
+    pending_low size journal p (ps ++ qs) (whole 0 p (omega arith)) (le_makes (page_of (record_bytes_at size journal p)) (initial_at 0 journal) first)
     ∙ ap (λ (rs : List Record). record_at size journal p ∷ rs) (pending_whole size initial journal ps qs pages (λ k d lt. whole (suc k) d (omega arith)) (λ k d lt. low (suc k) d (omega arith)))
 
 -- two journals with the same bytes at the places of a segment
@@ -73,7 +73,7 @@ same_whole zero size nonce first a b same whole = λ k d lt. absurd (omega arith
 same_whole (suc n) size nonce first a b same whole =
     let p : Place = record { nonce = nonce; at = first } in
     All-cons (λ place. is_good size a place ≡ true) p (places_of n size nonce (first + (size + 8)))
-    (ap (λ (l : List ℕ). length l == size + 8 && is_sound nonce l) (same_first n size first a b same) ∙ whole 0 p (omega arith))
+    (ap (λ (l : List ℕ). length l == size + 8 && is_sound_record nonce l) (same_first n size first a b same) ∙ whole 0 p (omega arith))
     (same_whole n size nonce (first + (size + 8)) a b (same_next n size first a b same) (λ k d lt. whole (suc k) d (omega arith)))
 
 -- whole records stand within the file
@@ -91,9 +91,9 @@ own_same size initial n a b le same own =
     let head : head_at 0 a ≡ head_at 0 b = part_same 0 28 n a b same (omega arith) in
     record {
       header = ap is_header head ∙ own.header;
-      sector = ap (λ (l : List ℕ). u32_at 20 l) head ∙ own.sector;
-      page_size = ap (λ (l : List ℕ). u32_at 24 l) head ∙ own.page_size;
-      pages = ap (λ (l : List ℕ). u32_at 16 l) head ∙ own.pages;
+      sector = ap (λ (l : List ℕ). u32_at l 20) head ∙ own.sector;
+      page_size = ap (λ (l : List ℕ). u32_at l 24) head ∙ own.page_size;
+      pages = ap (λ (l : List ℕ). u32_at l 16) head ∙ own.pages;
       mark = ap (λ (l : List ℕ). has_mark 512 l) (front_of 44 n a b le same) ∙ own.mark;
     }
 
@@ -126,7 +126,7 @@ module _ (at n : ℕ) (a b : List ℕ) (same : take n a ≡ take n b) (within : 
   same_head = part_same at 28 n a b same within
 
 -- the present segment is open. A journal with its front plays all of its records, and then what stands behind them.
-pub opened_leads : (w : Writing) (journal : List ℕ) → IsSmall w → IsOpened w journal → Leads w.page_size (end_at w) (next_at w) (all_records w journal) journal
+pub opened_leads : (w : Writing) (journal : List ℕ) → IsSmall w → IsJournalOpened w journal → Leads w.page_size (end_at w) (next_at w) (all_records w journal) journal
 opened_leads w journal small opened other same =
     let size : ℕ = w.page_size in
     let end = whole_within w.count w.page_size w.nonce (w.at + 512) journal opened.some opened.written.whole in
@@ -139,7 +139,7 @@ opened_leads w journal small opened other same =
     opened.written.leads other (front_of w.at (end_at w) other journal (omega arith) same)
     ∙ ap (λ (rs : List Record). earlier_records w journal ++ rs) (
     ap (λ (ps : List Place). pending w.page_size other ps) (segment_places w.page_size w.at w.count w.nonce other own.sector (omega (arith, long)) (ap is_header head ∙ opened.header)
-    (ap (λ (l : List ℕ). u32_at 8 l) head ∙ opened.count) (omega (arith, small.count, small.total, small.initial)) (ap (λ (l : List ℕ). u32_at 12 l) head ∙ opened.nonce))
+    (ap (λ (l : List ℕ). u32_at l 8) head ∙ opened.count) (omega (arith, small.count, small.total, small.initial)) (ap (λ (l : List ℕ). u32_at l 12) head ∙ opened.nonce))
     ∙ pending_whole w.page_size w.initial other (present_places w) (places_at w.page_size other (next_at w)) own.pages (same_whole w.count w.page_size w.nonce (w.at + 512) other journal at opened.written.whole) low
     ∙ ap (λ (rs : List Record). rs ++ pending w.page_size other (places_at w.page_size other (next_at w))) records)
     ∙ sym (append_assoc (earlier_records w journal) (present_records w journal) (pending w.page_size other (places_at w.page_size other (next_at w))))

@@ -1,10 +1,10 @@
 -- The end of a recovery.
 use Rattle.std.specs.Prelude.{ℕ, ◌≡◌, ◌≢◌, ◌⊎◌, true, false, Some, None, Err}
-use Rattle.edge_model.specs.Files.{Files, bytes_of}
+use Rattle.edge_model.specs.Files.{Files, bytes_of, main_of}
 use Rattle.journal_format.specs.Header.{has_header}
 use Rattle.journal_format.specs.Segments.{is_hot}
 use Rattle.rollback_journal.specs.Recovery.{Recovers, HasByte, answer_of}
-use Rattle.rollback_journal.specs.Playing.{main_of, journal_of, IsTaken, IsReading, IsReadingOf}
+use Rattle.rollback_journal.specs.Playing.{journal_of, IsPlayedHot, IsJournalReading, IsReadingOf}
 use Rattle.rollback_journal.specs.declared.recovery.RecoverError.TheVariants.{DiskFault, OutOfMemory}
 use Rattle.rollback_journal.specs.declared.looking.Found.{Found}
 use Rattle.rollback_journal.specs.declared.looking.Found.TheVariants.{Nothing, Cold, Refused, Hot}
@@ -23,15 +23,15 @@ pub record IsCold (files : Files) : Type 0 where
   pub cold : is_hot (main_of files) (journal_of files) ≡ false
 
 -- what was found of Main and Journal
-abbrev pub IsFound : ℕ → Files → Found → Type 0
-IsFound size files Nothing = (HasByte (bytes_of files.main) → ⊥) ⊎ (files.journal ≡ None)
-IsFound size files Cold = HasByte (bytes_of files.main) × IsCold files
-IsFound size files (Refused why) = answer_of size (bytes_of files.main) (bytes_of files.journal) ≡ Err why
-IsFound size files (Hot reading) = IsTaken size files × IsReadingOf reading (journal_of files)
+abbrev pub IsJournalFound : ℕ → Files → Found → Type 0
+IsJournalFound size files Nothing = (HasByte (bytes_of files.main) → ⊥) ⊎ (files.journal ≡ None)
+IsJournalFound size files Cold = HasByte (bytes_of files.main) × IsCold files
+IsJournalFound size files (Refused why) = answer_of size (bytes_of files.main) (bytes_of files.journal) ≡ Err why
+IsJournalFound size files (Hot reading) = IsPlayedHot size files × IsReadingOf reading (journal_of files)
 
 -- whether a disk tells or not: a refusal is one of two, and the numbers of a journal that is read are in their ranges
 abbrev pub IsRefusable : ℕ → Found → Type 0
 IsRefusable size Nothing = Unit {0}
 IsRefusable size Cold = Unit {0}
 IsRefusable size (Refused why) = (why ≢ DiskFault) × (why ≢ OutOfMemory)
-IsRefusable size (Hot reading) = IsReading reading × (reading.page_size ≡ size)
+IsRefusable size (Hot reading) = IsJournalReading reading × (reading.page_size ≡ size)

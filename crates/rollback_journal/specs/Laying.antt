@@ -18,9 +18,9 @@ reach size [] = 0
 reach size (entry ∷ rest) = max (page_start size entry.page + size) (reach size rest)
 
 -- some image gives the byte at this place
-abbrev pub IsGiven : ℕ → List Record → ℕ → Type 0
-IsGiven size [] i = ⊥
-IsGiven size (entry ∷ rest) i = ((page_start size entry.page ≤ i) × (i < page_start size entry.page + size)) ⊎ IsGiven size rest i
+abbrev pub IsGivenByte : ℕ → List Record → ℕ → Type 0
+IsGivenByte size [] i = ⊥
+IsGivenByte size (entry ∷ rest) i = ((page_start size entry.page ≤ i) × (i < page_start size entry.page + size)) ⊎ IsGivenByte size rest i
 
 -- each image has the size of a page, and none stands behind the end
 abbrev pub AreSized : ℕ → ℕ → List Record → Type 0
@@ -38,9 +38,9 @@ pub record PlaysTo (size end : ℕ) (records : List Record) (main file : List �
 pub record IsPartly (size end : ℕ) (records : List Record) (main now : List ℕ) : Type 0 where
   pub no_shorter : min (length main) end ≤ length now
   pub no_longer : length now ≤ max (length main) (reach size records)
-  pub kept : (i : ℕ) → i < length main → i < end → IsGiven size records i ⊎ (get_or now i 0 ≡ get_or main i 0)
+  pub kept : (i : ℕ) → i < length main → i < end → IsGivenByte size records i ⊎ (get_or now i 0 ≡ get_or main i 0)
 
 -- the images have this one among them
 pub record IsOneOf (size : ℕ) (entry : Record) (records : List Record) : Type 0 where
-  pub given : (i : ℕ) → page_start size entry.page ≤ i → i < page_start size entry.page + size → IsGiven size records i
+  pub given : (i : ℕ) → page_start size entry.page ≤ i → i < page_start size entry.page + size → IsGivenByte size records i
   pub reached : page_start size entry.page + size ≤ reach size records

@@ -4,7 +4,7 @@ use Rattle.edge_model.specs.Files.{Files, bytes_of}
 use Rattle.journal_format.specs.Header.{initial_at, page_size_at}
 use Rattle.journal_format.specs.Records.{Record}
 use Rattle.journal_format.specs.Segments.{is_hot, names_super, played}
-use Rattle.rollback_journal.specs.Recovery.{Keeps}
+use Rattle.rollback_journal.specs.Recovery.{KeepsRecovered}
 
 -- a journal that plays these records, beside any Main with a byte
 pub record Plays (size initial : ℕ) (records : List Record) (journal : Option (List ℕ)) : Type 0 where
@@ -29,14 +29,14 @@ pub record SameOthers (old new : Files) : Type 0 where
 -- and the image recovers as before
 pub record PlaysAsBefore (size : ℕ) (old new : Files) : Type 0 where
   pub same : SameOthers old new
-  pub recovers : Keeps size old new
+  pub recovers : KeepsRecovered size old new
 
 -- while a gate is opened: as before, or all records of all segments so far
 pub record PlaysAsBeforeOrAll (size initial : ℕ) (records : List Record) (old new : Files) : Type 0 where
   pub same : SameOthers old new
-  pub plays : Keeps size old new ⊎ Plays size initial records (bytes_of new.journal)
+  pub plays : KeepsRecovered size old new ⊎ Plays size initial records (bytes_of new.journal)
 
 -- while the journal is closed: as before, or nothing
 pub record PlaysAsBeforeOrNone (size : ℕ) (old new : Files) : Type 0 where
   pub same : SameOthers old new
-  pub plays : Keeps size old new ⊎ PlaysNone (bytes_of new.journal)
+  pub plays : KeepsRecovered size old new ⊎ PlaysNone (bytes_of new.journal)

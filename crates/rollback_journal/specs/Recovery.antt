@@ -38,7 +38,7 @@ pub record RecoversOnlyTo (size : ℕ) (set : List ℕ → Bool) (image : Files)
   pub only : (file : List ℕ) → Recovers size image file → IsTrue (set file)
 
 -- A step that keeps what an image recovers to, and Fresh: it recovers to no other file than before, and still to one.
-pub record Keeps (size : ℕ) (old new : Files) : Type 0 where
+pub record KeepsRecovered (size : ℕ) (old new : Files) : Type 0 where
   pub no_other : (file : List ℕ) → Recovers size new file → Recovers size old file
   pub still : (file : List ℕ) → Recovers size old file → (other : List ℕ) × Recovers size new other
   pub fresh : new.fresh ≡ old.fresh
@@ -80,9 +80,9 @@ HasByte None = ⊥
 HasByte (Some main) = 0 < length main
 
 -- Main is there and is what is recovered of the files, and no journal is there
-abbrev pub IsDone : ℕ → Option (List ℕ) → Option (List ℕ) → Files → Type 0
-IsDone size None journal image = ⊥
-IsDone size (Some main) journal image = (bytes_of image.main ≡ Some (recovered size main journal)) × (image.journal ≡ None)
+abbrev pub IsPlaybackDone : ℕ → Option (List ℕ) → Option (List ℕ) → Files → Type 0
+IsPlaybackDone size None journal image = ⊥
+IsPlaybackDone size (Some main) journal image = (bytes_of image.main ≡ Some (recovered size main journal)) × (image.journal ≡ None)
 
 -- Journal is on the disk as it reads, and all names are
 pub record IsHeld (now image : Files) : Type 0 where

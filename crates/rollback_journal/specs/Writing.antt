@@ -1,11 +1,11 @@
 -- A journal while it is written: what its writer knows, and what the bytes of the journal are after each call.
 use Rattle.std.specs.Prelude.{ℕ, zero, suc, ◌≡◌, ◌≢◌, ◌+◌, ◌-◌, ◌*◌, ◌%◌, ◌<◌, ◌≤◌, ◌==◌, Bool, true, false, List, [], ◌++◌, length, take, drop, map, slice_index, replicate, Option, Some, All}
-use Rattle.edge_model.specs.Files.{File, Files, bytes_of, number_of}
-use Rattle.journal_format.specs.Header.{has_header, count_at, nonce_at, initial_at, sector_at, page_size_at, header_bytes}
+use Rattle.edge_model.specs.Files.{File, Files, bytes_of, number_of, contents}
+use Rattle.journal_format.specs.Header.{has_header, count_at, nonce_at, initial_at, sector_at, page_size_at, journal_header_bytes}
 use Rattle.journal_format.specs.Records.{Record, Place, record_at, is_good}
 use Rattle.journal_format.specs.Segments.{mark, has_mark, places_of, rounded_up, played}
 use Rattle.rollback_journal.specs.Plays.{Plays, PlaysNone}
-use Rattle.rollback_journal.specs.Playing.{contents, pending, places_at}
+use Rattle.rollback_journal.specs.Playing.{pending, places_at}
 use Rattle.rollback_journal.specs.declared.stage.Stage.{Stage}
 use Rattle.rollback_journal.specs.declared.stage.Stage.TheVariants.{New, Filling, Opened, Closed}
 
@@ -102,7 +102,7 @@ pub record HasOwnHeader (size initial : ℕ) (journal : List ℕ) : Type 0 where
   pub mark : has_mark 512 (take 44 journal) ≡ true
 
 -- The segments before the present one are open, and its own records are whole. Nothing stands behind them.
-pub record IsWritten (w : Writing) (journal : List ℕ) : Type 0 where
+pub record IsJournalWritten (w : Writing) (journal : List ℕ) : Type 0 where
   pub leads : Leads w.page_size w.at w.at (earlier_records w journal) journal
   pub own : 0 < w.at → HasOwnHeader w.page_size w.initial journal
   pub within : w.at < length journal
@@ -112,12 +112,12 @@ pub record IsWritten (w : Writing) (journal : List ℕ) : Type 0 where
 
 -- the present gate is closed
 pub record IsFilling (w : Writing) (journal : List ℕ) : Type 0 where
-  pub written : IsWritten w journal
+  pub written : IsJournalWritten w journal
   pub gate : slice_index journal w.at ≡ 0
 
 -- it is open, with the exact count
-pub record IsOpened (w : Writing) (journal : List ℕ) : Type 0 where
-  pub written : IsWritten w journal
+pub record IsJournalOpened (w : Writing) (journal : List ℕ) : Type 0 where
+  pub written : IsJournalWritten w journal
   pub some : 0 < w.count
   pub header : has_header w.at journal ≡ true
   pub count : count_at w.at journal ≡ w.count
@@ -125,21 +125,21 @@ pub record IsOpened (w : Writing) (journal : List ℕ) : Type 0 where
   pub first : HasOwnHeader w.page_size w.initial journal
 
 -- the whole journal is closed
-pub record IsShut (journal : List ℕ) : Type 0 where
+pub record IsJournalShut (journal : List ℕ) : Type 0 where
   pub within : 0 < length journal
   pub gate : slice_index journal 0 ≡ 0
 
-abbrev pub IsAt : Stage → Writing → List ℕ → Type 0
-IsAt New w journal = ⊥
-IsAt Filling w journal = IsFilling w journal
-IsAt Opened w journal = IsOpened w journal
-IsAt Closed w journal = IsShut journal
+abbrev pub IsWriterAt : Stage → Writing → List ℕ → Type 0
+IsWriterAt New w journal = ⊥
+IsWriterAt Filling w journal = IsFilling w journal
+IsWriterAt Opened w journal = IsJournalOpened w journal
+IsWriterAt Closed w journal = IsJournalShut journal
 
 -- Journal as the writer's last call left it, as it reads
 pub record IsLeft (w : Writing) (now : Option File) : Type 0 where
   pub small : IsSmall w
   pub there : bytes_of now ≡ Some (contents now)
-  pub is_at : IsAt w.stage w (contents now)
+  pub is_at : IsWriterAt w.stage w (contents now)
 
 -- the same file with the same first bytes; what follows may be anything
 pub record HasFront (front : ℕ) (now image : Option File) : Type 0 where
@@ -157,7 +157,7 @@ abbrev pub IsLeftBeside : Writing → Option File → Option File → Type 0
 IsLeftBeside w now image = BesideAt w.stage w.at now image
 
 -- Journal reads as the last call left it, and so it is in each image.
-pub record Stands (w : Writing) (now : Files) (images : Files → Type 0) : Type 0 where
+pub record WriterStands (w : Writing) (now : Files) (images : Files → Type 0) : Type 0 where
   pub read : IsLeft w now.journal
   pub beside : (c : Files) → images c → IsLeftBeside w now.journal c.journal
 
@@ -183,8 +183,8 @@ padding false = replicate 484 0
 
 -- the 512 bytes of the present segment's first sector
 abbrev pub sector_of : Writing → List ℕ
-sector_of w = header_bytes w.count w.nonce w.initial 512 w.page_size ++ padding (w.at == 0)
+sector_of w = journal_header_bytes w.count w.nonce w.initial 512 w.page_size ++ padding (w.at == 0)
 
 -- they stand there, but for the first
-pub record IsHeaded (w : Writing) (journal : List ℕ) : Type 0 where
+pub record IsJournalHeaded (w : Writing) (journal : List ℕ) : Type 0 where
   pub head : take 511 (drop (w.at + 1) journal) ≡ drop 1 (sector_of w)

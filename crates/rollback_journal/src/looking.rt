@@ -7,7 +7,7 @@ ghost use Rattle.journal_format.specs.Header.{sector_at};
 ghost use Rattle.journal_format.specs.Segments.{names_super};
 ghost use Rattle.rollback_journal.specs.Recovery.{HasByte};
 ghost use Rattle.rollback_journal.specs.Playing.{journal_of};
-ghost use Rattle.rollback_journal.specs.Closing.{IsFound, IsRefusable};
+ghost use Rattle.rollback_journal.specs.Closing.{IsJournalFound, IsRefusable};
 
 use crate::playback::read_full;
 use crate::recovery::RecoverError;
@@ -53,7 +53,7 @@ fn look_at<D: Disk>(disk: &mut D, page_size: u32, len: u64) -> Result<Found, Fai
     requires size { (512 ≤ page_size) × (page_size ≤ 65536) }
     requires told { IsTrue D.tells → HasByte (bytes_of (D.reads disk.old).main) × ((D.reads disk.old).journal ≢ None)
         × (len ≡ length (journal_of (D.reads disk.old))) }
-    ensures found { IfOk result (λ found. IsTrue D.tells → IsFound page_size (D.reads disk.old) found) }
+    ensures found { IfOk result (λ found. IsTrue D.tells → IsJournalFound page_size (D.reads disk.old) found) }
     ensures sound { IfOk result (λ found. IsRefusable page_size found) }
     ensures same { IsTrue D.tells → D.reads disk.new ≡ D.reads disk.old }
     ensures crash { IsTrue D.tells → Each (D.images disk.new) (D.images disk.old) }
@@ -91,7 +91,7 @@ fn look_at<D: Disk>(disk: &mut D, page_size: u32, len: u64) -> Result<Found, Fai
 /// What is to be done with Main and Journal.
 pub fn look<D: Disk>(disk: &mut D, page_size: u32) -> Result<Found, Failed>
     requires { (512 ≤ page_size) × (page_size ≤ 65536) }
-    ensures found { IfOk result (λ found. IsTrue D.tells → IsFound page_size (D.reads disk.old) found) }
+    ensures found { IfOk result (λ found. IsTrue D.tells → IsJournalFound page_size (D.reads disk.old) found) }
     ensures sound { IfOk result (λ found. IsRefusable page_size found) }
     ensures same { IsTrue D.tells → D.reads disk.new ≡ D.reads disk.old }
     ensures crash { IsTrue D.tells → Each (D.images disk.new) (D.images disk.old) }

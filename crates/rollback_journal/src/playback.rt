@@ -1,13 +1,13 @@
 // The records of a hot journal, one by one: read, checked and laid over Main.
 ghost use Rattle.std.specs.Prelude.{◌≡◌, ◌≢◌, ◌+◌, ◌-◌, ◌*◌, ◌<◌, ◌≤◌, Option, length, IsTrue, IfOk, OnOk, IfSome, Some, None};
 ghost use Rattle.edge_model.specs.Causes.{HasCause};
-ghost use Rattle.edge_model.specs.Files.{file_at, read_from, written};
+ghost use Rattle.edge_model.specs.Files.{file_at, read_from, written, contents, main_of};
 ghost use Rattle.edge_model.specs.Images.{Each, From, LeavesOnly};
 ghost use Rattle.journal_format.specs.Header.{initial_at};
 ghost use Rattle.rollback_journal.specs.Laying.{page_start, IsOneOf};
 ghost use Rattle.journal_format.specs.Segments.{played};
-ghost use Rattle.rollback_journal.specs.Recovery.{Keeps};
-ghost use Rattle.rollback_journal.specs.Playing.{contents, main_of, journal_of, IsInPlay, IsOneIfGood, DidAt, IsRead};
+ghost use Rattle.rollback_journal.specs.Recovery.{KeepsRecovered};
+ghost use Rattle.rollback_journal.specs.Playing.{journal_of, IsInPlay, IsOneIfGood, DidAt, IsReadBack};
 
 use edge_model::{Disk, Failed, Role};
 use journal_format::record_page;
@@ -57,7 +57,7 @@ fn read_record<D: Disk>(
     requires fits { IsTrue D.tells → at + length buffer.old ≤ length (journal_of (D.reads disk.old)) }
     ensures numbered { IfOk result (λ page. IfSome page (λ n. 1 ≤ n)) }
     ensures read { IfOk result (λ page. IsTrue D.tells →
-        IsRead (length buffer.old - 8) (journal_of (D.reads disk.old)) (record { nonce = nonce; at = at }) buffer.new page) }
+        IsReadBack (length buffer.old - 8) (journal_of (D.reads disk.old)) (record { nonce = nonce; at = at }) buffer.new page) }
     ensures same { IsTrue D.tells → D.reads disk.new ≡ D.reads disk.old }
     ensures crash { IsTrue D.tells → Each (D.images disk.new) (D.images disk.old) }
     ensures any_moment { IsTrue D.tells → LeavesOnly D.moment D.since disk.old disk.new (D.images disk.old) }
@@ -78,7 +78,7 @@ fn lay_image<D: Disk>(disk: &mut D, page_size: u32, page: u32, image: &[u8]) -> 
     ensures journal { OnOk result (IsTrue D.tells → (D.reads disk.new).journal ≡ (D.reads disk.old).journal) }
     ensures in_play { OnOk result (IsTrue D.tells → Each (D.images disk.new) (IsInPlay page_size (D.reads disk.new))) }
     ensures any_moment { IsTrue D.tells →
-        LeavesOnly D.moment D.since disk.old disk.new (From (Keeps page_size) (D.images disk.old)) }
+        LeavesOnly D.moment D.since disk.old disk.new (From (KeepsRecovered page_size) (D.images disk.old)) }
     ensures cause { HasCause (D.faults disk.old) (D.faults disk.new) result }
 {
     disk.write_at(Role::Main, (page - 1) as u64 * page_size as u64, image)?;
@@ -105,7 +105,7 @@ pub fn take_record<D: Disk>(
     ensures journal { OnOk result (IsTrue D.tells → (D.reads disk.new).journal ≡ (D.reads disk.old).journal) }
     ensures in_play { OnOk result (IsTrue D.tells → Each (D.images disk.new) (IsInPlay page_size (D.reads disk.new))) }
     ensures any_moment { IsTrue D.tells →
-        LeavesOnly D.moment D.since disk.old disk.new (From (Keeps page_size) (D.images disk.old)) }
+        LeavesOnly D.moment D.since disk.old disk.new (From (KeepsRecovered page_size) (D.images disk.old)) }
     ensures buffer { length buffer.new ≡ length buffer.old }
     ensures cause { HasCause (D.faults disk.old) (D.faults disk.new) result }
 {

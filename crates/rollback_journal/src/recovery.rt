@@ -1,12 +1,12 @@
 // Recovery from a rollback journal.
 ghost use Rattle.std.specs.Prelude.{◌≡◌, ◌≢◌, ◌⊎◌, ◌+◌, ◌*◌, ◌<◌, ◌≤◌, Bool, List, ℕ, length, take, IsTrue, IfErr, IfOk, OnOk, None, Ok, Err};
 ghost use Rattle.edge_model.specs.Causes.{HasCause, Rose};
-ghost use Rattle.edge_model.specs.Files.{bytes_of};
+ghost use Rattle.edge_model.specs.Files.{bytes_of, main_of};
 ghost use Rattle.edge_model.specs.Images.{Each, From, HasSynced, LeavesOnly};
 ghost use Rattle.journal_format.specs.Segments.{played};
 ghost use Rattle.rollback_journal.specs.Laying.{laid};
-ghost use Rattle.rollback_journal.specs.Recovery.{Keeps, HasByte, IsDone, IsSettled, RecoversOnlyTo, answer_to, changes_nothing, end_of};
-ghost use Rattle.rollback_journal.specs.Playing.{main_of, journal_of, IsTaken, IsInPlay, IsReading, IsReadingOf};
+ghost use Rattle.rollback_journal.specs.Recovery.{KeepsRecovered, HasByte, IsPlaybackDone, IsSettled, RecoversOnlyTo, answer_to, changes_nothing, end_of};
+ghost use Rattle.rollback_journal.specs.Playing.{journal_of, IsPlayedHot, IsInPlay, IsJournalReading, IsReadingOf};
 ghost use Rattle.rollback_journal.specs.Closing.{IsLaidBack, IsCold};
 ghost use Rattle.rollback_journal.specs.declared.recovery.RecoverError.TheVariants.{DiskFault};
 
@@ -90,7 +90,7 @@ fn finish_main<D: Disk>(disk: &mut D, page_size: u32, end: u64) -> Result<(), Fa
     ensures journal { OnOk result (IsTrue D.tells → (D.reads disk.new).journal ≡ (D.reads disk.old).journal) }
     ensures settled { OnOk result (IsTrue D.tells → Each (D.images disk.new) (IsSettled (D.reads disk.new))) }
     ensures any_moment { IsTrue D.tells →
-        LeavesOnly D.moment D.since disk.old disk.new (From (Keeps page_size) (D.images disk.old)) }
+        LeavesOnly D.moment D.since disk.old disk.new (From (KeepsRecovered page_size) (D.images disk.old)) }
     ensures cause { HasCause (D.faults disk.old) (D.faults disk.new) result }
 {
     disk.cut(Role::Main, end)?;
@@ -106,7 +106,7 @@ fn close_gate<D: Disk>(disk: &mut D, page_size: u32) -> Result<(), Failed>
     ensures closed { OnOk result (IsTrue D.tells → IsCold (D.reads disk.new)) }
     ensures settled { OnOk result (IsTrue D.tells → Each (D.images disk.new) (IsSettled (D.reads disk.new))) }
     ensures any_moment { IsTrue D.tells →
-        LeavesOnly D.moment D.since disk.old disk.new (From (Keeps page_size) (D.images disk.old)) }
+        LeavesOnly D.moment D.since disk.old disk.new (From (KeepsRecovered page_size) (D.images disk.old)) }
     ensures cause { HasCause (D.faults disk.old) (D.faults disk.new) result }
 {
     disk.write_at(Role::Journal, 0, &[0])?;
@@ -123,7 +123,7 @@ fn drop_journal<D: Disk>(disk: &mut D, page_size: u32) -> Result<(), Failed>
         Each (D.images disk.new) (λ c. (c.main ≡ (D.reads disk.old).main) × (c.journal ≡ None))) }
     ensures settled { OnOk result (IsTrue D.tells → Each (D.images disk.new) (IsSettled (D.reads disk.new))) }
     ensures any_moment { IsTrue D.tells →
-        LeavesOnly D.moment D.since disk.old disk.new (From (Keeps page_size) (D.images disk.old)) }
+        LeavesOnly D.moment D.since disk.old disk.new (From (KeepsRecovered page_size) (D.images disk.old)) }
     ensures cause { HasCause (D.faults disk.old) (D.faults disk.new) result }
 {
     disk.remove(Role::Journal)?;
@@ -133,10 +133,10 @@ fn drop_journal<D: Disk>(disk: &mut D, page_size: u32) -> Result<(), Failed>
 
 /// Lays back what a hot journal plays, syncs Main, and only then closes the journal.
 fn lay_back<D: Disk>(disk: &mut D, reading: &Reading, buffer: &mut [u8]) -> Result<u64, Failed>
-    requires reading { IsReading reading.now }
+    requires reading { IsJournalReading reading.now }
     requires buffer { length buffer.old ≡ reading.now.page_size + 8 }
     requires settled { IsTrue D.tells → Each (D.images disk.old) (IsSettled (D.reads disk.old)) }
-    requires taken { IsTrue D.tells → IsTaken reading.now.page_size (D.reads disk.old) }
+    requires taken { IsTrue D.tells → IsPlayedHot reading.now.page_size (D.reads disk.old) }
     requires read { IsTrue D.tells → IsReadingOf reading.now (journal_of (D.reads disk.old)) }
     ensures main { OnOk result (IsTrue D.tells → main_of (D.reads disk.new)
         ≡ take (end_of reading.now.page_size (journal_of (D.reads disk.old)))
@@ -146,7 +146,7 @@ fn lay_back<D: Disk>(disk: &mut D, reading: &Reading, buffer: &mut [u8]) -> Resu
     ensures cold { OnOk result (IsTrue D.tells → IsCold (D.reads disk.new)) }
     ensures settled { OnOk result (IsTrue D.tells → Each (D.images disk.new) (IsSettled (D.reads disk.new))) }
     ensures any_moment { IsTrue D.tells →
-        LeavesOnly D.moment D.since disk.old disk.new (From (Keeps reading.now.page_size) (D.images disk.old)) }
+        LeavesOnly D.moment D.since disk.old disk.new (From (KeepsRecovered reading.now.page_size) (D.images disk.old)) }
     ensures cause { HasCause (D.faults disk.old) (D.faults disk.new) result }
 {
     let records = play(disk, reading, buffer)?;
@@ -166,19 +166,19 @@ fn recover_hot<D: Disk>(
     disk: &mut D,
     reading: &Reading,
 ) -> Result<Recovery, RecoverError>
-    requires reading { IsReading reading.now }
+    requires reading { IsJournalReading reading.now }
     requires settled { IsTrue D.tells → Each (D.images disk.old) (IsSettled (D.reads disk.old)) }
-    requires taken { IsTrue D.tells → IsTaken reading.now.page_size (D.reads disk.old) }
+    requires taken { IsTrue D.tells → IsPlayedHot reading.now.page_size (D.reads disk.old) }
     requires read { IsTrue D.tells → IsReadingOf reading.now (journal_of (D.reads disk.old)) }
     ensures played { IfOk result (λ did. IsTrue D.tells →
         did ≡ Recovery.Played (length (played reading.now.page_size (journal_of (D.reads disk.old))))) }
     ensures failed { IfErr result (λ why. (why ≡ RecoverError.DiskFault) ⊎ (why ≡ RecoverError.OutOfMemory)) }
     ensures done { OnOk result (IsTrue D.tells → Each (D.images disk.new)
-        (IsDone reading.now.page_size (bytes_of (D.reads disk.old).main) (bytes_of (D.reads disk.old).journal))) }
+        (IsPlaybackDone reading.now.page_size (bytes_of (D.reads disk.old).main) (bytes_of (D.reads disk.old).journal))) }
     ensures settled { OnOk result (IsTrue D.tells → Each (D.images disk.new) (IsSettled (D.reads disk.new))) }
     ensures unchanged { result ≡ Err RecoverError.OutOfMemory → disk.new ≡ disk.old }
     ensures any_moment { IsTrue D.tells →
-        LeavesOnly D.moment D.since disk.old disk.new (From (Keeps reading.now.page_size) (D.images disk.old)) }
+        LeavesOnly D.moment D.since disk.old disk.new (From (KeepsRecovered reading.now.page_size) (D.images disk.old)) }
     ensures fault { result ≡ Err RecoverError.DiskFault → Rose (D.faults disk.old) (D.faults disk.new) }
     ensures later { D.faults disk.old ≤ D.faults disk.new }
 {
@@ -209,7 +209,7 @@ pub fn recover<D: Disk>(
     ensures later { D.faults disk.old ≤ D.faults disk.new }
     // what stands afterwards, in every image
     ensures done { OnOk result (IsTrue D.tells → HasByte (bytes_of (D.reads disk.old).main) →
-        Each (D.images disk.new) (IsDone page_size (bytes_of (D.reads disk.old).main) (bytes_of (D.reads disk.old).journal))) }
+        Each (D.images disk.new) (IsPlaybackDone page_size (bytes_of (D.reads disk.old).main) (bytes_of (D.reads disk.old).journal))) }
     ensures settled { IsTrue D.tells → result ≢ Err RecoverError.DiskFault →
         Each (D.images disk.new) (IsSettled (D.reads disk.new)) }
     // Nothing, both refusals and want of memory: nothing was written
@@ -222,7 +222,7 @@ pub fn recover<D: Disk>(
         LeavesOnly D.moment D.since disk.old disk.new (D.images disk.old) }
     // whatever the answer, at every moment from the start
     ensures any_moment { IsTrue D.tells →
-        LeavesOnly D.moment D.since disk.old disk.new (From (Keeps page_size) (D.images disk.old)) }
+        LeavesOnly D.moment D.since disk.old disk.new (From (KeepsRecovered page_size) (D.images disk.old)) }
     ensures holds { IsTrue D.tells → (set : List ℕ → Bool) → Each (D.images disk.old) (RecoversOnlyTo page_size set)
         → LeavesOnly D.moment D.since disk.old disk.new (RecoversOnlyTo page_size set) }
 {

@@ -5,8 +5,9 @@ ghost use Rattle.edge_model.specs.Images.{Each, From, LeavesOnly};
 ghost use Rattle.journal_format.specs.Records.{Place};
 ghost use Rattle.journal_format.specs.Segments.{played, places_of, rounded_up};
 ghost use Rattle.rollback_journal.specs.Laying.{laid};
-ghost use Rattle.rollback_journal.specs.Recovery.{Keeps};
-ghost use Rattle.rollback_journal.specs.Playing.{main_of, journal_of, IsInPlay, pending, places_at, AreAmong, GoesOn, is_whole, todo_at, IsSegmentAt, IsReading, IsReadingOf};
+ghost use Rattle.rollback_journal.specs.Recovery.{KeepsRecovered};
+ghost use Rattle.rollback_journal.specs.Playing.{journal_of, IsInPlay, pending, places_at, AreAmong, GoesOn, is_whole, todo_at, IsSegmentAt, IsJournalReading, IsReadingOf};
+ghost use Rattle.edge_model.specs.Files.{main_of};
 
 use crate::playback::{Step, read_full, take_record};
 use edge_model::{Disk, Failed, Role};
@@ -70,7 +71,7 @@ fn read_segment<D: Disk>(
     reading: &Reading,
     at: u64,
 ) -> Result<Option<Segment>, Failed>
-    requires reading { IsReading reading.now }
+    requires reading { IsJournalReading reading.now }
     requires within { at ≤ reading.now.len }
     requires there { IsTrue D.tells → (D.reads disk.old).journal ≢ None }
     requires read { IsTrue D.tells → IsReadingOf reading.now (journal_of (D.reads disk.old)) }
@@ -108,7 +109,7 @@ fn play_records<D: Disk>(
     count: &mut u64,
     buffer: &mut [u8],
 ) -> Result<bool, Failed>
-    requires reading { IsReading reading.now }
+    requires reading { IsJournalReading reading.now }
     requires buffer { length buffer.old ≡ reading.now.page_size + 8 }
     requires bounds { segment.now.first + segment.now.count * (reading.now.page_size + 8) ≤ reading.now.len }
     requires counts { count.old ≤ segment.now.first }
@@ -132,7 +133,7 @@ fn play_records<D: Disk>(
     ensures in_play { OnOk result (IsTrue D.tells →
         Each (D.images disk.new) (IsInPlay reading.now.page_size (D.reads disk.new))) }
     ensures any_moment { IsTrue D.tells →
-        LeavesOnly D.moment D.since disk.old disk.new (From (Keeps reading.now.page_size) (D.images disk.old)) }
+        LeavesOnly D.moment D.since disk.old disk.new (From (KeepsRecovered reading.now.page_size) (D.images disk.old)) }
     ensures cause { HasCause (D.faults disk.old) (D.faults disk.new) result }
 {
     let step = reading.page_size as u64 + 8;
@@ -178,7 +179,7 @@ fn play_segment<D: Disk>(
     count: &mut u64,
     buffer: &mut [u8],
 ) -> Result<Option<u64>, Failed>
-    requires reading { IsReading reading.now }
+    requires reading { IsJournalReading reading.now }
     requires buffer { length buffer.old ≡ reading.now.page_size + 8 }
     requires within { at ≤ reading.now.len }
     requires counts { count.old ≤ at }
@@ -201,7 +202,7 @@ fn play_segment<D: Disk>(
     ensures in_play { OnOk result (IsTrue D.tells →
         Each (D.images disk.new) (IsInPlay reading.now.page_size (D.reads disk.new))) }
     ensures any_moment { IsTrue D.tells →
-        LeavesOnly D.moment D.since disk.old disk.new (From (Keeps reading.now.page_size) (D.images disk.old)) }
+        LeavesOnly D.moment D.since disk.old disk.new (From (KeepsRecovered reading.now.page_size) (D.images disk.old)) }
     ensures cause { HasCause (D.faults disk.old) (D.faults disk.new) result }
 {
     let Some(segment) = read_segment(disk, reading, at)? else {
@@ -224,7 +225,7 @@ fn play_segment<D: Disk>(
 /// Plays the whole journal, and counts the records laid. Main is neither cut nor synced. The buffer is a page and 8 bytes
 /// long, and no memory is taken.
 pub fn play<D: Disk>(disk: &mut D, reading: &Reading, buffer: &mut [u8]) -> Result<u64, Failed>
-    requires reading { IsReading reading.now }
+    requires reading { IsJournalReading reading.now }
     requires buffer { length buffer.old ≡ reading.now.page_size + 8 }
     requires in_play { IsTrue D.tells → Each (D.images disk.old) (IsInPlay reading.now.page_size (D.reads disk.old)) }
     requires there { IsTrue D.tells → (D.reads disk.old).journal ≢ None }
@@ -237,7 +238,7 @@ pub fn play<D: Disk>(disk: &mut D, reading: &Reading, buffer: &mut [u8]) -> Resu
     ensures in_play { OnOk result (IsTrue D.tells →
         Each (D.images disk.new) (IsInPlay reading.now.page_size (D.reads disk.new))) }
     ensures any_moment { IsTrue D.tells →
-        LeavesOnly D.moment D.since disk.old disk.new (From (Keeps reading.now.page_size) (D.images disk.old)) }
+        LeavesOnly D.moment D.since disk.old disk.new (From (KeepsRecovered reading.now.page_size) (D.images disk.old)) }
     ensures cause { HasCause (D.faults disk.old) (D.faults disk.new) result }
 {
     let mut at = 0;

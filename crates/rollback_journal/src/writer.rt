@@ -2,11 +2,10 @@
 // of what it writes stand at the head of the crate.
 ghost use Rattle.std.specs.Prelude.{◌≡◌, ◌≢◌, ◌⊎◌, ◌∷◌, [], ◌++◌, ◌+◌, ◌-◌, ◌*◌, ◌<◌, ◌≤◌, length, IsTrue, OnOk, IfOk, None, Some, MatchBool};
 ghost use Rattle.edge_model.specs.Causes.{HasCause};
-ghost use Rattle.edge_model.specs.Files.{bytes_of};
+ghost use Rattle.edge_model.specs.Files.{bytes_of, contents};
 ghost use Rattle.edge_model.specs.Images.{Each, From, LeavesOnly, SameNames};
-ghost use Rattle.rollback_journal.specs.Playing.{contents};
 ghost use Rattle.rollback_journal.specs.Plays.{SameOthers, PlaysAsBefore};
-ghost use Rattle.rollback_journal.specs.Writing.{Writing, IsSmall, at_first, with_stage, with_record, all_records, Stands, HasNoRecordOf};
+ghost use Rattle.rollback_journal.specs.Writing.{Writing, IsSmall, at_first, with_stage, with_record, all_records, WriterStands, HasNoRecordOf};
 
 mod gates;
 mod laying_back;
@@ -78,7 +77,7 @@ impl JournalWriter {
         ensures made { OnOk result (self.new ≡ with_stage Stage.Filling self.old) }
         ensures sizes { (self.new.page_size ≡ self.old.page_size) × (self.new.initial ≡ self.old.initial) }
         ensures small { IsSmall self.new }
-        ensures stands { OnOk result (IsTrue D.tells → Stands self.new (D.reads disk.new) (D.images disk.new)) }
+        ensures stands { OnOk result (IsTrue D.tells → WriterStands self.new (D.reads disk.new) (D.images disk.new)) }
         ensures none { OnOk result (IsTrue D.tells → all_records self.new (contents (D.reads disk.new).journal) ≡ []) }
         ensures names { OnOk result (IsTrue D.tells → Each (D.images disk.new) (SameNames (D.reads disk.new))) }
         ensures others { IsTrue D.tells → SameOthers (D.reads disk.old) (D.reads disk.new) }
@@ -97,10 +96,10 @@ impl JournalWriter {
         requires room { self.old.total < self.old.initial }
         requires page { (1 ≤ n) × (n ≤ self.old.initial) × (length image.now ≡ self.old.page_size) }
         requires fresh { IsTrue D.tells → HasNoRecordOf n (all_records self.old (contents (D.reads disk.old).journal)) }
-        requires stands { IsTrue D.tells → Stands self.old (D.reads disk.old) (D.images disk.old) }
+        requires stands { IsTrue D.tells → WriterStands self.old (D.reads disk.old) (D.images disk.old) }
         ensures made { OnOk result (self.new ≡ with_record self.old) }
         ensures sizes { (self.new.page_size ≡ self.old.page_size) × (self.new.initial ≡ self.old.initial) }
-        ensures stands { OnOk result (IsTrue D.tells → Stands self.new (D.reads disk.new) (D.images disk.new)) }
+        ensures stands { OnOk result (IsTrue D.tells → WriterStands self.new (D.reads disk.new) (D.images disk.new)) }
         ensures one_more { OnOk result (IsTrue D.tells → all_records self.new (contents (D.reads disk.new).journal)
             ≡ all_records self.old (contents (D.reads disk.old).journal) ++ record { page = n; image = image.now } ∷ []) }
         ensures others { IsTrue D.tells → SameOthers (D.reads disk.old) (D.reads disk.new) }
@@ -120,7 +119,7 @@ impl JournalWriter {
     /// Removes a closed journal, and syncs the folder.
     pub fn remove<D: Disk>(&mut self, disk: &mut D) -> Result<(), Failed>
         requires stage { self.old.stage ≡ Stage.Closed }
-        requires stands { IsTrue D.tells → Stands self.old (D.reads disk.old) (D.images disk.old) }
+        requires stands { IsTrue D.tells → WriterStands self.old (D.reads disk.old) (D.images disk.old) }
         ensures gone { OnOk result (IsTrue D.tells → Each (D.images disk.new) (λ c. c.journal ≡ None)) }
         ensures others { IsTrue D.tells → SameOthers (D.reads disk.old) (D.reads disk.new) }
         ensures any_moment { IsTrue D.tells →

@@ -8,7 +8,7 @@ use Rattle.db_format.specs.Record.{columns}
 use Rattle.db_format.specs.Value.{Datum}
 use Rattle.btree_page.specs.declared.kind.Family.TheVariants.{Table}
 use Rattle.btree_page.specs.declared.page.PageFault.{PageFault}
-use Rattle.btree_page.specs.Cell.{Cell, Stored, table_leaf, table_interior, index_leaf, index_interior}
+use Rattle.btree_page.specs.Cell.{Cell, StoredCell, table_leaf, table_interior, index_leaf, index_interior}
 use Rattle.btree_page.specs.Page.{Node, read_node}
 use Rattle.btree_page.specs.Step.{Step, child, entry as cell}
 use Rattle.btree_model.specs.Finding.{Row, Finding, place, fault, refused, places, is_sound}
@@ -17,8 +17,8 @@ use Rattle.btree_model.specs.Walk.{links_needed, payload_of}
 use Rattle.rowid_find.specs.declared.error.FindError.{FindError}
 use Rattle.rowid_find.specs.declared.error.FindError.TheVariants.{Walk, OutputFault}
 use Rattle.rowid_find.specs.Bound.{links_below, links_in, links_on}
-use Rattle.rowid_find.specs.Reach.{all_steps, links, links_of, one_step, page_steps, reach, reach_all, reach_range, row_at, row_found, row_of_cell}
-use Rattle.rowid_find.specs.Search.{IsFound}
+use Rattle.rowid_find.specs.Reach.{all_steps, chain_findings, links_of, one_step, page_steps, reach, reach_all, reach_range, row_at, row_found, row_of_cell}
+use Rattle.rowid_find.specs.Search.{AreRowsFound}
 use Rattle.rowid_find.specs.Wanted.{children_to, is_between, wanted}
 use Rattle.rowid_find.proofs.OnceLemmas.{once_fewer}
 use Rattle.rowid_find.proofs.SearchSteps.{places_both}
@@ -36,7 +36,7 @@ no_place row None = refl
 no_place row (Some values) = refl
 
 module _ (pages : Pages) where
-  links_most : (more holder n : ℕ) → length (places (links pages more holder n)) ≤ more
+  links_most : (more holder n : ℕ) → length (places (chain_findings pages more holder n)) ≤ more
   links_most zero holder n = if_most (n == 0) _ _ 0 (omega arith) (omega arith)
   links_most (suc more) holder n =
       let next = links_most more n (u32_at (pages.page n) 0) in
@@ -45,12 +45,12 @@ module _ (pages : Pages) where
       (one_more more (pages.accepts n) n _ next)
       (omega arith))
 
-  links_of_by : (n : ℕ) (stored : Stored) (needed : ℕ) (b : Bool) (c : Bool)
-      → length (places (if b then [] else (if c then fault (ChildOutOfRange n) ∷ [] else links pages needed n stored.first))) ≤ needed
+  links_of_by : (n : ℕ) (stored : StoredCell) (needed : ℕ) (b : Bool) (c : Bool)
+      → length (places (if b then [] else (if c then fault (ChildOutOfRange n) ∷ [] else chain_findings pages needed n stored.first))) ≤ needed
   links_of_by n stored needed b c =
       if_most b _ _ needed (omega arith) (if_most c _ _ needed (omega arith) (links_most needed n stored.first))
 
-  row_most : (n : ℕ) (rowid : Option ℤ) (stored : Stored) → length (places (row_of_cell pages n rowid stored)) ≤ links_needed pages.usable stored
+  row_most : (n : ℕ) (rowid : Option ℤ) (stored : StoredCell) → length (places (row_of_cell pages n rowid stored)) ≤ links_needed pages.usable stored
   row_most n rowid stored =
       let found : List Finding = links_of pages n stored in
       let last : List Finding = if is_sound found then row_found (row_at pages n rowid stored) (columns (payload_of pages stored)) else [] in
@@ -72,7 +72,7 @@ module _ (pages : Pages) where
         let both = places_both (one_step pages below n (child c)) [] in
         omega (arith, one, both)
 
-    row_or_none : (n : ℕ) (r : ℤ) (stored : Stored) (rest : List Step) (b : Bool) → length (places (all_steps pages below n rest)) ≤ left + links_in pages needs rest
+    row_or_none : (n : ℕ) (r : ℤ) (stored : StoredCell) (rest : List Step) (b : Bool) → length (places (all_steps pages below n rest)) ≤ left + links_in pages needs rest
         → length (places (all_steps pages below n (if b then cell (Some r) stored ∷ rest else rest))) ≤ left + links_in pages needs (if b then cell (Some r) stored ∷ rest else rest)
     row_or_none n r stored rest false on = on
     row_or_none n r stored rest true on =
@@ -114,7 +114,7 @@ module _ (pages : Pages) where
 
 -- no more pages were read than were met
 read_most : {R : Type 0} (refuses : Pages → ℕ → R → Type 0) (pages : Pages) (tells : Bool) (all : List Finding) (before after : List ℕ) (reads later : ℕ)
-    (result : Result ℕ (FindError R)) → IsFound refuses pages tells all before after reads later result → later ≤ reads + length (places all)
+    (result : Result ℕ (FindError R)) → AreRowsFound refuses pages tells all before after reads later result → later ≤ reads + length (places all)
 read_most refuses pages tells all before after reads later (Ok rows) at = at.few
 read_most refuses pages tells all before after reads later (Err (Walk error)) at =
     let few = at.few in
@@ -133,7 +133,7 @@ all_most pages low high root same =
     omega (arith, most, fewer))
 
 pub one_rowid : {R : Type 0} (refuses : Pages → ℕ → R → Type 0) (pages : Pages) (low high : ℤ) (root : ℕ) (tells : Bool) (before after : List ℕ) (reads later : ℕ)
-    (result : Result ℕ (FindError R)) → low ≡ high → IsFound refuses pages tells (reach_all pages low high root) before after reads later result
+    (result : Result ℕ (FindError R)) → low ≡ high → AreRowsFound refuses pages tells (reach_all pages low high root) before after reads later result
     → later ≤ reads + 20 + links_below pages low high 20 root
 one_rowid refuses pages low high root tells before after reads later result same at =
     let few = read_most refuses pages tells (reach_all pages low high root) before after reads later result at in

@@ -8,14 +8,14 @@ use Rattle.db_format.specs.declared.defect.Defect.TheVariants.{ChildOutOfRange, 
 use Rattle.db_format.specs.Pages.{Pages, also, is_page}
 use Rattle.btree_model.specs.Finding.{Finding, place, fault, refused, entries, places}
 use Rattle.btree_model.specs.Range.{is_in_range}
-use Rattle.btree_page.specs.Cell.{Stored}
+use Rattle.btree_page.specs.Cell.{StoredCell}
 use Rattle.btree_model.specs.Walk.{chain_bytes, links_needed, payload_of}
 use Rattle.btree_model.proofs.FindingLemmas.{places-append, entries-append, sound_both}
 use Rattle.btree_walk.proofs.ChainLemmas.{differ}
 use Rattle.std.proofs.lemmas.Bool.{eq-eqb}
 use Rattle.btree_walk.specs.declared.error.WalkError.TheVariants.{Defect as Found, Source, OutOfMemory}
 use Rattle.btree_walk.specs.declared.error.WalkError.{WalkError}
-use Rattle.rowid_find.specs.Reach.{links, links_of}
+use Rattle.rowid_find.specs.Reach.{chain_findings, links_of}
 use Rattle.rowid_find.specs.Search.{Met, IsChainPart, IsChainRead, IsChainStopped, IsNotLoaded, IsOnChain}
 use Rattle.rowid_find.proofs.OnceLemmas.{also_none, marks_both, new_both, one_new}
 use Rattle.rowid_find.proofs.SearchSteps.{places_both}
@@ -29,38 +29,38 @@ module _ (pages : Pages) (needed start first : ℕ) (local : List ℕ) (s : Met)
       }
 
   module _ (more holder n : ℕ) (got : List ℕ) (t : Met) (at : IsOnChain pages needed start first more holder n local got s t) where
-    stopped : {R : Type 0} (refuses : Pages → ℕ → R → Type 0) (defect : Defect) → links pages more holder n ≡ fault defect ∷ []
-        → IsChainStopped refuses pages (links pages needed start first) s t (Found defect)
-    stopped refuses defect is = record { more = links pages more holder n; met = t.marks; part = at.part; cause = inl ([], is) }
+    stopped : {R : Type 0} (refuses : Pages → ℕ → R → Type 0) (defect : Defect) → chain_findings pages more holder n ≡ fault defect ∷ []
+        → IsChainStopped refuses pages (chain_findings pages needed start first) s t (Found defect)
+    stopped refuses defect is = record { more = chain_findings pages more holder n; met = t.marks; part = at.part; cause = inl ([], is) }
 
-    pub chain_starved : {R : Type 0} (refuses : Pages → ℕ → R → Type 0) → IsChainStopped refuses pages (links pages needed start first) s t OutOfMemory
-    chain_starved refuses = record { more = links pages more holder n; met = t.marks; part = at.part; cause = tt }
+    pub chain_starved : {R : Type 0} (refuses : Pages → ℕ → R → Type 0) → IsChainStopped refuses pages (chain_findings pages needed start first) s t OutOfMemory
+    chain_starved refuses = record { more = chain_findings pages more holder n; met = t.marks; part = at.part; cause = tt }
 
   module _ (holder n : ℕ) (got : List ℕ) (t : Met) (at : IsOnChain pages needed start first zero holder n local got s t) where
-    pub chain_done : n ≡ 0 → IsChainRead (links pages needed start first) (local ++ chain_bytes pages needed first) got s t
+    pub chain_done : n ≡ 0 → IsChainRead (chain_findings pages needed start first) (local ++ chain_bytes pages needed first) got s t
     chain_done end =
         let named : (n == 0) ≡ true = eq-eqb n 0 end in
-        let none : links pages zero holder n ≡ [] = rw named refl in
+        let none : chain_findings pages zero holder n ≡ [] = rw named refl in
         record {
-          part = subst (λ l. IsChainPart (links pages needed start first) l s t) none at.part;
+          part = subst (λ l. IsChainPart (chain_findings pages needed start first) l s t) none at.part;
           bytes = sym (at.bytes ∙ append-nil got);
         }
 
     pub chain_long : {R : Type 0} (refuses : Pages → ℕ → R → Type 0) → (n ≡ 0 → ⊥)
-        → IsChainStopped refuses pages (links pages needed start first) s t (Found (ChainLong holder))
+        → IsChainStopped refuses pages (chain_findings pages needed start first) s t (Found (ChainLong holder))
     chain_long refuses on =
         let named : (n == 0) ≡ false = differ n 0 on in
         stopped zero holder n got t at refuses (ChainLong holder) (rw named refl)
 
   module _ (left holder n : ℕ) (got : List ℕ) (t : Met) (at : IsOnChain pages needed start first (suc left) holder n local got s t) where
     pub chain_short : {R : Type 0} (refuses : Pages → ℕ → R → Type 0) → n ≡ 0
-        → IsChainStopped refuses pages (links pages needed start first) s t (Found (ChainShort holder))
+        → IsChainStopped refuses pages (chain_findings pages needed start first) s t (Found (ChainShort holder))
     chain_short refuses end =
         let named : (n == 0) ≡ true = eq-eqb n 0 end in
         stopped (suc left) holder n got t at refuses (ChainShort holder) (rw named refl)
 
     pub chain_out : {R : Type 0} (refuses : Pages → ℕ → R → Type 0) → (n ≡ 0 → ⊥) → is_in_range pages n ≡ false
-        → IsChainStopped refuses pages (links pages needed start first) s t (Found (ChildOutOfRange holder))
+        → IsChainStopped refuses pages (chain_findings pages needed start first) s t (Found (ChildOutOfRange holder))
     chain_out refuses on range =
         let named : (n == 0) ≡ false = differ n 0 on in
         stopped (suc left) holder n got t at refuses (ChildOutOfRange holder) (rw (named, range) refl)
@@ -68,10 +68,10 @@ module _ (pages : Pages) (needed start first : ℕ) (local : List ℕ) (s : Met)
     module _ (on : n ≡ 0 → ⊥) (range : is_in_range pages n ≡ true) where
       -- what follows where the page is accepted, or not
       abbrev after_link : Bool → List Finding
-      after_link true = links pages left n (u32_at (pages.page n) 0)
+      after_link true = chain_findings pages left n (u32_at (pages.page n) 0)
       after_link false = refused n ∷ []
 
-      link_is : (b : Bool) → pages.accepts n ≡ b → links pages (suc left) holder n ≡ place n ∷ after_link b
+      link_is : (b : Bool) → pages.accepts n ≡ b → chain_findings pages (suc left) holder n ≡ place n ∷ after_link b
       link_is true is = let named : (n == 0) ≡ false = differ n 0 on in rw (named, range, is) refl
       link_is false is = let named : (n == 0) ≡ false = differ n 0 on in rw (named, range, is) refl
 
@@ -80,8 +80,8 @@ module _ (pages : Pages) (needed start first : ℕ) (local : List ℕ) (s : Met)
       unaccepted false is none = refl
 
       -- the next page is asked for, whatever comes of it
-      asked : (after : List Finding) (later : ℕ) → later ≤ t.reads + 1 → t.marks n ≡ false → links pages (suc left) holder n ≡ place n ∷ after
-          → IsChainPart (links pages needed start first) after s (record { reads = later; marks = also (n ∷ []) t.marks })
+      asked : (after : List Finding) (later : ℕ) → later ≤ t.reads + 1 → t.marks n ≡ false → chain_findings pages (suc left) holder n ≡ place n ∷ after
+          → IsChainPart (chain_findings pages needed start first) after s (record { reads = later; marks = also (n ∷ []) t.marks })
       asked after later one fresh is =
           let few = at.part.few in
           let met = places_both at.part.found (place n ∷ []) in
@@ -100,20 +100,20 @@ module _ (pages : Pages) (needed start first : ℕ) (local : List ℕ) (s : Met)
       chain_next u one fresh marks accepted =
           let named : (n == 0) ≡ false = differ n 0 on in
           record {
-            part = subst (λ m. IsChainPart (links pages needed start first) (links pages left n (u32_at (pages.page n) 0)) s (record { reads = u.reads; marks = m })) (sym marks)
-                (asked (links pages left n (u32_at (pages.page n) 0)) u.reads one fresh (rw (named, range, accepted) refl));
+            part = subst (λ m. IsChainPart (chain_findings pages needed start first) (chain_findings pages left n (u32_at (pages.page n) 0)) s (record { reads = u.reads; marks = m })) (sym marks)
+                (asked (chain_findings pages left n (u32_at (pages.page n) 0)) u.reads one fresh (rw (named, range, accepted) refl));
             bytes = at.bytes ∙ sym (append_assoc got (drop 4 (pages.page n)) (chain_bytes pages left (u32_at (pages.page n) 0)));
           }
 
       -- it was not loaded
       pub chain_refused : {R : Type 0} (refuses : Pages → ℕ → R → Type 0) (u : Met) → u.reads ≤ t.reads + 1 → (error : WalkError R) → IsNotLoaded refuses pages n t u.reads error → is_page pages n ≡ true
-          → IsChainStopped refuses pages (links pages needed start first) s u error
+          → IsChainStopped refuses pages (chain_findings pages needed start first) s u error
       unfolding asked
       chain_refused refuses u one (Found defect) why page =
           let few = at.part.few in
           let same = why.2 in
           record {
-            more = links pages (suc left) holder n;
+            more = chain_findings pages (suc left) holder n;
             met = t.marks;
             part = record {
               found = at.part.found;
@@ -156,7 +156,7 @@ module _ (pages : Pages) (needed start first : ℕ) (local : List ℕ) (s : Met)
           }
 
 -- a payload, of which this many pages are missing
-module _ (pages : Pages) (n : ℕ) (stored : Stored) (needed : ℕ) (count : links_needed pages.usable stored ≡ needed) where
+module _ (pages : Pages) (n : ℕ) (stored : StoredCell) (needed : ℕ) (count : links_needed pages.usable stored ≡ needed) where
   pub payload_local : (s : Met) → needed ≡ 0 → IsChainRead (links_of pages n stored) (payload_of pages stored) (take stored.size stored.local) s s
   payload_local s none =
       let named : (links_needed pages.usable stored == 0) ≡ true = eq-eqb _ 0 (count ∙ none) in
@@ -182,13 +182,13 @@ module _ (pages : Pages) (n : ℕ) (stored : Stored) (needed : ℕ) (count : lin
         }
 
     module _ (begun : stored.first ≡ 0 → ⊥) where
-      links_are : links_of pages n stored ≡ links pages needed n stored.first
+      links_are : links_of pages n stored ≡ chain_findings pages needed n stored.first
       links_are =
           let named : (stored.first == 0) ≡ false = differ stored.first 0 begun in
-          let last : links_of pages n stored ≡ links pages (links_needed pages.usable stored) n stored.first = rw (needs_some, named) refl in
-          last ∙ ap (λ k. links pages k n stored.first) count
+          let last : links_of pages n stored ≡ chain_findings pages (links_needed pages.usable stored) n stored.first = rw (needs_some, named) refl in
+          last ∙ ap (λ k. chain_findings pages k n stored.first) count
 
-      pub payload_read : (got : List ℕ) (s t : Met) → IsChainRead (links pages needed n stored.first) (stored.local ++ chain_bytes pages needed stored.first) got s t
+      pub payload_read : (got : List ℕ) (s t : Met) → IsChainRead (chain_findings pages needed n stored.first) (stored.local ++ chain_bytes pages needed stored.first) got s t
           → IsChainRead (links_of pages n stored) (payload_of pages stored) (take stored.size got) s t
       payload_read got s t is =
           record {
@@ -197,5 +197,5 @@ module _ (pages : Pages) (n : ℕ) (stored : Stored) (needed : ℕ) (count : lin
           }
 
       pub payload_cut : {R : Type 0} (refuses : Pages → ℕ → R → Type 0) (s t : Met) (error : WalkError R)
-          → IsChainStopped refuses pages (links pages needed n stored.first) s t error → IsChainStopped refuses pages (links_of pages n stored) s t error
+          → IsChainStopped refuses pages (chain_findings pages needed n stored.first) s t error → IsChainStopped refuses pages (links_of pages n stored) s t error
       payload_cut refuses s t error is = subst (λ l. IsChainStopped refuses pages l s t error) (sym links_are) is

@@ -11,9 +11,9 @@ use Rattle.btree_walk.specs.declared.error.WalkError.TheVariants.{Defect, Source
 use Rattle.row_text.specs.Out.{Moves, MovesPart}
 use Rattle.row_text.proofs.Moving.{cut, restated, restated_part, then as moves_on, then_part as moves_part}
 use Rattle.rowid_find.specs.Causes.{after_flush}
-use Rattle.rowid_find.specs.Lines.{count_line, found_report, rows_text}
+use Rattle.rowid_find.specs.Lines.{count_line, found_report, found_rows_text}
 use Rattle.rowid_find.specs.Once.{are_new, once}
-use Rattle.rowid_find.specs.Search.{State, IsAllFound, IsCause, IsCutOff, IsFound, IsLost, IsNextStop, IsSoFar, IsStopped, with_marks}
+use Rattle.rowid_find.specs.Search.{State, IsAllFound, IsSearchCause, IsCutOff, AreRowsFound, IsLost, IsNextStop, IsSoFar, IsSearchStopped, with_marks}
 use Rattle.rowid_find.proofs.OnceLemmas.{once_split}
 use Rattle.rowid_find.proofs.SearchSteps.{places_both}
 
@@ -39,7 +39,7 @@ module _ (tells : Bool) (all : List Finding) (s : State) (empty : s.waits ≡ []
         last = [];
         ends = inl refl;
         text = λ told.
-            subst (λ w. MovesPart (rows_text (entries at.found) ++ []) s.taken w t.taken) empty (cut [] (at.moves told));
+            subst (λ w. MovesPart (found_rows_text (entries at.found) ++ []) s.taken w t.taken) empty (cut [] (at.moves told));
         few = at.few;
       }
 
@@ -50,11 +50,11 @@ module _ (tells : Bool) (all : List Finding) (s : State) (empty : s.waits ≡ []
     whole : once s.marks all ≡ found ++ more
     sound : is_sound found ≡ true
     cause : IsNextStop refuses pages found more error
-    moves : IsTrue tells → Moves (rows_text (entries found)) s.taken s.waits t.taken t.waits
+    moves : IsTrue tells → Moves (found_rows_text (entries found)) s.taken s.waits t.taken t.waits
     few : t.reads ≤ s.reads + length (places found)
 
   cut_from : {R : Type 0} (refuses : Pages → ℕ → R → Type 0) (pages : Pages) (t : State) (error : WalkError R) (more : List Finding) (met : Test)
-      (part : IsSoFar tells all more s (with_marks met t)) → IsCause refuses pages met part.found more error → IsCutBy refuses pages t error
+      (part : IsSoFar tells all more s (with_marks met t)) → IsSearchCause refuses pages met part.found more error → IsCutBy refuses pages t error
   cut_from refuses pages t (Defect d) more met part (inl cause) =
       let after : Test = also (places part.found) s.marks in
       record {
@@ -82,7 +82,7 @@ module _ (tells : Bool) (all : List Finding) (s : State) (empty : s.waits ≡ []
         whole = behind part.found more part.whole part.fresh ∙ ap (λ l. part.found ++ l) ends ∙ sym (append_assoc part.found (place n ∷ []) (fault d ∷ []));
         sound = sound_both part.found (place n ∷ []) part.sound refl;
         cause = ([], refl);
-        moves = λ told. restated (ap rows_text (sym rows)) (part.moves told);
+        moves = λ told. restated (ap found_rows_text (sym rows)) (part.moves told);
         few = omega (arith, few, met_all);
       }
   cut_from refuses pages t (Source refusal) more met part cause =
@@ -114,15 +114,15 @@ module _ (tells : Bool) (all : List Finding) (s : State) (empty : s.waits ≡ []
         few = part.few;
       }
 
-  cut_by : {R : Type 0} (refuses : Pages → ℕ → R → Type 0) (pages : Pages) (t : State) (error : WalkError R) → IsStopped refuses pages tells all s t error
+  cut_by : {R : Type 0} (refuses : Pages → ℕ → R → Type 0) (pages : Pages) (t : State) (error : WalkError R) → IsSearchStopped refuses pages tells all s t error
       → IsCutBy refuses pages t error
   cut_by refuses pages t error at = cut_from refuses pages t error at.more at.met at.part at.cause
 
   -- and what waited was put, or not
   pub stop_flushed : {R : Type 0} (refuses : Pages → ℕ → R → Type 0) (pages : Pages) (t : State) (error : WalkError R) (flushed : Result Unit Failed) (after left : List ℕ)
-      → IsStopped refuses pages tells all s t error → OnOk flushed (left ≡ []) → OnOk flushed (IsTrue tells → Moves [] t.taken t.waits after left)
+      → IsSearchStopped refuses pages tells all s t error → OnOk flushed (left ≡ []) → OnOk flushed (IsTrue tells → Moves [] t.taken t.waits after left)
       → OnErr flushed (IsTrue tells → MovesPart [] t.taken t.waits after)
-      → IsFound refuses pages tells (once s.marks all) s.taken after s.reads t.reads (Err (after_flush flushed error))
+      → AreRowsFound refuses pages tells (once s.marks all) s.taken after s.reads t.reads (Err (after_flush flushed error))
   stop_flushed refuses pages t error (Ok done) after left stopped none moved part =
       let at = cut_by refuses pages t error stopped in
       record {
@@ -132,10 +132,10 @@ module _ (tells : Bool) (all : List Finding) (s : State) (empty : s.waits ≡ []
         sound = at.sound;
         cause = at.cause;
         text = λ told.
-            all_put (rows_text (entries at.found)) s.taken after
-            (subst (λ w. Moves (rows_text (entries at.found)) s.taken w after []) empty
-            (subst (λ l. Moves (rows_text (entries at.found)) s.taken s.waits after l) none
-            (restated (append-nil (rows_text (entries at.found))) (moves_on (at.moves told) (moved told)))));
+            all_put (found_rows_text (entries at.found)) s.taken after
+            (subst (λ w. Moves (found_rows_text (entries at.found)) s.taken w after []) empty
+            (subst (λ l. Moves (found_rows_text (entries at.found)) s.taken s.waits after l) none
+            (restated (append-nil (found_rows_text (entries at.found))) (moves_on (at.moves told) (moved told)))));
         few = at.few;
       }
   stop_flushed refuses pages t error (Err failed) after left stopped none moved part =
@@ -148,7 +148,7 @@ module _ (tells : Bool) (all : List Finding) (s : State) (empty : s.waits ≡ []
         last = [];
         ends = inl refl;
         text = λ told.
-            subst (λ w. MovesPart (rows_text (entries at.found) ++ []) s.taken w after) empty (moves_part (at.moves told) (part told));
+            subst (λ w. MovesPart (found_rows_text (entries at.found) ++ []) s.taken w after) empty (moves_part (at.moves told) (part told));
         few = at.few;
       }
 
@@ -164,7 +164,7 @@ module _ (tells : Bool) (all : List Finding) (s : State) (empty : s.waits ≡ []
         → Moves (found_report (entries at.found)) s.taken [] after left
     counted_text told after left moved =
         subst (λ w. Moves (found_report (entries at.found)) s.taken w after left) empty
-        (restated (ap (λ k. rows_text (entries at.found) ++ count_line k) count_is) (moves_on (at.moves told) moved))
+        (restated (ap (λ k. found_rows_text (entries at.found) ++ count_line k) count_is) (moves_on (at.moves told) moved))
 
     -- or a part of it
     pub count_lost : (after : List ℕ) → (IsTrue tells → MovesPart (count_line t.rows) t.taken t.waits after) → IsCutOff tells (once s.marks all) s.taken after s.reads t.reads
@@ -178,7 +178,7 @@ module _ (tells : Bool) (all : List Finding) (s : State) (empty : s.waits ≡ []
           ends = inr (refl, refl);
           text = λ told.
               subst (λ w. MovesPart (found_report (entries at.found)) s.taken w after) empty
-              (restated_part (ap (λ k. rows_text (entries at.found) ++ count_line k) count_is) (moves_part (at.moves told) (part told)));
+              (restated_part (ap (λ k. found_rows_text (entries at.found) ++ count_line k) count_is) (moves_part (at.moves told) (part told)));
           few = at.few;
         }
 

@@ -5,7 +5,7 @@ use Rattle.db_format.specs.declared.defect.Defect.TheVariants.{ChildOutOfRange, 
 use Rattle.db_format.specs.Pages.{Pages, also, is_page}
 use Rattle.btree_page.specs.declared.kind.Family.TheVariants.{Table}
 use Rattle.btree_page.specs.declared.page.PageFault.{PageFault}
-use Rattle.btree_page.specs.Cell.{Stored}
+use Rattle.btree_page.specs.Cell.{StoredCell}
 use Rattle.btree_page.specs.Page.{Node, read_node}
 use Rattle.btree_page.specs.Step.{Step, child, entry as cell}
 use Rattle.btree_model.specs.Finding.{Finding, place, fault, refused}
@@ -14,7 +14,7 @@ use Rattle.btree_model.specs.Walk.{page_defect}
 use Rattle.btree_walk.specs.declared.error.WalkError.{WalkError}
 use Rattle.btree_walk.specs.declared.error.WalkError.TheVariants.{Defect as Found, Source, OutOfMemory}
 use Rattle.rowid_find.specs.Reach.{all_steps, page_steps, reach, row_of_cell}
-use Rattle.rowid_find.specs.Search.{Met, State, IsNotLoaded, IsSoFar, IsStopped}
+use Rattle.rowid_find.specs.Search.{Met, State, IsNotLoaded, IsSoFar, IsSearchStopped}
 use Rattle.rowid_find.specs.Wanted.{wanted}
 use Rattle.rowid_find.proofs.OnceLemmas.{also_none, one_new}
 use Rattle.rowid_find.proofs.RowSteps.{met_of, with_met}
@@ -31,7 +31,7 @@ begun pages low high n (suc left) some = let less : suc left - 1 ≡ left = omeg
 module _ (pages : Pages) (low high : ℤ) (tells : Bool) (s : State) (n : ℕ) where
   -- a path that is too long
   pub too_deep : {R : Type 0} (refuses : Pages → ℕ → R → Type 0) (left : ℕ) → left ≡ 0
-      → IsStopped refuses pages tells (reach pages low high left n) s s (Found (TooDeep n))
+      → IsSearchStopped refuses pages tells (reach pages low high left n) s s (Found (TooDeep n))
   unfolding reach
   too_deep refuses zero none = stopped_at refuses pages (TooDeep n) [] (at_start tells (fault (TooDeep n) ∷ []) s)
   too_deep refuses (suc left) none = absurd (omega (arith, none))
@@ -50,7 +50,7 @@ module _ (pages : Pages) (low high : ℤ) (tells : Bool) (s : State) (n : ℕ) w
 
     -- the source did not give it, or it was met before
     pub page_refused : {R : Type 0} (refuses : Pages → ℕ → R → Type 0) (error : WalkError R) → IsNotLoaded refuses pages n (met_of s) now.reads error → is_page pages n ≡ true
-        → IsStopped refuses pages tells (reach pages low high left n) s (with_met s now) error
+        → IsSearchStopped refuses pages tells (reach pages low high left n) s (with_met s now) error
     unfolding passed
     page_refused refuses (Found defect) why page =
         let same = why.2 in
@@ -100,7 +100,7 @@ module _ (pages : Pages) (low high : ℤ) (tells : Bool) (s : State) (n : ℕ) w
 
       -- it is no page of a table
       pub page_faulty : {R : Type 0} (refuses : Pages → ℕ → R → Type 0) (why : PageFault) → read_node Table n (pages.page n) ≡ Err why
-          → IsStopped refuses pages tells (reach pages low high left n) s (with_met s now) (Found (page_defect n why))
+          → IsSearchStopped refuses pages tells (reach pages low high left n) s (with_met s now) (Found (page_defect n why))
       page_faulty refuses why is = stopped_at refuses pages (page_defect n why) [] (opened (Err why) is)
 
       -- it is one
@@ -116,7 +116,7 @@ next_is old new x shown same is = is ∙ ap (λ (o : Option Step). unwrap_or o x
 module _ (pages : Pages) (below : ℕ → List Finding) (n : ℕ) (tells : Bool) (all : List Finding) (s t : State) (old rest : List Step) where
   -- a child out of range
   pub at_no_child : {R : Type 0} (refuses : Pages → ℕ → R → Type 0) (c : ℕ) → IsSoFar tells all (all_steps pages below n old) s t → old ≡ child c ∷ rest
-      → is_in_range pages c ≡ false → IsStopped refuses pages tells all s t (Found (ChildOutOfRange n))
+      → is_in_range pages c ≡ false → IsSearchStopped refuses pages tells all s t (Found (ChildOutOfRange n))
   at_no_child refuses c at is range =
       stopped_at refuses pages (ChildOutOfRange n) (all_steps pages below n rest)
       (subst (λ l. IsSoFar tells all l s t)
@@ -130,6 +130,6 @@ module _ (pages : Pages) (below : ℕ → List Finding) (n : ℕ) (tells : Bool)
       (ap (all_steps pages below n) is ∙ ap (λ (b : Bool). (if b then below c else fault (ChildOutOfRange n) ∷ []) ++ all_steps pages below n rest) range) at
 
   -- a row
-  pub at_row : (rowid : Option ℤ) (stored : Stored) → IsSoFar tells all (all_steps pages below n old) s t → old ≡ cell rowid stored ∷ rest
+  pub at_row : (rowid : Option ℤ) (stored : StoredCell) → IsSoFar tells all (all_steps pages below n old) s t → old ≡ cell rowid stored ∷ rest
       → IsSoFar tells all (row_of_cell pages n rowid stored ++ all_steps pages below n rest) s t
   at_row rowid stored at is = subst (λ l. IsSoFar tells all l s t) (ap (all_steps pages below n) is) at

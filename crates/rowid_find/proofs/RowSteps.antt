@@ -6,7 +6,7 @@ use Rattle.db_format.specs.declared.defect.Defect.TheVariants.{RecordFault}
 use Rattle.db_format.specs.Pages.{Pages}
 use Rattle.db_format.specs.Record.{columns}
 use Rattle.db_format.specs.Value.{Datum}
-use Rattle.btree_page.specs.Cell.{Stored}
+use Rattle.btree_page.specs.Cell.{StoredCell}
 use Rattle.btree_model.specs.Finding.{Row, Finding, entry, is_sound}
 use Rattle.btree_model.specs.Walk.{payload_of}
 use Rattle.btree_walk.specs.declared.error.WalkError.{WalkError}
@@ -14,9 +14,9 @@ use Rattle.btree_walk.specs.declared.error.WalkError.TheVariants.{Defect as Foun
 use Rattle.row_text.specs.Lines.{entry_line}
 use Rattle.row_text.specs.Out.{Moves, MovesPart}
 use Rattle.row_text.proofs.Moving.{restated, restated_part}
-use Rattle.rowid_find.specs.Lines.{rows_text}
+use Rattle.rowid_find.specs.Lines.{found_rows_text}
 use Rattle.rowid_find.specs.Reach.{links_of, row_at, row_found, row_of_cell}
-use Rattle.rowid_find.specs.Search.{Met, State, IsChainRead, IsChainStopped, IsLost, IsSoFar, IsStopped}
+use Rattle.rowid_find.specs.Search.{Met, State, IsChainRead, IsChainStopped, IsLost, IsSoFar, IsSearchStopped}
 use Rattle.rowid_find.proofs.OnceLemmas.{also_none}
 use Rattle.rowid_find.proofs.SearchSteps.{cause_later, passed, stopped_at, goes_on, then_lost}
 
@@ -27,7 +27,7 @@ with_met s now = record { taken = s.taken; waits = s.waits; rows = s.rows; reads
 abbrev pub met_of : State → Met
 met_of s = record { reads = s.reads; marks = s.marks }
 
-module _ (pages : Pages) (n : ℕ) (rowid : Option ℤ) (stored : Stored) (tells : Bool) (s : State) (now : Met) where
+module _ (pages : Pages) (n : ℕ) (rowid : Option ℤ) (stored : StoredCell) (tells : Bool) (s : State) (now : Met) where
   abbrev row : Row
   row = row_at pages n rowid stored
 
@@ -36,7 +36,7 @@ module _ (pages : Pages) (n : ℕ) (rowid : Option ℤ) (stored : Stored) (tells
 
   -- it stopped in the overflow pages
   pub links_stopped : {R : Type 0} (refuses : Pages → ℕ → R → Type 0) (error : WalkError R) → IsChainStopped refuses pages (links_of pages n stored) (met_of s) now error
-      → IsStopped refuses pages tells (row_of_cell pages n rowid stored) s (with_met s now) error
+      → IsSearchStopped refuses pages tells (row_of_cell pages n rowid stored) s (with_met s now) error
   unfolding passed
   links_stopped refuses error at =
       let later : List Finding = after_links (is_sound (links_of pages n stored)) in
@@ -61,14 +61,14 @@ module _ (pages : Pages) (n : ℕ) (rowid : Option ℤ) (stored : Stored) (tells
         at.part.sound at.part.rowless at.part.few now.marks at.part.fresh at.part.marks
 
     pub no_record : {R : Type 0} (refuses : Pages → ℕ → R → Type 0) → columns got ≡ None
-        → IsStopped refuses pages tells (row_of_cell pages n rowid stored) s (with_met s now) (Found (RecordFault n))
+        → IsSearchStopped refuses pages tells (row_of_cell pages n rowid stored) s (with_met s now) (Found (RecordFault n))
     no_record refuses none =
         stopped_at refuses pages (RecordFault n) []
         (subst (λ (o : Option (List Datum)). IsSoFar tells (row_of_cell pages n rowid stored) (row_found row o) s (with_met s now)) none links_read)
 
     module _ (values : List Datum) (is : columns got ≡ Some values) where
       -- the line of the row
-      line_is : entry_line rowid values ≡ rows_text (row ∷ [])
+      line_is : entry_line rowid values ≡ found_rows_text (row ∷ [])
       line_is =
           let read : columns (payload_of pages stored) ≡ Some values = ap columns (sym at.bytes) ∙ is in
           sym (append-nil (entry_line rowid (unwrap_or (columns (payload_of pages stored)) []))

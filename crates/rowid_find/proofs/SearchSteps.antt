@@ -18,14 +18,14 @@ use Rattle.btree_walk.proofs.CauseLemmas.{given_later}
 use Rattle.rowid_find.specs.declared.error.FindError.{FindError}
 use Rattle.rowid_find.specs.declared.error.FindError.TheVariants.{Walk, OutputFault}
 use Rattle.rowid_find.specs.Causes.{IfWalk}
-use Rattle.rowid_find.specs.Lines.{rows_text}
+use Rattle.rowid_find.specs.Lines.{found_rows_text}
 use Rattle.rowid_find.specs.Once.{are_new}
-use Rattle.rowid_find.specs.Search.{State, IsCause, IsLost, IsSearched, IsSoFar, IsStopped}
+use Rattle.rowid_find.specs.Search.{State, IsSearchCause, IsLost, IsSearched, IsSoFar, IsSearchStopped}
 use Rattle.rowid_find.proofs.OnceLemmas.{also_none, marks_both, new_both}
 
 -- the lines of the rows among these findings, then those among those
-pub text_both : (xs ys : List Finding) → rows_text (entries xs) ++ rows_text (entries ys) ≡ rows_text (entries (xs ++ ys))
-text_both xs ys = sym (flat_map-append row_text (entries xs) (entries ys)) ∙ ap rows_text (sym (entries-append xs ys))
+pub text_both : (xs ys : List Finding) → found_rows_text (entries xs) ++ found_rows_text (entries ys) ≡ found_rows_text (entries (xs ++ ys))
+text_both xs ys = sym (flat_map-append row_text (entries xs) (entries ys)) ∙ ap found_rows_text (sym (entries-append xs ys))
 
 pub rows_both : (xs ys : List Finding) → length (entries (xs ++ ys)) ≡ length (entries xs) + length (entries ys)
 rows_both xs ys = ap length (entries-append xs ys) ∙ length-append (entries xs) (entries ys)
@@ -75,7 +75,7 @@ goes_on {tells} {all} {s} {t} {u} piece later more a b =
 
 -- the cause is the same where more was met before it, and more is left after it
 pub cause_later : {R : Type 0} (refuses : Pages → ℕ → R → Type 0) (pages : Pages) (met : Test) (before found later more : List Finding) (error : WalkError R)
-    → IsCause refuses pages met found later error → IsCause refuses pages met (before ++ found) (later ++ more) error
+    → IsSearchCause refuses pages met found later error → IsSearchCause refuses pages met (before ++ found) (later ++ more) error
 cause_later refuses pages met before found later more (Found defect) (inl cause) = inl (cause.0 ++ more, ap (λ l. l ++ more) cause.1)
 cause_later refuses pages met before found later more (Found defect) (inr cause) =
     inr (record {
@@ -98,7 +98,7 @@ cause_later refuses pages met before found later more OutOfMemory cause = tt
 
 -- it stopped in that piece
 pub then_stopped : {R : Type 0} {refuses : Pages → ℕ → R → Type 0} {pages : Pages} {tells : Bool} {all : List Finding} {s t u : State} {error : WalkError R} (piece more : List Finding)
-    → IsSoFar tells all (piece ++ more) s t → IsStopped refuses pages tells piece t u error → IsStopped refuses pages tells all s u error
+    → IsSoFar tells all (piece ++ more) s t → IsSearchStopped refuses pages tells piece t u error → IsSearchStopped refuses pages tells all s u error
 unfolding goes_on
 then_stopped {R} {refuses} {pages} {tells} {all} {s} {t} {u} {error} piece more a b =
     record {
@@ -127,12 +127,12 @@ then_lost {tells} {all} {s} {t} {u} piece more a b =
 
 -- a defect comes next
 pub stopped_at : {R : Type 0} (refuses : Pages → ℕ → R → Type 0) (pages : Pages) {tells : Bool} {all : List Finding} {s t : State} (defect : Defect) (later : List Finding)
-    → IsSoFar tells all (fault defect ∷ later) s t → IsStopped refuses pages tells all s t (Found defect)
+    → IsSoFar tells all (fault defect ∷ later) s t → IsSearchStopped refuses pages tells all s t (Found defect)
 stopped_at refuses pages {tells} {all} {s} {t} defect later a = record { more = fault defect ∷ later; met = t.marks; part = a; cause = inl (later, refl) }
 
 -- there was no memory
 pub stopped_short : {R : Type 0} (refuses : Pages → ℕ → R → Type 0) (pages : Pages) {tells : Bool} {all more : List Finding} {s t : State}
-    → IsSoFar tells all more s t → IsStopped refuses pages tells all s t OutOfMemory
+    → IsSoFar tells all more s t → IsSearchStopped refuses pages tells all s t OutOfMemory
 stopped_short refuses pages {tells} {all} {more} {s} {t} a = record { more = more; met = t.marks; part = a; cause = tt }
 
 -- pages alone were met, so many were read, and the text is as it was
@@ -145,7 +145,7 @@ passed {tells} {all} {more} {s} found reads whole sound rowless few marks fresh 
       found = found;
       whole = whole;
       sound = sound;
-      moves = λ told. restated (sym (ap rows_text rowless)) (waits s.taken (sym (append-nil s.waits)));
+      moves = λ told. restated (sym (ap found_rows_text rowless)) (waits s.taken (sym (append-nil s.waits)));
       count = omega (arith, none);
       few = few;
       fresh = fresh;

@@ -15,7 +15,7 @@ use Rattle.db_format.specs.Record.{columns}
 use Rattle.db_format.specs.Value.{Datum}
 use Rattle.btree_page.specs.declared.kind.Family.TheVariants.{Table}
 use Rattle.btree_page.specs.declared.page.PageFault.{PageFault}
-use Rattle.btree_page.specs.Cell.{Cell, Stored, table_leaf, table_interior, index_leaf, index_interior}
+use Rattle.btree_page.specs.Cell.{Cell, StoredCell, table_leaf, table_interior, index_leaf, index_interior}
 use Rattle.btree_page.specs.Page.{Node, read_node}
 use Rattle.btree_page.specs.Step.{Step, child, divider, entry as cell, steps}
 use Rattle.btree_model.specs.Finding.{Row, Finding, place, leaf, entry, key, fault, refused, keys, places, entries, is_sound}
@@ -29,7 +29,7 @@ use Rattle.btree_model.proofs.UnmarkedLemmas.{and_left, and_right, sound_left, s
 use Rattle.rowid_find.proofs.OnceLemmas.{one_if, proper_times, times, times_both}
 use Rattle.rowid_find.proofs.TablePages.{table_page}
 use Rattle.rowid_find.specs.Found.{is_row_between, rows_between}
-use Rattle.rowid_find.specs.Reach.{all_steps, links, links_of, one_step, page_steps, reach, row_at, row_found, row_of_cell}
+use Rattle.rowid_find.specs.Reach.{all_steps, chain_findings, links_of, one_step, page_steps, reach, row_at, row_found, row_of_cell}
 use Rattle.rowid_find.specs.TablePage.{IsTablePage, are_keys, are_rows}
 use Rattle.rowid_find.specs.Wanted.{children_to, is_between, wanted}
 
@@ -165,22 +165,22 @@ none_there = record { walked = no_findings; met = no_findings; same = refl }
 
 module _ (pages : Pages) where
   chain_bare : (met : List Finding) (more holder n : ℕ) → is_sound (chain pages nothing met more holder n) ≡ true
-      → AreBare (chain pages nothing met more holder n) (links pages more holder n)
+      → AreBare (chain pages nothing met more holder n) (chain_findings pages more holder n)
   chain_bare met zero holder n sound = only_if (n == 0) (ChainLong holder) [] [] sound (λ s. none_there)
   chain_bare met (suc more) holder n sound =
       unless (n == 0) (ChainShort holder) _ _ sound (λ s.
       only_if (is_in_range pages n) (ChildOutOfRange holder) _ _ s (λ t.
       link_bare n (is_met nothing met n) (pages.accepts n) _ _ t (chain_bare (met ++ place n ∷ []) more n (u32_at (pages.page n) 0))))
 
-  needs : (met : List Finding) (n : ℕ) (stored : Stored) (b : Bool)
+  needs : (met : List Finding) (n : ℕ) (stored : StoredCell) (b : Bool)
       → is_sound (if b then [] else (if stored.first == 0 then fault (ChildOutOfRange n) ∷ [] else chain pages nothing met (links_needed pages.usable stored) n stored.first)) ≡ true
       → AreBare (if b then [] else (if stored.first == 0 then fault (ChildOutOfRange n) ∷ [] else chain pages nothing met (links_needed pages.usable stored) n stored.first))
-      (if b then [] else (if stored.first == 0 then fault (ChildOutOfRange n) ∷ [] else links pages (links_needed pages.usable stored) n stored.first))
+      (if b then [] else (if stored.first == 0 then fault (ChildOutOfRange n) ∷ [] else chain_findings pages (links_needed pages.usable stored) n stored.first))
   needs met n stored true sound = none_there
   needs met n stored false sound =
       unless (stored.first == 0) (ChildOutOfRange n) _ _ sound (chain_bare met (links_needed pages.usable stored) n stored.first)
 
-  chain_of_bare : (met : List Finding) (n : ℕ) (stored : Stored) → is_sound (chain_of pages nothing met n stored) ≡ true
+  chain_of_bare : (met : List Finding) (n : ℕ) (stored : StoredCell) → is_sound (chain_of pages nothing met n stored) ≡ true
       → AreBare (chain_of pages nothing met n stored) (links_of pages n stored)
   chain_of_bare met n stored = needs met n stored (links_needed pages.usable stored == 0)
 
@@ -236,7 +236,7 @@ module _ (low high : ℤ) where
 
   module _ (pages : Pages) where
     -- a row of the walk, as it is met where it is in the range
-    row_same : (met : List Finding) (n : ℕ) (r : ℤ) (stored : Stored) → IsGood met (given pages nothing met n (Some r) stored)
+    row_same : (met : List Finding) (n : ℕ) (r : ℤ) (stored : StoredCell) → IsGood met (given pages nothing met n (Some r) stored)
         → (is_sound (row_of_cell pages n (Some r) stored) ≡ true) × (entries (row_of_cell pages n (Some r) stored) ≡ row_at pages n (Some r) stored ∷ [])
         × (entries (given pages nothing met n (Some r) stored) ≡ row_at pages n (Some r) stored ∷ [])
         × ((k : ℕ) → times k (places (row_of_cell pages n (Some r) stored)) ≤ times k (places (given pages nothing met n (Some r) stored)))
@@ -270,12 +270,12 @@ module _ (low high : ℤ) where
     -- ---- a leaf
 
     -- a row that is wanted or not
-    row_or_none : (below : ℕ → List Finding) (n : ℕ) (r : ℤ) (stored : Stored) (rest : List Step) (b : Bool)
+    row_or_none : (below : ℕ → List Finding) (n : ℕ) (r : ℤ) (stored : StoredCell) (rest : List Step) (b : Bool)
         → all_steps pages below n (if b then cell (Some r) stored ∷ rest else rest) ≡ (if b then row_of_cell pages n (Some r) stored else []) ++ all_steps pages below n rest
     row_or_none below n r stored rest true = refl
     row_or_none below n r stored rest false = refl
 
-    row_if : (met : List Finding) (n : ℕ) (r : ℤ) (stored : Stored) (b : Bool) → is_between low high r ≡ b → IsGood met (given pages nothing met n (Some r) stored)
+    row_if : (met : List Finding) (n : ℕ) (r : ℤ) (stored : StoredCell) (b : Bool) → is_between low high r ≡ b → IsGood met (given pages nothing met n (Some r) stored)
         → IsSame low high (if b then row_of_cell pages n (Some r) stored else []) (given pages nothing met n (Some r) stored)
     row_if met n r stored true is good =
         let same = row_same met n r stored good in

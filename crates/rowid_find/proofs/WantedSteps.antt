@@ -6,7 +6,7 @@ use mir.Syntax.{w64}
 use Rattle.std.proofs.lemmas.Int.{to_z-of_z}
 use Rattle.std.proofs.Common.{drop-cons, drop_of_length-le}
 use Rattle.std.proofs.lemmas.Option.{get_or_from_slice_get, slice_get_within}
-use Rattle.btree_page.specs.Cell.{Cell, Stored, table_leaf, table_interior, index_leaf, index_interior}
+use Rattle.btree_page.specs.Cell.{Cell, StoredCell, table_leaf, table_interior, index_leaf, index_interior}
 use Rattle.btree_page.specs.Step.{Step, child, entry}
 use Rattle.rowid_find.specs.Left.{is_child_wanted, is_row_wanted, steps_from}
 use Rattle.rowid_find.specs.Wanted.{children_to, wanted}
@@ -20,7 +20,7 @@ module _ (low high : ℤ) (cells : List Cell) (right : Option ℕ) (i : ℕ) whe
   abbrev left_from : Bool → ℕ → List Step
   left_from begun k = steps_from begun low high (drop k cells) right
 
-  leaf_by : (begun : Bool) (r : ℤ) (stored : Stored) (rest : List Cell) (b : Bool) → is_row_wanted begun low high r ≡ b
+  leaf_by : (begun : Bool) (r : ℤ) (stored : StoredCell) (rest : List Cell) (b : Bool) → is_row_wanted begun low high r ≡ b
       → steps_from begun low high (table_leaf r stored ∷ rest) right
       ≡ (if b then entry (Some r) stored ∷ steps_from begun low high rest right else steps_from begun low high rest right)
   leaf_by true r stored rest b is = ap (λ c. if c then entry (Some r) stored ∷ children_to high rest right else children_to high rest right) is
@@ -32,11 +32,11 @@ module _ (low high : ℤ) (cells : List Cell) (right : Option ℕ) (i : ℕ) whe
   key_by true left key rest b is = ap (λ c. if c then child left ∷ (if int_le high key then [] else children_to high rest right) else children_to high rest right) is
   key_by false left key rest b is = ap (λ c. if c then child left ∷ (if int_le high key then [] else children_to high rest right) else wanted low high rest right) is
 
-  pub row_given : (begun : Bool) (r : ℤ) (stored : Stored) → slice_get cells i ≡ Some (table_leaf r stored) → is_row_wanted begun low high r ≡ true
+  pub row_given : (begun : Bool) (r : ℤ) (stored : StoredCell) → slice_get cells i ≡ Some (table_leaf r stored) → is_row_wanted begun low high r ≡ true
       → left_from begun i ≡ entry (Some r) stored ∷ left_from begun (i + 1)
   row_given begun r stored is so = ap (λ l. steps_from begun low high l right) (drop_at cells i (table_leaf r stored) is) ∙ leaf_by begun r stored (drop (i + 1) cells) true so
 
-  pub row_passed : (begun : Bool) (r : ℤ) (stored : Stored) → slice_get cells i ≡ Some (table_leaf r stored) → is_row_wanted begun low high r ≡ false
+  pub row_passed : (begun : Bool) (r : ℤ) (stored : StoredCell) → slice_get cells i ≡ Some (table_leaf r stored) → is_row_wanted begun low high r ≡ false
       → left_from begun i ≡ left_from begun (i + 1)
   row_passed begun r stored is so = ap (λ l. steps_from begun low high l right) (drop_at cells i (table_leaf r stored) is) ∙ leaf_by begun r stored (drop (i + 1) cells) false so
 
@@ -48,18 +48,18 @@ module _ (low high : ℤ) (cells : List Cell) (right : Option ℕ) (i : ℕ) whe
       → left_from begun i ≡ left_from begun (i + 1)
   child_passed begun left key is so = ap (λ l. steps_from begun low high l right) (drop_at cells i (table_interior left key) is) ∙ key_by begun left key (drop (i + 1) cells) false so
 
-  index_leaf_by : (begun : Bool) (stored : Stored) (rest : List Cell) → steps_from begun low high (index_leaf stored ∷ rest) right ≡ steps_from begun low high rest right
+  index_leaf_by : (begun : Bool) (stored : StoredCell) (rest : List Cell) → steps_from begun low high (index_leaf stored ∷ rest) right ≡ steps_from begun low high rest right
   index_leaf_by true stored rest = refl
   index_leaf_by false stored rest = refl
 
-  index_interior_by : (begun : Bool) (left : ℕ) (stored : Stored) (rest : List Cell) → steps_from begun low high (index_interior left stored ∷ rest) right ≡ steps_from begun low high rest right
+  index_interior_by : (begun : Bool) (left : ℕ) (stored : StoredCell) (rest : List Cell) → steps_from begun low high (index_interior left stored ∷ rest) right ≡ steps_from begun low high rest right
   index_interior_by true left stored rest = refl
   index_interior_by false left stored rest = refl
 
-  pub entry_passed : (begun : Bool) (stored : Stored) → slice_get cells i ≡ Some (index_leaf stored) → left_from begun i ≡ left_from begun (i + 1)
+  pub entry_passed : (begun : Bool) (stored : StoredCell) → slice_get cells i ≡ Some (index_leaf stored) → left_from begun i ≡ left_from begun (i + 1)
   entry_passed begun stored is = ap (λ l. steps_from begun low high l right) (drop_at cells i (index_leaf stored) is) ∙ index_leaf_by begun stored (drop (i + 1) cells)
 
-  pub inner_passed : (begun : Bool) (left : ℕ) (stored : Stored) → slice_get cells i ≡ Some (index_interior left stored) → left_from begun i ≡ left_from begun (i + 1)
+  pub inner_passed : (begun : Bool) (left : ℕ) (stored : StoredCell) → slice_get cells i ≡ Some (index_interior left stored) → left_from begun i ≡ left_from begun (i + 1)
   inner_passed begun left stored is = ap (λ l. steps_from begun low high l right) (drop_at cells i (index_interior left stored) is) ∙ index_interior_by begun left stored (drop (i + 1) cells)
 
   -- behind the last cell

@@ -9,7 +9,7 @@ use Rattle.db_format.specs.Record.{columns}
 use Rattle.db_format.specs.Value.{Datum}
 use Rattle.btree_page.specs.declared.kind.Family.TheVariants.{Table}
 use Rattle.btree_page.specs.declared.page.PageFault.{PageFault}
-use Rattle.btree_page.specs.Cell.{Stored}
+use Rattle.btree_page.specs.Cell.{StoredCell}
 use Rattle.btree_page.specs.Page.{Node, read_node}
 use Rattle.btree_page.specs.Step.{Step, child, divider, entry as cell}
 use Rattle.btree_model.specs.Finding.{Row, Finding, place, entry, fault, refused, is_sound}
@@ -20,31 +20,31 @@ use Rattle.rowid_find.specs.Once.{once}
 use Rattle.rowid_find.specs.Wanted.{wanted}
 
 -- the chain from the number n on, which stands on page `holder` and where `more` pages are still needed
-abbrev pub links : Pages → ℕ → ℕ → ℕ → List Finding
-links pages zero holder n = if n == 0 then [] else fault (ChainLong holder) ∷ []
-links pages (suc more) holder n =
+abbrev pub chain_findings : Pages → ℕ → ℕ → ℕ → List Finding
+chain_findings pages zero holder n = if n == 0 then [] else fault (ChainLong holder) ∷ []
+chain_findings pages (suc more) holder n =
     if n == 0 then fault (ChainShort holder) ∷ []
     else (if is_in_range pages n
-    then place n ∷ (if pages.accepts n then links pages more n (u32_at (pages.page n) 0) else refused n ∷ [])
+    then place n ∷ (if pages.accepts n then chain_findings pages more n (u32_at (pages.page n) 0) else refused n ∷ [])
     else fault (ChildOutOfRange holder) ∷ [])
 
 -- the chain of a payload whose cell is on page n
-abbrev pub links_of : Pages → ℕ → Stored → List Finding
+abbrev pub links_of : Pages → ℕ → StoredCell → List Finding
 links_of pages n stored =
     if links_needed pages.usable stored == 0 then []
     else (if stored.first == 0 then fault (ChildOutOfRange n) ∷ []
-    else links pages (links_needed pages.usable stored) n stored.first)
+    else chain_findings pages (links_needed pages.usable stored) n stored.first)
 
 -- a row, where its payload is a record
 abbrev pub row_found : Row → Option (List Datum) → List Finding
 row_found row None = fault (RecordFault row.page) ∷ []
 row_found row (Some values) = entry row ∷ []
 
-abbrev pub row_at : Pages → ℕ → Option ℤ → Stored → Row
+abbrev pub row_at : Pages → ℕ → Option ℤ → StoredCell → Row
 row_at pages n rowid stored = record { rowid = rowid; payload = payload_of pages stored; page = n }
 
 -- a row of page n, where its payload is whole
-abbrev pub row_of_cell : Pages → ℕ → Option ℤ → Stored → List Finding
+abbrev pub row_of_cell : Pages → ℕ → Option ℤ → StoredCell → List Finding
 row_of_cell pages n rowid stored =
     let found = links_of pages n stored in
     found ++ (if is_sound found then row_found (row_at pages n rowid stored) (columns (payload_of pages stored)) else [])

@@ -11,9 +11,9 @@ use Rattle.btree_walk.specs.declared.error.WalkError.TheVariants.{Defect, Source
 use Rattle.row_text.specs.Out.{Moves, MovesPart}
 use Rattle.rowid_find.specs.declared.error.FindError.{FindError}
 use Rattle.rowid_find.specs.declared.error.FindError.TheVariants.{Walk, OutputFault}
-use Rattle.rowid_find.specs.Lines.{count_line, found_report, rows_text}
+use Rattle.rowid_find.specs.Lines.{count_line, found_report, found_rows_text}
 use Rattle.rowid_find.specs.Once.{are_new}
-use Rattle.rowid_find.specs.Reach.{links}
+use Rattle.rowid_find.specs.Reach.{chain_findings}
 
 -- the pages that were read, and which were met
 pub record Met : Type 0 where
@@ -52,10 +52,10 @@ pub record IsTwiceNext (met : Test) (more : List Finding) (defect : FormatDefect
   pub next : more ≡ place page ∷ later
 
 -- the cause where earlier places are not looked at, of a search that has met these pages
-abbrev pub IsCause : {R : Type 0} → (Pages → ℕ → R → Type 0) → Pages → Test → List Finding → List Finding → WalkError R → Type 0
-IsCause refuses pages met found more (Defect defect) = ((later : List Finding) × (more ≡ fault defect ∷ later)) ⊎ IsTwiceNext met more defect
-IsCause refuses pages met found more (Source refusal) = IsRefusedNext refuses pages found more refusal
-IsCause refuses pages met found more OutOfMemory = ⊤
+abbrev pub IsSearchCause : {R : Type 0} → (Pages → ℕ → R → Type 0) → Pages → Test → List Finding → List Finding → WalkError R → Type 0
+IsSearchCause refuses pages met found more (Defect defect) = ((later : List Finding) × (more ≡ fault defect ∷ later)) ⊎ IsTwiceNext met more defect
+IsSearchCause refuses pages met found more (Source refusal) = IsRefusedNext refuses pages found more refusal
+IsSearchCause refuses pages met found more OutOfMemory = ⊤
 
 -- ---- the overflow pages of one payload: what was met before and after
 
@@ -70,22 +70,22 @@ pub record IsChainPart (all more : List Finding) (s t : Met) : Type 0 where
 
 -- a chain that was read in part: it began with `needed` pages from `first` on, and `more` from n on are left
 pub record IsOnChain (pages : Pages) (needed start first more holder n : ℕ) (local got : List ℕ) (s t : Met) : Type 0 where
-  pub part : IsChainPart (links pages needed start first) (links pages more holder n) s t
+  pub part : IsChainPart (chain_findings pages needed start first) (chain_findings pages more holder n) s t
   pub bytes : local ++ chain_bytes pages needed first ≡ got ++ chain_bytes pages more n
 
 pub record IsChainStopped {R : Type 0} (refuses : Pages → ℕ → R → Type 0) (pages : Pages) (all : List Finding) (s t : Met) (error : WalkError R) : Type 0 where
   pub more : List Finding
   pub met : Test
   pub part : IsChainPart all more s (record { reads = t.reads; marks = met })
-  pub cause : IsCause refuses pages met part.found more error
+  pub cause : IsSearchCause refuses pages met part.found more error
 
 pub record IsChainRead (all : List Finding) (whole got : List ℕ) (s t : Met) : Type 0 where
   pub part : IsChainPart all [] s t
   pub bytes : got ≡ whole
 
-abbrev pub IsChained : {R : Type 0} → (Pages → ℕ → R → Type 0) → Pages → List Finding → List ℕ → List ℕ → Met → Met → Result Unit (WalkError R) → Type 0
-IsChained refuses pages all whole got s t (Ok done) = IsChainRead all whole got s t
-IsChained refuses pages all whole got s t (Err error) = IsChainStopped refuses pages all s t error
+abbrev pub IsChainLinked : {R : Type 0} → (Pages → ℕ → R → Type 0) → Pages → List Finding → List ℕ → List ℕ → Met → Met → Result Unit (WalkError R) → Type 0
+IsChainLinked refuses pages all whole got s t (Ok done) = IsChainRead all whole got s t
+IsChainLinked refuses pages all whole got s t (Err error) = IsChainStopped refuses pages all s t error
 
 -- ---- the search
 
@@ -103,7 +103,7 @@ pub record IsSoFar (tells : Bool) (all more : List Finding) (s t : State) : Type
   pub found : List Finding
   pub whole : all ≡ found ++ more
   pub sound : is_sound found ≡ true
-  pub moves : IsTrue tells → Moves (rows_text (entries found)) s.taken s.waits t.taken t.waits
+  pub moves : IsTrue tells → Moves (found_rows_text (entries found)) s.taken s.waits t.taken t.waits
   pub count : t.rows ≡ s.rows + length (entries found)
   pub few : t.reads ≤ s.reads + length (places found)
   pub fresh : are_new s.marks (places found) ≡ true
@@ -114,11 +114,11 @@ abbrev pub with_marks : Test → State → State
 with_marks met t = record { taken = t.taken; waits = t.waits; rows = t.rows; reads = t.reads; marks = met }
 
 -- it stopped there, for this cause
-pub record IsStopped {R : Type 0} (refuses : Pages → ℕ → R → Type 0) (pages : Pages) (tells : Bool) (all : List Finding) (s t : State) (error : WalkError R) : Type 0 where
+pub record IsSearchStopped {R : Type 0} (refuses : Pages → ℕ → R → Type 0) (pages : Pages) (tells : Bool) (all : List Finding) (s t : State) (error : WalkError R) : Type 0 where
   pub more : List Finding
   pub met : Test
   pub part : IsSoFar tells all more s (with_marks met t)
-  pub cause : IsCause refuses pages met part.found more error
+  pub cause : IsSearchCause refuses pages met part.found more error
 
 -- the sink failed while the rows of the first findings were put
 pub record IsLost (tells : Bool) (all : List Finding) (s t : State) : Type 0 where
@@ -126,13 +126,13 @@ pub record IsLost (tells : Bool) (all : List Finding) (s t : State) : Type 0 whe
   pub more : List Finding
   pub whole : all ≡ found ++ more
   pub sound : is_sound found ≡ true
-  pub moves : IsTrue tells → MovesPart (rows_text (entries found)) s.taken s.waits t.taken
+  pub moves : IsTrue tells → MovesPart (found_rows_text (entries found)) s.taken s.waits t.taken
   pub few : t.reads ≤ s.reads + length (places found)
   pub fresh : are_new s.marks (places found) ≡ true
 
 abbrev pub IsSearched : {R : Type 0} → (Pages → ℕ → R → Type 0) → Pages → Bool → List Finding → State → State → Result Unit (FindError R) → Type 0
 IsSearched refuses pages tells all s t (Ok done) = IsSoFar tells all [] s t
-IsSearched refuses pages tells all s t (Err (Walk error)) = IsStopped refuses pages tells all s t error
+IsSearched refuses pages tells all s t (Err (Walk error)) = IsSearchStopped refuses pages tells all s t error
 IsSearched refuses pages tells all s t (Err OutputFault) = IsLost tells all s t
 
 -- ---- the whole search
@@ -145,13 +145,13 @@ pub record IsAllFound (tells : Bool) (all : List Finding) (before after : List �
   pub few : later ≤ reads + length (places all)
 
 -- the rows before this cause were put
-pub record IsCut {R : Type 0} (refuses : Pages → ℕ → R → Type 0) (pages : Pages) (tells : Bool) (all : List Finding) (before after : List ℕ) (reads later : ℕ) (error : WalkError R) : Type 0 where
+pub record IsSearchCut {R : Type 0} (refuses : Pages → ℕ → R → Type 0) (pages : Pages) (tells : Bool) (all : List Finding) (before after : List ℕ) (reads later : ℕ) (error : WalkError R) : Type 0 where
   pub found : List Finding
   pub more : List Finding
   pub whole : all ≡ found ++ more
   pub sound : is_sound found ≡ true
   pub cause : IsNextStop refuses pages found more error
-  pub text : IsTrue tells → after ≡ before ++ rows_text (entries found)
+  pub text : IsTrue tells → after ≡ before ++ found_rows_text (entries found)
   pub few : later ≤ reads + length (places found)
 
 -- a part was put of the lines of the rows that were found by then; where those are all, the last line may be among it
@@ -162,13 +162,13 @@ pub record IsCutOff (tells : Bool) (all : List Finding) (before after : List ℕ
   pub sound : is_sound found ≡ true
   pub last : List ℕ
   pub ends : (last ≡ []) ⊎ ((more ≡ []) × (last ≡ count_line (length (entries found))))
-  pub text : IsTrue tells → MovesPart (rows_text (entries found) ++ last) before [] after
+  pub text : IsTrue tells → MovesPart (found_rows_text (entries found) ++ last) before [] after
   pub few : later ≤ reads + length (places found)
 
-abbrev pub IsFound : {R : Type 0} → (Pages → ℕ → R → Type 0) → Pages → Bool → List Finding → List ℕ → List ℕ → ℕ → ℕ → Result ℕ (FindError R) → Type 0
-IsFound refuses pages tells all before after reads later (Ok rows) = IsAllFound tells all before after reads later rows
-IsFound refuses pages tells all before after reads later (Err (Walk error)) = IsCut refuses pages tells all before after reads later error
-IsFound refuses pages tells all before after reads later (Err OutputFault) = IsCutOff tells all before after reads later
+abbrev pub AreRowsFound : {R : Type 0} → (Pages → ℕ → R → Type 0) → Pages → Bool → List Finding → List ℕ → List ℕ → ℕ → ℕ → Result ℕ (FindError R) → Type 0
+AreRowsFound refuses pages tells all before after reads later (Ok rows) = IsAllFound tells all before after reads later rows
+AreRowsFound refuses pages tells all before after reads later (Err (Walk error)) = IsSearchCut refuses pages tells all before after reads later error
+AreRowsFound refuses pages tells all before after reads later (Err OutputFault) = IsCutOff tells all before after reads later
 
 -- ---- the search of a tree without a defect
 

@@ -5,8 +5,8 @@ ghost use Rattle.db_format.specs.Source.{Rose};
 ghost use Rattle.btree_page.specs.Payload.{max_payload};
 ghost use Rattle.btree_model.specs.Walk.{chain_bytes, payload_of};
 ghost use Rattle.btree_walk.specs.Causes.{IsGivenBy, is_failure};
-ghost use Rattle.rowid_find.specs.Reach.{links, links_of};
-ghost use Rattle.rowid_find.specs.Search.{IsChained};
+ghost use Rattle.rowid_find.specs.Reach.{chain_findings, links_of};
+ghost use Rattle.rowid_find.specs.Search.{IsChainLinked};
 
 use crate::page::load_new;
 use btree_walk::{WalkError, is_in_range};
@@ -23,7 +23,7 @@ fn read_links<S: PageSource>(
     payload: &mut Vec<u8>,
 ) -> Result<(), WalkError<S::Refusal>>
     requires seen { length seen.old ≡ (S.plain source.old.source.now).count + 1 }
-    ensures on { IsTrue S.tells → IsChained S.refuses (S.plain source.old.source.now) (links (S.plain source.old.source.now) needed start first)
+    ensures on { IsTrue S.tells → IsChainLinked S.refuses (S.plain source.old.source.now) (chain_findings (S.plain source.old.source.now) needed start first)
         (payload.old.items ++ chain_bytes (S.plain source.old.source.now) needed first) payload.new.items
         (record { reads = source.old.reads; marks = marked seen.old }) (record { reads = source.new.reads; marks = marked seen.new }) result }
     ensures once { source.new.reads + open_count seen.new ≤ source.old.reads + open_count seen.old }
@@ -74,7 +74,7 @@ pub(crate) fn read_payload<S: PageSource>(
     requires size { size ≤ max_payload }
     requires seen { length seen.old ≡ (S.plain source.old.source.now).count + 1 }
     ensures limit { OnOk result (vec_len payload.new ≤ size) }
-    ensures on { IsTrue S.tells → IsChained S.refuses (S.plain source.old.source.now) (links_of (S.plain source.old.source.now) n (record { size = size; local = payload.old.items; first = first }))
+    ensures on { IsTrue S.tells → IsChainLinked S.refuses (S.plain source.old.source.now) (links_of (S.plain source.old.source.now) n (record { size = size; local = payload.old.items; first = first }))
         (payload_of (S.plain source.old.source.now) (record { size = size; local = payload.old.items; first = first })) payload.new.items
         (record { reads = source.old.reads; marks = marked seen.old }) (record { reads = source.new.reads; marks = marked seen.new }) result }
     ensures once { source.new.reads + open_count seen.new ≤ source.old.reads + open_count seen.old }

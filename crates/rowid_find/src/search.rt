@@ -8,7 +8,7 @@ ghost use Rattle.row_text.specs.Out.{Moves, MovesPart};
 ghost use Rattle.rowid_find.specs.Causes.{IfWalk, after_flush};
 ghost use Rattle.rowid_find.specs.Lines.{count_line};
 ghost use Rattle.rowid_find.specs.Reach.{reach_all, reach_range};
-ghost use Rattle.rowid_find.specs.Search.{IsFound, IsSearched, IsSoundFound};
+ghost use Rattle.rowid_find.specs.Search.{AreRowsFound, IsSearched, IsSoundFound};
 ghost use Rattle.db_format.specs.Pages.{nothing};
 ghost use Rattle.btree_model.specs.Finding.{is_sound};
 ghost use Rattle.btree_model.specs.Records.{tree_part};
@@ -43,7 +43,7 @@ where
     S::Refusal: Drop,
     requires low { 1 ≤ root }
     requires high { root ≤ (S.plain source.old.source.now).count }
-    ensures on { IsTrue S.tells → IsFound S.refuses (S.plain source.old.source.now) K.tells (reach_all (S.plain source.old.source.now) low high root)
+    ensures on { IsTrue S.tells → AreRowsFound S.refuses (S.plain source.old.source.now) K.tells (reach_all (S.plain source.old.source.now) low high root)
         (K.taken out.old) (K.taken out.new) source.old.reads source.new.reads result }
     // the rows of the range, where the tree has no defect
     ensures sound { IsTrue S.tells → is_sound (tree_part (S.plain source.old.source.now) Table nothing root) ≡ true
@@ -79,7 +79,7 @@ where
     S::Refusal: Drop,
     requires low { 1 ≤ root }
     requires high { root ≤ (S.plain source.old).count }
-    ensures on { IsTrue S.tells → (reads : ℕ) × IsFound S.refuses (S.plain source.old) K.tells (reach_all (S.plain source.old) low high root)
+    ensures on { IsTrue S.tells → (reads : ℕ) × AreRowsFound S.refuses (S.plain source.old) K.tells (reach_all (S.plain source.old) low high root)
         (K.taken out.old) (K.taken out.new) 0 reads result }
     // why it stopped
     ensures given { IfErr result (IfWalk (IsGivenBy S.only_read S.plain S.refuses source.old)) }
@@ -107,7 +107,7 @@ where
     S::Refusal: Drop,
     requires low { 1 ≤ root }
     requires high { root ≤ (S.plain source.old.source.now).count }
-    ensures on { IsTrue S.tells → IsFound S.refuses (S.plain source.old.source.now) K.tells (reach_all (S.plain source.old.source.now) low high root)
+    ensures on { IsTrue S.tells → AreRowsFound S.refuses (S.plain source.old.source.now) K.tells (reach_all (S.plain source.old.source.now) low high root)
         (K.taken out.old) (K.taken out.new) source.old.reads source.new.reads result }
     ensures once { source.new.reads ≤ source.old.reads + (S.plain source.old.source.now).count + 1 }
     ensures given { IfErr result (IfWalk (IsGivenBy S.only_read S.plain S.refuses source.old.source.now)) }

@@ -10,7 +10,7 @@ use Rattle.salvage_scan.specs.declared.error.SalvageError.TheVariants.{KeyRefuse
 use Rattle.salvage_scan.specs.declared.scan.Salvaged.{Salvaged}
 use Rattle.salvage_scan.specs.Answer.{IsKeyAnswered, IsReported, IsStop}
 use Rattle.salvage_scan.specs.Salvage.{IsNoneAccepted, counts_of, no_counts, salvage_lines}
-use Rattle.salvage_scan.specs.Scan.{IsCause, IsDiskCause, IsOutCause, IsPut, IsPutPart, State, added}
+use Rattle.salvage_scan.specs.Scan.{IsSalvageCause, IsDiskCause, IsOutCause, IsPutLine, IsPutPart, ScanState, added}
 use Rattle.salvage_scan.specs.Text.{counts_line, counts_shown, lines_text, salvage_report}
 use Rattle.salvage_scan.proofs.ScanSteps.{added_first, rose_later}
 
@@ -30,14 +30,14 @@ pub none_reported : (tells : Bool) (pages : Pages) (before : List ℕ) → IsTru
 none_reported tells pages before told = record { lost = salvage_report (salvage_lines pages); moves = waits before refl }
 
 -- from the beginning on, with nothing waiting and nothing counted
-module _ (tells : Bool) (pages : Pages) (s : State) (empty : s.waits ≡ []) (none : s.counts ≡ no_counts) where
+module _ (tells : Bool) (pages : Pages) (s : ScanState) (empty : s.waits ≡ []) (none : s.counts ≡ no_counts) where
   -- some lines were put
-  pub lines_reported : (u : State) → IsPutPart tells (salvage_lines pages) s u → IsTrue tells → MovesPart (salvage_report (salvage_lines pages)) s.taken [] u.taken
+  pub lines_reported : (u : ScanState) → IsPutPart tells (salvage_lines pages) s u → IsTrue tells → MovesPart (salvage_report (salvage_lines pages)) s.taken [] u.taken
   lines_reported u part told =
       subst (λ w. MovesPart (salvage_report (salvage_lines pages)) s.taken w u.taken) empty
       (cut (counts_line (counts_of (salvage_lines pages))) (part told))
 
-  module _ (t : State) (put : IsPut tells (salvage_lines pages) s t) where
+  module _ (t : ScanState) (put : IsPutLine tells (salvage_lines pages) s t) where
     counted : t.counts ≡ counts_of (salvage_lines pages)
     counted = put.counts ∙ ap (λ k. added k (counts_of (salvage_lines pages))) none ∙ added_first (counts_of (salvage_lines pages))
 
@@ -72,7 +72,7 @@ disk_key tag_len pages before now DiskFault is = tt
 disk_key tag_len pages before now OutputFault is = tt
 disk_key tag_len pages before now OutOfMemory is = tt
 
-pub cause_key : (tag_len : ℕ) (pages : Pages) (before now out out_now : ℕ) (error : SalvageError) → IsCause before now out out_now error → IsKeyAnswered tag_len pages (Err error)
+pub cause_key : (tag_len : ℕ) (pages : Pages) (before now out out_now : ℕ) (error : SalvageError) → IsSalvageCause before now out out_now error → IsKeyAnswered tag_len pages (Err error)
 cause_key tag_len pages before now out out_now KeyRefused is = absurd is
 cause_key tag_len pages before now out out_now DiskFault is = tt
 cause_key tag_len pages before now out out_now OutputFault is = tt
@@ -95,7 +95,7 @@ module _ (tag_len before now out out_now : ℕ) (same : Type 0) where
   disk_stop OutputFault is = absurd is
   disk_stop OutOfMemory is = tt
 
-  pub cause_stop : (middle out_middle : ℕ) (error : SalvageError) → before ≤ middle → out ≤ out_middle → IsCause middle now out_middle out_now error
+  pub cause_stop : (middle out_middle : ℕ) (error : SalvageError) → before ≤ middle → out ≤ out_middle → IsSalvageCause middle now out_middle out_now error
       → IsStop tag_len before now out out_now same error
   cause_stop middle out_middle KeyRefused less out_less is = absurd is
   cause_stop middle out_middle DiskFault less out_less is = rose_later before middle now less is

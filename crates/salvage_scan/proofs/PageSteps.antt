@@ -9,7 +9,7 @@ use Rattle.db_format.specs.Pages.{Pages, is_page}
 use Rattle.btree_page.specs.declared.page.PageFault.{PageFault}
 use Rattle.btree_page.specs.Kind.{kind_at}
 use Rattle.btree_page.specs.Page.{Node, read_page}
-use Rattle.pager.specs.Pages.{is_number}
+use Rattle.pager.specs.Pages.{is_page_number}
 use Rattle.salvage_scan.specs.Salvage.{IsNoneAccepted, cell_lines, fault_lines, is_table_leaf, leaf_lines, page_lines}
 use Rattle.salvage_scan.specs.Salvage.Line.{tag_refused}
 
@@ -46,7 +46,7 @@ no_page f count done past =
 
 -- ---- one page of a file
 
-number_is : (count n : ℕ) → 1 ≤ n → n ≤ count → is_number count n ≡ true
+number_is : (count n : ℕ) → 1 ≤ n → n ≤ count → is_page_number count n ≡ true
 number_is count n low high = search (rules, low, high)
 
 -- ---- no page of the first ones is accepted

@@ -6,7 +6,7 @@ use Rattle.page_codec.specs.Page.{FileKeys}
 use Rattle.db_format.specs.Pages.{Pages}
 use Rattle.salvage_scan.specs.declared.room.PageRoom.{PageRoom}
 use Rattle.salvage_scan.specs.declared.room.Rooms.{Rooms}
-use Rattle.salvage_scan.specs.Room.{AreRooms, IsOpened, IsRoom, bytes_at}
+use Rattle.salvage_scan.specs.Room.{AreRooms, IsRoomOpened, IsRoom, room_bytes}
 use Rattle.salvage_scan.specs.Salvage.{file_pages}
 
 -- a room without a page
@@ -19,7 +19,7 @@ pub room_stays : (tells : Bool) (keys : FileKeys) (old new : Files) (size : ℕ)
 room_stays tells keys old new size room same is =
     record {
       long = is.long;
-      holds = λ told. subst (λ (files : Files). (room.number ≡ 0) ⊎ IsOpened (file_pages keys files) room) (sym (same told)) (is.holds told);
+      holds = λ told. subst (λ (files : Files). (room.number ≡ 0) ⊎ IsRoomOpened (file_pages keys files) room) (sym (same told)) (is.holds told);
     }
 
 pub rooms_stay : (tells : Bool) (keys : FileKeys) (old new : Files) (size : ℕ) (rooms : Rooms) → (IsTrue tells → new ≡ old)
@@ -31,14 +31,14 @@ rooms_stay tells keys old new size rooms same are =
     }
 
 -- the page of a room with this number is the page of that number
-held : (pages : Pages) (room : PageRoom) (n : ℕ) → 1 ≤ n → room.number ≡ n → (room.number ≡ 0) ⊎ IsOpened pages room → IsOpened pages room
+held : (pages : Pages) (room : PageRoom) (n : ℕ) → 1 ≤ n → room.number ≡ n → (room.number ≡ 0) ⊎ IsRoomOpened pages room → IsRoomOpened pages room
 held pages room n low is (inl none) = absurd (omega (arith, low, is, none))
 held pages room n low is (inr opened) = opened
 
-pub held_accepted : (pages : Pages) (room : PageRoom) (n : ℕ) → 1 ≤ n → room.number ≡ n → (room.number ≡ 0) ⊎ IsOpened pages room → true ≡ pages.accepts n
+pub held_accepted : (pages : Pages) (room : PageRoom) (n : ℕ) → 1 ≤ n → room.number ≡ n → (room.number ≡ 0) ⊎ IsRoomOpened pages room → true ≡ pages.accepts n
 held_accepted pages room n low is holds = sym (ap pages.accepts (sym is) ∙ (held pages room n low is holds).accepted)
 
-pub held_bytes : (pages : Pages) (room : PageRoom) (n : ℕ) → 1 ≤ n → room.number ≡ n → (room.number ≡ 0) ⊎ IsOpened pages room
+pub held_bytes : (pages : Pages) (room : PageRoom) (n : ℕ) → 1 ≤ n → room.number ≡ n → (room.number ≡ 0) ⊎ IsRoomOpened pages room
     → take pages.usable room.bytes.items ≡ pages.page n
 held_bytes pages room n low is holds = (held pages room n low is holds).bytes ∙ ap pages.page is
 
@@ -48,12 +48,12 @@ long_by : (b : Bool) (even odd : PageRoom) (size : ℕ) → length even.bytes.it
 long_by true even odd size one other = one
 long_by false even odd size one other = other
 
-pub long_at : (tells : Bool) (pages : Pages) (size : ℕ) (rooms : Rooms) (n : ℕ) → AreRooms tells pages size rooms → length (bytes_at rooms n) ≡ size
+pub long_at : (tells : Bool) (pages : Pages) (size : ℕ) (rooms : Rooms) (n : ℕ) → AreRooms tells pages size rooms → length (room_bytes rooms n) ≡ size
 long_at tells pages size rooms n are = long_by (n % 2 == 0) rooms.even rooms.odd size are.even.long are.odd.long
 
 -- the bytes of the room that was opened
-pub even_bytes : (rooms : Rooms) (n : ℕ) → n % 2 == 0 ≡ true → bytes_at rooms n ≡ rooms.even.bytes.items
+pub even_bytes : (rooms : Rooms) (n : ℕ) → n % 2 == 0 ≡ true → room_bytes rooms n ≡ rooms.even.bytes.items
 even_bytes rooms n is = rw is refl
 
-pub odd_bytes : (rooms : Rooms) (n : ℕ) → n % 2 == 0 ≡ false → bytes_at rooms n ≡ rooms.odd.bytes.items
+pub odd_bytes : (rooms : Rooms) (n : ℕ) → n % 2 == 0 ≡ false → room_bytes rooms n ≡ rooms.odd.bytes.items
 odd_bytes rooms n is = rw is refl

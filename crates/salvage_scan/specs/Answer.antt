@@ -10,13 +10,13 @@ use Rattle.salvage_scan.specs.Salvage.{IsNoneAccepted, counts_of, salvage_lines}
 use Rattle.salvage_scan.specs.Text.{counts_shown, salvage_report}
 
 -- all lines were put, and the counts are theirs
-pub record IsWhole (tells : Bool) (pages : Pages) (before after : List ℕ) (counts : Salvaged) : Type 0 where
+pub record IsWholeSalvage (tells : Bool) (pages : Pages) (before after : List ℕ) (counts : Salvaged) : Type 0 where
   pub text : IsTrue tells → after ≡ before ++ salvage_report (salvage_lines pages)
   pub is : counts_shown counts ≡ counts_of (salvage_lines pages)
 
 -- the sink took the report of these pages; where it stopped, a part of it
 abbrev pub IsReported : Bool → Pages → List ℕ → List ℕ → Result Salvaged SalvageError → Type 0
-IsReported tells pages before after (Ok counts) = IsWhole tells pages before after counts
+IsReported tells pages before after (Ok counts) = IsWholeSalvage tells pages before after counts
 IsReported tells pages before after (Err error) = IsTrue tells → MovesPart (salvage_report (salvage_lines pages)) before [] after
 
 -- the key is refused where no page is accepted, and never in a profile without tags

@@ -2,7 +2,7 @@
 -- pages of a file, ascending.
 use Rattle.std.specs.Prelude.{◌≡◌, ℕ, zero, suc, ℤ, Bool, true, false, ◌&&◌, List, [], ◌∷◌, count_by, nat_le, Option, Some, None, Result, Ok, Err, if◌then◌else◌}
 use Rattle.std.specs.List.{flat_map, range_with_len}
-use Rattle.edge_model.specs.Files.{Files}
+use Rattle.edge_model.specs.Files.{Files, main_of}
 use Rattle.page_codec.specs.Page.{FileKeys}
 use Rattle.db_format.specs.Bytes.{u32_at}
 use Rattle.db_format.specs.Pages.{Pages, is_page}
@@ -12,12 +12,12 @@ use Rattle.btree_page.specs.declared.kind.Kind.{Kind}
 use Rattle.btree_page.specs.declared.kind.Kind.TheVariants.{IndexInterior, TableInterior, IndexLeaf, TableLeaf}
 use Rattle.btree_page.specs.declared.page.PageFault.{PageFault}
 use Rattle.btree_page.specs.declared.page.PageFault.TheVariants.{BadKind, BadCell}
-use Rattle.btree_page.specs.Cell.{Cell, Stored, table_leaf, table_interior, index_leaf, index_interior}
+use Rattle.btree_page.specs.Cell.{Cell, StoredCell, table_leaf, table_interior, index_leaf, index_interior}
 use Rattle.btree_page.specs.Kind.{kind_at}
 use Rattle.btree_page.specs.Page.{Node, read_page}
 use Rattle.btree_model.specs.Range.{is_in_range}
 use Rattle.btree_model.specs.Walk.{links_needed, payload_of}
-use Rattle.pager.specs.File.{main_of, whole_pages}
+use Rattle.pager.specs.File.{whole_pages}
 use Rattle.pager.specs.Pages.{opened_pages}
 
 -- the whole pages of a file by its length, each opened with these keys
@@ -50,8 +50,8 @@ is_chain pages zero n = true
 is_chain pages (suc more) n = is_in_range pages n && (pages.accepts n && is_chain pages more (u32_at (pages.page n) 0))
 
 -- the payload is whole; it needs no more overflow pages than there are pages
-abbrev pub is_whole : Pages → Stored → Bool
-is_whole pages stored =
+abbrev pub is_whole_cell : Pages → StoredCell → Bool
+is_whole_cell pages stored =
     nat_le (links_needed pages.usable stored) pages.count && is_chain pages (links_needed pages.usable stored) stored.first
 
 abbrev pub row_line : ℕ → ℤ → Option (List Datum) → Line
@@ -59,8 +59,8 @@ row_line n rowid None = lost n rowid
 row_line n rowid (Some values) = row n rowid values
 
 -- the row of page n with this rowid, where its payload is whole and a record
-abbrev pub payload_line : Pages → ℕ → ℤ → Stored → Line
-payload_line pages n rowid stored = row_line n rowid (if is_whole pages stored then columns (payload_of pages stored) else None)
+abbrev pub payload_line : Pages → ℕ → ℤ → StoredCell → Line
+payload_line pages n rowid stored = row_line n rowid (if is_whole_cell pages stored then columns (payload_of pages stored) else None)
 
 abbrev pub cell_lines : Pages → ℕ → Cell → List Line
 cell_lines pages n (table_leaf rowid stored) = payload_line pages n rowid stored ∷ []
@@ -111,19 +111,19 @@ is_lost (row n rowid values) = false
 is_lost (lost n rowid) = true
 is_lost (bad_cell n index) = false
 
-abbrev pub is_refused : Line → Bool
-is_refused (tag_refused n) = true
-is_refused (row n rowid values) = false
-is_refused (lost n rowid) = false
-is_refused (bad_cell n index) = false
+abbrev pub is_refused_line : Line → Bool
+is_refused_line (tag_refused n) = true
+is_refused_line (row n rowid values) = false
+is_refused_line (lost n rowid) = false
+is_refused_line (bad_cell n index) = false
 
-pub record Counts : Type 0 where
+pub record LineCounts : Type 0 where
   pub rows : ℕ
   pub lost_rows : ℕ
   pub refused_pages : ℕ
 
-abbrev pub counts_of : List Line → Counts
-counts_of lines = record { rows = count_by is_row lines; lost_rows = count_by is_lost lines; refused_pages = count_by is_refused lines }
+abbrev pub counts_of : List Line → LineCounts
+counts_of lines = record { rows = count_by is_row lines; lost_rows = count_by is_lost lines; refused_pages = count_by is_refused_line lines }
 
-abbrev pub no_counts : Counts
+abbrev pub no_counts : LineCounts
 no_counts = record { rows = 0; lost_rows = 0; refused_pages = 0 }

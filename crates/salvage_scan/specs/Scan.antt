@@ -4,36 +4,36 @@ use Rattle.edge_model.specs.Causes.{Rose}
 use Rattle.row_text.specs.Out.{Moves, MovesPart}
 use Rattle.salvage_scan.specs.declared.error.SalvageError.{SalvageError}
 use Rattle.salvage_scan.specs.declared.error.SalvageError.TheVariants.{KeyRefused, DiskFault, OutputFault, OutOfMemory}
-use Rattle.salvage_scan.specs.Salvage.{Counts, Line, counts_of}
+use Rattle.salvage_scan.specs.Salvage.{LineCounts, Line, counts_of}
 use Rattle.salvage_scan.specs.Text.{lines_text}
 
 -- what a salvage has done: what the sink took, what waits for it, and the counts
-pub record State : Type 0 where
+pub record ScanState : Type 0 where
   pub taken : List ℕ
   pub waits : List ℕ
-  pub counts : Counts
+  pub counts : LineCounts
 
-abbrev pub added : Counts → Counts → Counts
+abbrev pub added : LineCounts → LineCounts → LineCounts
 added a b = record { rows = a.rows + b.rows; lost_rows = a.lost_rows + b.lost_rows; refused_pages = a.refused_pages + b.refused_pages }
 
 -- these lines were put and counted. The bytes are known where the sink tells them.
-pub record IsPut (tells : Bool) (lines : List Line) (s t : State) : Type 0 where
+pub record IsPutLine (tells : Bool) (lines : List Line) (s t : ScanState) : Type 0 where
   pub moves : IsTrue tells → Moves (lines_text lines) s.taken s.waits t.taken t.waits
   pub counts : t.counts ≡ added s.counts (counts_of lines)
 
 -- a part of them was put
-abbrev pub IsPutPart : Bool → List Line → State → State → Type 0
+abbrev pub IsPutPart : Bool → List Line → ScanState → ScanState → Type 0
 IsPutPart tells lines s t = IsTrue tells → MovesPart (lines_text lines) s.taken s.waits t.taken
 
-abbrev pub IsSalvaged : Bool → List Line → State → State → Result Unit SalvageError → Type 0
-IsSalvaged tells lines s t (Ok done) = IsPut tells lines s t
+abbrev pub IsSalvaged : Bool → List Line → ScanState → ScanState → Result Unit SalvageError → Type 0
+IsSalvaged tells lines s t (Ok done) = IsPutLine tells lines s t
 IsSalvaged tells lines s t (Err error) = IsPutPart tells lines s t
 
 -- of all lines the first ones are behind, and `more` are left
-pub record IsSoFar (tells : Bool) (all more : List Line) (s t : State) : Type 0 where
+pub record IsScanSoFar (tells : Bool) (all more : List Line) (s t : ScanState) : Type 0 where
   pub behind : List Line
   pub whole : all ≡ behind ++ more
-  pub put : IsPut tells behind s t
+  pub put : IsPutLine tells behind s t
 
 -- ---- why it stops, by the counts of faults of the disk and of the sink before and after
 
@@ -51,8 +51,8 @@ IsOutCause before now DiskFault = ⊥
 IsOutCause before now OutputFault = Rose before now
 IsOutCause before now OutOfMemory = ⊤
 
-abbrev pub IsCause : ℕ → ℕ → ℕ → ℕ → SalvageError → Type 0
-IsCause before now out out_now KeyRefused = ⊥
-IsCause before now out out_now DiskFault = Rose before now
-IsCause before now out out_now OutputFault = Rose out out_now
-IsCause before now out out_now OutOfMemory = ⊤
+abbrev pub IsSalvageCause : ℕ → ℕ → ℕ → ℕ → SalvageError → Type 0
+IsSalvageCause before now out out_now KeyRefused = ⊥
+IsSalvageCause before now out out_now DiskFault = Rose before now
+IsSalvageCause before now out out_now OutputFault = Rose out out_now
+IsSalvageCause before now out out_now OutOfMemory = ⊤

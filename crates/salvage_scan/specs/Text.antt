@@ -5,7 +5,7 @@ use Rattle.std.specs.List.{flat_map}
 use Rattle.row_text.specs.Lines.{line}
 use Rattle.db_format.specs.Text.{spaced}
 use Rattle.salvage_scan.specs.declared.scan.Salvaged.{Salvaged}
-use Rattle.salvage_scan.specs.Salvage.{Counts, Line, counts_of}
+use Rattle.salvage_scan.specs.Salvage.{LineCounts, Line, counts_of}
 use Rattle.salvage_scan.specs.Salvage.Line.{tag_refused, row, lost, bad_cell}
 
 abbrev pub line_text : Line → List ℕ
@@ -14,7 +14,7 @@ line_text (row n rowid values) = line (codes "row " ++ decimal n ++ codes " " ++
 line_text (lost n rowid) = line (codes "lost " ++ decimal n ++ codes " " ++ signed_decimal rowid)
 line_text (bad_cell n index) = line (codes "page " ++ decimal n ++ codes ": bad cell " ++ decimal index)
 
-abbrev pub counts_line : Counts → List ℕ
+abbrev pub counts_line : LineCounts → List ℕ
 counts_line counts =
     line (codes "salvaged: " ++ decimal counts.rows ++ codes " rows, " ++ decimal counts.lost_rows ++ codes " lost, "
     ++ decimal counts.refused_pages ++ codes " refused pages")
@@ -26,5 +26,5 @@ abbrev pub salvage_report : List Line → List ℕ
 salvage_report lines = lines_text lines ++ counts_line (counts_of lines)
 
 -- counts in code
-abbrev pub counts_shown : Salvaged → Counts
+abbrev pub counts_shown : Salvaged → LineCounts
 counts_shown salvaged = record { rows = salvaged.rows; lost_rows = salvaged.lost; refused_pages = salvaged.refused }

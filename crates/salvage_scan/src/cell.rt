@@ -7,7 +7,7 @@ ghost use Rattle.btree_page.specs.Payload.{max_payload};
 ghost use Rattle.btree_page.specs.Shown.{cell_shown};
 ghost use Rattle.salvage_scan.specs.Room.{AreRooms};
 ghost use Rattle.salvage_scan.specs.Salvage.{cell_lines, file_pages, payload_line, row_line};
-ghost use Rattle.salvage_scan.specs.Scan.{IsCause, IsOutCause, IsSalvaged};
+ghost use Rattle.salvage_scan.specs.Scan.{IsSalvageCause, IsOutCause, IsSalvaged};
 ghost use Rattle.salvage_scan.specs.Text.{counts_shown};
 
 use crate::chain::read_payload;
@@ -36,7 +36,7 @@ pub(crate) fn put_cell<D: Disk, K: Sink>(
         (record { taken = K.taken out.new; waits = scan.new.line; counts = counts_shown scan.new.counts }) result }
     ensures rooms { AreRooms D.tells (file_pages codec.now (D.reads disk.new)) codec.now.profile.page_size scan.new.rooms }
     ensures pages { scan.new.pages ≡ scan.old.pages }
-    ensures cause { IfErr result (IsCause (D.faults disk.old) (D.faults disk.new) (K.faults out.old) (K.faults out.new)) }
+    ensures cause { IfErr result (IsSalvageCause (D.faults disk.old) (D.faults disk.new) (K.faults out.old) (K.faults out.new)) }
     ensures later { D.faults disk.old ≤ D.faults disk.new }
     ensures out_later { K.faults out.old ≤ K.faults out.new }
     ensures only_read { IsTrue D.tells → OnlyRead D.reads D.images D.moment D.since disk.old disk.new }
@@ -73,7 +73,7 @@ fn put_row_cell<D: Disk, K: Sink>(
         (record { taken = K.taken out.new; waits = scan.new.line; counts = counts_shown scan.new.counts }) result }
     ensures rooms { AreRooms D.tells (file_pages codec.now (D.reads disk.new)) codec.now.profile.page_size scan.new.rooms }
     ensures pages { scan.new.pages ≡ scan.old.pages }
-    ensures cause { IfErr result (IsCause (D.faults disk.old) (D.faults disk.new) (K.faults out.old) (K.faults out.new)) }
+    ensures cause { IfErr result (IsSalvageCause (D.faults disk.old) (D.faults disk.new) (K.faults out.old) (K.faults out.new)) }
     ensures later { D.faults disk.old ≤ D.faults disk.new }
     ensures out_later { K.faults out.old ≤ K.faults out.new }
     ensures only_read { IsTrue D.tells → OnlyRead D.reads D.images D.moment D.since disk.old disk.new }

@@ -4,7 +4,7 @@ ghost use Rattle.edge_model.specs.OnlyRead.{OnlyRead};
 ghost use Rattle.btree_page.specs.Payload.{max_payload};
 ghost use Rattle.salvage_scan.specs.Room.{AreRooms};
 ghost use Rattle.salvage_scan.specs.Salvage.{file_pages};
-ghost use Rattle.salvage_scan.specs.Chain.{IsChainRead, IsPayloadRead};
+ghost use Rattle.salvage_scan.specs.Chain.{IsChainFollowed, IsPayloadRead};
 ghost use Rattle.salvage_scan.specs.Scan.{IsDiskCause};
 
 use crate::error::SalvageError;
@@ -27,7 +27,7 @@ fn read_links<D: Disk>(
     requires rooms { AreRooms D.tells (file_pages codec.now (D.reads disk.old)) codec.now.profile.page_size rooms.old }
     requires pages { IsTrue D.tells → pages ≡ (file_pages codec.now (D.reads disk.old)).count }
     ensures on { IfOk result (λ there. IsTrue D.tells
-        → IsChainRead (file_pages codec.now (D.reads disk.old)) needed first payload.old.items there payload.new.items) }
+        → IsChainFollowed (file_pages codec.now (D.reads disk.old)) needed first payload.old.items there payload.new.items) }
     ensures rooms { AreRooms D.tells (file_pages codec.now (D.reads disk.new)) codec.now.profile.page_size rooms.new }
     ensures cause { IfErr result (IsDiskCause (D.faults disk.old) (D.faults disk.new)) }
     ensures later { D.faults disk.old ≤ D.faults disk.new }

@@ -3,7 +3,7 @@ ghost use Rattle.std.specs.Prelude.{◌≡◌, ◌≤◌, length, take, IfOk, Is
 ghost use Rattle.edge_model.specs.Causes.{HasCause};
 ghost use Rattle.edge_model.specs.OnlyRead.{OnlyRead};
 ghost use Rattle.cipher_profile.specs.Profile.{usable};
-ghost use Rattle.salvage_scan.specs.Room.{AreRooms, IsRoom, bytes_at};
+ghost use Rattle.salvage_scan.specs.Room.{AreRooms, IsRoom, room_bytes};
 ghost use Rattle.salvage_scan.specs.Salvage.{file_pages};
 
 use db_format::OutOfMemory;
@@ -115,9 +115,9 @@ impl Rooms {
         requires rooms { AreRooms D.tells (file_pages codec.now (D.reads disk.old)) codec.now.profile.page_size self.old }
         ensures accepted { IfOk result (λ accepted. IsTrue D.tells → accepted ≡ (file_pages codec.now (D.reads disk.old)).accepts n) }
         ensures opened { IfOk result (λ accepted. IsTrue D.tells → IsTrue accepted
-            → take (usable codec.now.profile) (bytes_at self.new n) ≡ (file_pages codec.now (D.reads disk.old)).page n) }
+            → take (usable codec.now.profile) (room_bytes self.new n) ≡ (file_pages codec.now (D.reads disk.old)).page n) }
         ensures rooms { AreRooms D.tells (file_pages codec.now (D.reads disk.new)) codec.now.profile.page_size self.new }
-        ensures long { length (bytes_at self.new n) ≡ codec.now.profile.page_size }
+        ensures long { length (room_bytes self.new n) ≡ codec.now.profile.page_size }
         ensures cause { HasCause (D.faults disk.old) (D.faults disk.new) result }
         ensures only_read { IsTrue D.tells → OnlyRead D.reads D.images D.moment D.since disk.old disk.new }
     {
@@ -130,8 +130,8 @@ impl Rooms {
 
     /// Page n as it was opened: its first bytes, so many.
     pub(crate) fn plain(&self, n: u32, usable: usize) -> &[u8]
-        requires { usable ≤ length (bytes_at self.now n) }
-        ensures bytes { result.now ≡ take usable (bytes_at self.now n) }
+        requires { usable ≤ length (room_bytes self.now n) }
+        ensures bytes { result.now ≡ take usable (room_bytes self.now n) }
         ensures long { length result.now ≡ usable }
     {
         if n % 2 == 0 {

@@ -3,11 +3,11 @@ ghost use Rattle.std.specs.Prelude.{◌≡◌, ◌≤◌, ◌<◌, [], false, le
 ghost use Rattle.edge_model.specs.Causes.{HasCause};
 ghost use Rattle.edge_model.specs.OnlyRead.{OnlyRead};
 ghost use Rattle.row_text.specs.Out.{Moves, MovesPart};
-ghost use Rattle.pager.specs.File.{main_of};
+ghost use Rattle.edge_model.specs.Files.{main_of};
 ghost use Rattle.salvage_scan.specs.Answer.{IsKeyAnswered, IsReported, IsStop};
 ghost use Rattle.salvage_scan.specs.Room.{AreRooms};
 ghost use Rattle.salvage_scan.specs.Salvage.{IsNoneAccepted, file_pages, salvage_lines};
-ghost use Rattle.salvage_scan.specs.Scan.{IsCause, IsDiskCause, IsOutCause, IsSalvaged};
+ghost use Rattle.salvage_scan.specs.Scan.{IsSalvageCause, IsDiskCause, IsOutCause, IsSalvaged};
 ghost use Rattle.salvage_scan.specs.Text.{counts_line, counts_shown};
 
 use crate::error::SalvageError;
@@ -146,7 +146,7 @@ fn put_pages<D: Disk, K: Sink>(
     ensures on { IsTrue D.tells → IsSalvaged K.tells (salvage_lines (file_pages codec.now (D.reads disk.old)))
         (record { taken = K.taken out.old; waits = scan.old.line; counts = counts_shown scan.old.counts })
         (record { taken = K.taken out.new; waits = scan.new.line; counts = counts_shown scan.new.counts }) result }
-    ensures cause { IfErr result (IsCause (D.faults disk.old) (D.faults disk.new) (K.faults out.old) (K.faults out.new)) }
+    ensures cause { IfErr result (IsSalvageCause (D.faults disk.old) (D.faults disk.new) (K.faults out.old) (K.faults out.new)) }
     ensures later { D.faults disk.old ≤ D.faults disk.new }
     ensures out_later { K.faults out.old ≤ K.faults out.new }
     ensures only_read { IsTrue D.tells → OnlyRead D.reads D.images D.moment D.since disk.old disk.new }

@@ -9,13 +9,13 @@ use Rattle.btree_model.specs.Tree.{root_family, tree_walk}
 use Rattle.btree_walk.specs.declared.cursor.Cursor.{Cursor}
 use Rattle.btree_walk.specs.declared.cursor.Stage.{Stage}
 use Rattle.btree_walk.specs.declared.cursor.Stage.TheVariants.{New, Inside, Stopped}
-use Rattle.btree_walk.specs.Cursor.{IsMade, IsAt, IsAtStage, family_or, walked}
+use Rattle.btree_walk.specs.Cursor.{IsCursorMade, IsCursorAt, IsAtStage, family_or, walked}
 use Rattle.btree_walk.specs.Turn.{work}
 use Rattle.btree_walk.specs.Causes.{IsMarked}
 use Rattle.btree_model.proofs.FindingLemmas.{places-append}
 use Rattle.space_map.proofs.TrunkLemmas.{also_front, marked_met}
 
-pub work_made : (seen : List Bool) (root : ℕ) (asked : Option Family) (cursor : Cursor) → IsMade root asked cursor → work seen cursor.path ≡ 2 ^ 21 * open_count seen
+pub work_made : (seen : List Bool) (root : ℕ) (asked : Option Family) (cursor : Cursor) → IsCursorMade root asked cursor → work seen cursor.path ≡ 2 ^ 21 * open_count seen
 work_made seen root asked cursor made = ap (work seen) made.path ∙ (omega arith)
 
 -- what a cursor walks
@@ -34,7 +34,7 @@ marked_by Inside pages taken given cursor seen at =
     (ap (λ family. tree_walk pages family taken cursor.root) (sym at.family) ∙ at.walking.stands.whole taken at.walking.unmarked) at.walking.marks
 marked_by (Stopped d) pages taken given cursor seen at = at.1
 
-pub at_marked : (pages : Pages) (taken : Test) (given : List Row) (cursor : Cursor) (seen : Test) → IsAt pages taken given cursor seen → IsMarked (walked pages taken cursor) taken seen
+pub at_marked : (pages : Pages) (taken : Test) (given : List Row) (cursor : Cursor) (seen : Test) → IsCursorAt pages taken given cursor seen → IsMarked (walked pages taken cursor) taken seen
 at_marked pages taken given cursor seen at = marked_by cursor.stage pages taken given cursor seen at
 
 -- marks that stay: no more pages are open
@@ -55,7 +55,7 @@ open_falls (false ∷ old) (false ∷ new) same kept =
     omega arith
 
 -- the last step of a walk opens no page again
-pub passed_on : (pages : Pages) (taken : Test) (given : List Row) (cursor : Cursor) (seen later : List Bool) → IsAt pages taken given cursor (marked seen)
+pub passed_on : (pages : Pages) (taken : Test) (given : List Row) (cursor : Cursor) (seen later : List Bool) → IsCursorAt pages taken given cursor (marked seen)
     → marked later ≡ also (places (walked pages taken cursor)) taken → length later ≡ length seen → open_count later ≤ open_count seen
 passed_on pages taken given cursor seen later at marks same =
     let is : IsMarked (walked pages taken cursor) taken (marked seen) = at_marked pages taken given cursor (marked seen) at in

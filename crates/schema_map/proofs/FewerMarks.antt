@@ -5,7 +5,7 @@ use Rattle.std.proofs.Math.Path.{fun_ext}
 use Rattle.std.specs.List.{list_any}
 use Rattle.btree_page.specs.declared.kind.Family.{Family}
 use Rattle.db_format.specs.Bytes.{u32_at}
-use Rattle.btree_page.specs.Cell.{Stored}
+use Rattle.btree_page.specs.Cell.{StoredCell}
 use Rattle.btree_page.specs.Page.{Node, read_node}
 use Rattle.btree_page.specs.declared.page.PageFault.{PageFault}
 use Rattle.db_format.specs.Pages.{Pages, Test, nothing}
@@ -59,7 +59,7 @@ module _ (pages : Pages) (extra taken : Test) where
       (link_drops n (extra n) (is_met taken met n) (pages.accepts n) _ _ (chain_drops (met ++ place n ∷ []) more n (u32_at (pages.page n) 0))))
       (drops_same _))
 
-  chain_of_drops : (met : List Finding) (n : ℕ) (stored : Stored) → Drops (chain_of pages taken met n stored) (chain_of pages (both extra taken) met n stored)
+  chain_of_drops : (met : List Finding) (n : ℕ) (stored : StoredCell) → Drops (chain_of pages taken met n stored) (chain_of pages (both extra taken) met n stored)
   chain_of_drops met n stored =
       if_drops (links_needed pages.usable stored == 0) _ _ _ _ (drops_same _)
       (if_drops (stored.first == 0) _ _ _ _ (drops_same _) (chain_drops met (links_needed pages.usable stored) n stored.first))

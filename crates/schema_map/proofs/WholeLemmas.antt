@@ -25,7 +25,7 @@ use Rattle.btree_walk.specs.declared.error.WalkError.TheVariants.{Defect as Foun
 use Rattle.space_map.specs.Walk.{IsFirst}
 use Rattle.btree_walk.proofs.MarkLemmas.{keeps_also}
 use Rattle.space_map.proofs.TrunkLemmas.{also_front}
-use Rattle.schema_map.specs.Census.{IsBegun, free_part, schema_after}
+use Rattle.schema_map.specs.Census.{IsCensusBegun, free_part, schema_after}
 use Rattle.schema_map.specs.Parts.{AreSound, IsEarliest, open_pages}
 use Rattle.schema_map.specs.Schema.{IsSchema, schema_row, tree_roots}
 use Rattle.schema_map.specs.Started.{FreeMarks}
@@ -106,7 +106,7 @@ module _ (pages : Pages) where
   pub free_stop : {R : Type 0} (refuses : Pages → ℕ → R → Type 0) (error : WalkError R) → IsFirst refuses pages (free_part pages) error → IsEarliest refuses pages (parts pages) error
   free_stop refuses error h = stop_here (free_part pages) (parts_after pages) refuses pages error (first_among refuses pages (free_part pages) error h)
 
-  module _ (started : FreeMarks) (begun : IsBegun pages started) where
+  module _ (started : FreeMarks) (begun : IsCensusBegun pages started) where
     schema_is : schema_part pages (marked started.marks) ≡ schema_after pages
     schema_is = ap (schema_part pages) begun.marks
 

@@ -7,7 +7,7 @@ use Rattle.btree_model.specs.Freelist.{freelist_walk}
 use Rattle.btree_model.specs.Parts.{counts, is_database, parts}
 use Rattle.btree_model.specs.Schema.{schema_part}
 use Rattle.btree_walk.specs.declared.error.WalkError.{WalkError}
-use Rattle.space_map.specs.FreeMap.{IsFound}
+use Rattle.space_map.specs.FreeMap.{IsFreelistFound}
 use Rattle.space_map.specs.Walk.{IsFirst}
 use Rattle.schema_map.specs.Parts.{IsEarliest}
 use Rattle.schema_map.specs.Schema.{schema_row}
@@ -22,12 +22,12 @@ abbrev pub schema_after : Pages → List Finding
 schema_after pages = schema_part pages (also (places (free_part pages)) nothing)
 
 -- the freelist has no defect, and these are its leaves, its count and its marks
-abbrev pub IsBegun : Pages → FreeMarks → Type 0
-IsBegun pages started = IsFound (free_part pages) nothing (marked started.marks) started.free
+abbrev pub IsCensusBegun : Pages → FreeMarks → Type 0
+IsCensusBegun pages started = IsFreelistFound (free_part pages) nothing (marked started.marks) started.free
 
 -- what the first call came to
 abbrev pub IsStarted : {R : Type 0} → (Pages → ℕ → R → Type 0) → Pages → Result FreeMarks (WalkError R) → Type 0
-IsStarted refuses pages (Ok started) = IsBegun pages started
+IsStarted refuses pages (Ok started) = IsCensusBegun pages started
 IsStarted refuses pages (Err error) = IsFirst refuses pages (free_part pages) error
 
 -- no part has a defect, and these are its counts, its schema and its freelist

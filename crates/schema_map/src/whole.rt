@@ -5,7 +5,7 @@ ghost use Rattle.db_format.specs.Seen.{marked};
 ghost use Rattle.db_format.specs.Source.{Rose, no_pins};
 ghost use Rattle.btree_model.specs.Freelist.{first_trunk, free_field};
 ghost use Rattle.btree_walk.specs.Causes.{IsGivenBy, is_failure};
-ghost use Rattle.schema_map.specs.Census.{IsBegun, IsCensus, IsStarted};
+ghost use Rattle.schema_map.specs.Census.{IsCensusBegun, IsCensus, IsStarted};
 
 use crate::trees::check_trees;
 use crate::unused::count_unmarked;
@@ -73,7 +73,7 @@ impl Started {
         requires some { 1 ≤ (S.plain source.old).count }
         requires unpinned { S.pins source.old ≡ no_pins }
         requires marks { length self.marks ≡ (S.plain source.old).count + 1 }
-        requires begun { IsTrue S.tells → IsBegun (S.plain source.old) self }
+        requires begun { IsTrue S.tells → IsCensusBegun (S.plain source.old) self }
         ensures found { IsTrue S.tells → IsCensus S.refuses (S.plain source.old) result }
         ensures given { IfErr result (IsGivenBy S.only_read S.plain S.refuses source.old) }
         ensures fault { IfErr result (λ error. IsTrue (is_failure S.is_fault error) → Rose (S.faults source.old) (S.faults source.new)) }

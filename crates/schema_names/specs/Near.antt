@@ -21,12 +21,12 @@ kind_named stored =
     else (if bytes_eq stored (codes "trigger") then Some Trigger else None)))
 
 -- what a first column says
-abbrev pub kind_of : Datum → Option SchemaKind
-kind_of null = None
-kind_of (int number) = None
-kind_of (float stored) = None
-kind_of (text stored) = kind_named stored
-kind_of (blob stored) = None
+abbrev pub schema_kind : Datum → Option SchemaKind
+schema_kind null = None
+schema_kind (int number) = None
+schema_kind (float stored) = None
+schema_kind (text stored) = kind_named stored
+schema_kind (blob stored) = None
 
 -- both are alike but for case
 abbrev pub is_near : List ℕ → List ℕ → Bool
@@ -43,7 +43,7 @@ near_text name (blob stored) = None
 -- a row with this root, 0 for none, and these first two columns
 abbrev pub near_columns : List ℕ → ℕ → Datum → Datum → Option NearName
 near_columns name root kind own =
-    option_and_then (λ known. option_map (λ stored. record { kind = known; has_tree = not (root == 0); name = stored }) (near_text name own)) (kind_of kind)
+    option_and_then (λ known. option_map (λ stored. record { kind = known; has_tree = not (root == 0); name = stored }) (near_text name own)) (schema_kind kind)
 
 -- with these columns
 abbrev pub near_row : List ℕ → ℕ → Option (List Datum) → Option NearName

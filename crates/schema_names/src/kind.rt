@@ -1,7 +1,7 @@
 // What a row of the schema stands for, section 2.6.
 ghost use Rattle.std.specs.Prelude.{◌≡◌};
 ghost use Rattle.db_format.specs.Value.{datum_of};
-ghost use Rattle.schema_names.specs.Near.{kind_named, kind_of};
+ghost use Rattle.schema_names.specs.Near.{kind_named, schema_kind};
 
 use db_format::Value;
 
@@ -20,7 +20,7 @@ pub enum SchemaKind {
 
 /// What this first column says.
 pub fn kind_of(value: Value<'_>) -> Option<SchemaKind>
-    ensures { result ≡ kind_of (datum_of value.entry) }
+    ensures { result ≡ schema_kind (datum_of value.entry) }
 {
     match value {
         Value::Text(stored) => kind_named(stored),

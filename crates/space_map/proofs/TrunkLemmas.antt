@@ -20,7 +20,7 @@ use Rattle.btree_walk.specs.declared.error.WalkError.TheVariants.{Defect as Foun
 use Rattle.btree_walk.specs.Causes.{IsMarked, IsRefused}
 use Rattle.db_format.specs.Seen.{marked, open_count}
 use Rattle.space_map.specs.declared.trunk.Trunk.{Trunk}
-use Rattle.space_map.specs.Walk.{IsAt, IsInside, IsTrunk, IsDone, IsNumber, IsFirst, IsStopped, IsLeafTwice, first_fault}
+use Rattle.space_map.specs.Walk.{IsFreeWalkAt, IsInside, IsTrunk, IsDone, IsNumber, IsFirst, IsStopped, IsLeafTwice, first_fault}
 
 -- the numbers from the i-th on
 pub from_step : (bytes : List ℕ) (size i : ℕ) → i < size
@@ -162,7 +162,7 @@ module _ (pages : Pages) (all : List Finding) (taken : Test) (fuel : ℕ) where
             (marks_on at.met (leaf n) n taken seen refl at.marks);
       }
 
-  pub leaves_done : (next found : ℕ) (seen free : Test) → IsInside pages all taken fuel next [] found seen free → IsAt pages all taken fuel next found seen free
+  pub leaves_done : (next found : ℕ) (seen free : Test) → IsInside pages all taken fuel next [] found seen free → IsFreeWalkAt pages all taken fuel next found seen free
   leaves_done next found seen free at =
       record {
         met = at.met;
@@ -173,7 +173,7 @@ module _ (pages : Pages) (all : List Finding) (taken : Test) (fuel : ℕ) where
         count = at.count;
       }
 
-  module _ (n found : ℕ) (seen free : Test) (at : IsAt pages all taken (suc fuel) n found seen free) (some : 2 ≤ n) where
+  module _ (n found : ℕ) (seen free : Test) (at : IsFreeWalkAt pages all taken (suc fuel) n found seen free) (some : 2 ≤ n) where
     named : (n == 0) ≡ false
     named = not_zero n some
 
@@ -272,7 +272,7 @@ module _ (pages : Pages) (all : List Finding) (taken : Test) where
   trunks_end zero met = refl
   trunks_end (suc fuel) met = refl
 
-  pub walk_done : (fuel found : ℕ) (seen free : Test) → IsAt pages all taken fuel 0 found seen free → IsDone all taken found seen free
+  pub walk_done : (fuel found : ℕ) (seen free : Test) → IsFreeWalkAt pages all taken fuel 0 found seen free → IsDone all taken found seen free
   walk_done fuel found seen free at =
       let is : all ≡ at.met = at.whole ∙ ap (λ l. at.met ++ l) (trunks_end fuel at.met) ∙ append-nil at.met in
       record {
@@ -283,7 +283,7 @@ module _ (pages : Pages) (all : List Finding) (taken : Test) where
       }
 
   -- more trunks than pages
-  pub walk_over : {R : Type 0} (refuses : Pages → ℕ → R → Type 0) (n found : ℕ) (seen free : Test) → (n ≡ 0 → ⊥) → IsAt pages all taken 0 n found seen free
+  pub walk_over : {R : Type 0} (refuses : Pages → ℕ → R → Type 0) (n found : ℕ) (seen free : Test) → (n ≡ 0 → ⊥) → IsFreeWalkAt pages all taken 0 n found seen free
       → IsStopped refuses pages all taken seen (Found (PageTwice n))
   walk_over refuses n found seen free some at =
       let named : (n == 0) ≡ false = differ n 0 some in
@@ -358,7 +358,7 @@ number_since pages earlier n same is = subst (λ k. (n ≡ 0) ⊎ ((2 ≤ n) × 
 -- the whole part
 module _ (pages : Pages) (taken : Test) where
   pub lists_at : (n : ℕ) (free : Test) → n ≡ first_trunk pages → free ≡ nothing → (n == 0 || is_in_range pages n) ≡ true
-      → IsAt pages (lists_of pages taken) taken pages.count n 0 taken free
+      → IsFreeWalkAt pages (lists_of pages taken) taken pages.count n 0 taken free
   lists_at n free is empty named =
       let start : (first_trunk pages == 0 || is_in_range pages (first_trunk pages)) ≡ true = subst (λ k. (k == 0 || is_in_range pages k) ≡ true) is named in
       record {

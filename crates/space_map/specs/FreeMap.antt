@@ -12,7 +12,7 @@ pub record FreePages : Type 0 where
   pub count : ℕ
 
 -- the walk has no defect; these are its leaves and the count of its pages, and each of its pages is marked
-pub record IsFound (all : List Finding) (taken seen : Test) (map : FreePages) : Type 0 where
+pub record IsFreelistFound (all : List Finding) (taken seen : Test) (map : FreePages) : Type 0 where
   pub sound : is_sound all ≡ true
   pub leafs : marked map.leaves ≡ also (leaves all) nothing
   pub count : map.count ≡ length (places all)
@@ -20,5 +20,5 @@ pub record IsFound (all : List Finding) (taken seen : Test) (map : FreePages) : 
 
 -- what a walk of the freelist came to
 abbrev pub IsFreelist : {R : Type 0} → (Pages → ℕ → R → Type 0) → Pages → List Finding → Test → Test → Result FreePages (WalkError R) → Type 0
-IsFreelist refuses pages all taken seen (Ok map) = IsFound all taken seen map
+IsFreelist refuses pages all taken seen (Ok map) = IsFreelistFound all taken seen map
 IsFreelist refuses pages all taken seen (Err why) = IsFirst refuses pages all why

@@ -28,7 +28,7 @@ IsTrunkRead pages bytes (Some trunk) = IsTrunk pages bytes trunk
 
 -- The walk has met all this, no defect among it, and goes on with trunk n, where at most `fuel` are walked.
 -- `found` trunks and leaves have been met, and `free` are the leaves.
-pub record IsAt (pages : Pages) (all : List Finding) (taken : Test) (fuel n found : ℕ) (seen free : Test) : Type 0 where
+pub record IsFreeWalkAt (pages : Pages) (all : List Finding) (taken : Test) (fuel n found : ℕ) (seen free : Test) : Type 0 where
   pub met : List Finding
   pub whole : all ≡ met ++ trunks pages taken fuel n met
   pub sound : is_sound met ≡ true
@@ -64,13 +64,13 @@ pub record IsLeafTwice (all : List Finding) (taken seen : Test) (n : ℕ) : Type
   pub first : first_fault all ≡ Some (PageTwice n)
   pub marks : IsMarked all taken seen
 
-abbrev pub IsTaken : Pages → List Finding → Test → ℕ → ℕ → ℕ → Test → Test → Result Unit ℕ → Type 0
-IsTaken pages all taken fuel next found seen free (Ok done) = IsAt pages all taken fuel next found seen free
-IsTaken pages all taken fuel next found seen free (Err n) = IsLeafTwice all taken seen n
+abbrev pub IsLeafTaken : Pages → List Finding → Test → ℕ → ℕ → ℕ → Test → Test → Result Unit ℕ → Type 0
+IsLeafTaken pages all taken fuel next found seen free (Ok done) = IsFreeWalkAt pages all taken fuel next found seen free
+IsLeafTaken pages all taken fuel next found seen free (Err n) = IsLeafTwice all taken seen n
 
 -- after a trunk
 abbrev pub IsVisited : {R : Type 0} → (Pages → ℕ → R → Type 0) → Pages → List Finding → Test → ℕ → ℕ → Test → Test → Result Trunk (WalkError R) → Type 0
-IsVisited refuses pages all taken fuel found seen free (Ok trunk) = IsAt pages all taken fuel trunk.next (found + (1 + trunk.size)) seen free
+IsVisited refuses pages all taken fuel found seen free (Ok trunk) = IsFreeWalkAt pages all taken fuel trunk.next (found + (1 + trunk.size)) seen free
 IsVisited refuses pages all taken fuel found seen free (Err why) = IsStopped refuses pages all taken seen why
 
 -- the walk is at its end, and met no defect

@@ -7,7 +7,7 @@ ghost use Rattle.btree_model.specs.Finding.{Finding};
 ghost use Rattle.btree_model.specs.Freelist.{numbers_at};
 ghost use Rattle.btree_model.specs.Range.{is_in_range};
 ghost use Rattle.btree_walk.specs.Marks.{KeepsMarks};
-ghost use Rattle.space_map.specs.Walk.{IsInside, IsNumber, IsTaken, IsTrunkRead};
+ghost use Rattle.space_map.specs.Walk.{IsInside, IsNumber, IsLeafTaken, IsTrunkRead};
 
 use btree_walk::is_in_range;
 use db_format::{Seen, u32_at};
@@ -65,7 +65,7 @@ pub fn take_leaves(bytes: &[u8], size: u32, seen: &mut Seen, free: &mut Seen) ->
     ensures less { OnOk result (open_count seen.new + size ≡ open_count seen.old) }
     ensures on { (pages : Pages) (all : List Finding) (taken : Test) (fuel next found : ℕ)
         → IsInside pages all taken fuel next (numbers_at bytes.now 8 size) found (marked seen.old) (marked free.old)
-        → IsTaken pages all taken fuel next (found + size) (marked seen.new) (marked free.new) result }
+        → IsLeafTaken pages all taken fuel next (found + size) (marked seen.new) (marked free.new) result }
 {
     for i in 0..size {
         let leaf = u32_at(bytes, 8 + 4 * i as usize);

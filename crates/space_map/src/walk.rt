@@ -6,7 +6,7 @@ ghost use Rattle.db_format.specs.Source.{Rose};
 ghost use Rattle.btree_model.specs.Finding.{Finding};
 ghost use Rattle.btree_walk.specs.Causes.{IsGivenBy, is_failure};
 ghost use Rattle.btree_walk.specs.Marks.{KeepsMarks};
-ghost use Rattle.space_map.specs.Walk.{IsAt, IsNumber, IsVisited, IsWalked};
+ghost use Rattle.space_map.specs.Walk.{IsFreeWalkAt, IsNumber, IsVisited, IsWalked};
 
 use crate::trunk::{Trunk, read_trunk, take_leaves};
 use btree_walk::WalkError;
@@ -24,7 +24,7 @@ fn visit_trunk<S: PageSource>(
     requires seen { length seen.old ≡ (S.plain source.old).count + 1 }
     requires free { length free.old ≡ (S.plain source.old).count + 1 }
     ensures on { IsTrue S.tells → (all : List Finding) (taken : Test) (fuel found : ℕ)
-        → IsAt (S.plain source.old) all taken (suc fuel) n found (marked seen.old) (marked free.old)
+        → IsFreeWalkAt (S.plain source.old) all taken (suc fuel) n found (marked seen.old) (marked free.old)
         → IsVisited S.refuses (S.plain source.old) all taken fuel found (marked seen.new) (marked free.new) result }
     ensures next { IfOk result (λ trunk. IsNumber (S.plain source.old) trunk.next) }
     // why it stopped
@@ -70,7 +70,7 @@ pub fn walk_trunks<S: PageSource>(
     requires seen { length seen.old ≡ (S.plain source.old).count + 1 }
     requires free { length free.old ≡ (S.plain source.old).count + 1 }
     ensures on { IsTrue S.tells → (all : List Finding) (taken : Test)
-        → IsAt (S.plain source.old) all taken (S.plain source.old).count first 0 (marked seen.old) (marked free.old)
+        → IsFreeWalkAt (S.plain source.old) all taken (S.plain source.old).count first 0 (marked seen.old) (marked free.old)
         → IsWalked S.refuses (S.plain source.old) all taken (marked seen.new) (marked free.new) result }
     ensures given { IfErr result (IsGivenBy S.only_read S.plain S.refuses source.old) }
     ensures fault { IfErr result (λ error. IsTrue (is_failure S.is_fault error) → Rose (S.faults source.old) (S.faults source.new)) }

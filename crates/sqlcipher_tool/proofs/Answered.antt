@@ -4,7 +4,7 @@ use Rattle.std.specs.List.{Contains}
 use Rattle.std.specs.Prelude.{IsErr}
 use Rattle.edge_model.specs.Files.{Files}
 use Rattle.edge_model.specs.Images.{Each, From}
-use Rattle.rollback_journal.specs.Recovery.{Recovers, Keeps as KeepsRecovered}
+use Rattle.rollback_journal.specs.Recovery.{Recovers, KeepsRecovered}
 use Rattle.cipher_profile.specs.declared.key_line.KeyError.{KeyError}
 use Rattle.cipher_profile.specs.declared.keys.Secret.{Secret}
 use Rattle.cipher_profile.specs.declared.key_line.KeyError.TheVariants.{KeyMissing, KeyEmpty, KeyTooLong, KeyForm, SourceFault}

@@ -3,17 +3,16 @@ use Rattle.std.proofs.Common.{◌≡◌, ◌⊎◌, ⊎_elim, inl, ◌==◌, ◌
 use Rattle.cipher_profile.specs.declared.keys.Secret.{Secret}
 use Rattle.cipher_profile.specs.declared.profile.Profile.{Profile}
 use Rattle.cipher_profile.specs.Profile.{is_plain}
-use Rattle.edge_model.specs.Files.{Files}
+use Rattle.edge_model.specs.Files.{Files, main_of}
 use Rattle.sqlcipher_tool.specs.Answer.{HasCauses, HasDrawnCauses}
 use Rattle.sqlcipher_tool.specs.Change.{IsChangeBetween, change_answers, command_of, is_in_place}
-use Rattle.sqlcipher_tool.specs.Crash.{Changes, GaveKeys, HasOwnDraws, IsDrawnFor, IsSafely, Keeps, KeepsFresh, KeepsHeld, MakesWith, Stays}
+use Rattle.sqlcipher_tool.specs.Crash.{ChangesBy, GaveKeys, DrewOwn, IsDrawnFor, IsSafely, Keeps, KeepsFresh, KeepsHeld, MakesWith, Stays}
 use Rattle.sqlcipher_tool.specs.Holding.{DiskRun, disk_run}
 use Rattle.sqlcipher_tool.specs.Renewal.{Renewal, renewal, same_key, two_keys}
 use Rattle.sqlcipher_tool.specs.Due.{key_lines, secret_answers, word_refusal}
 use Rattle.sqlcipher_tool.specs.Recovered.{recovered_answers}
 use Rattle.sqlcipher_tool.specs.declared.change.Change.{Change}
 use Rattle.sqlcipher_tool.specs.declared.change.Change.TheVariants.{Stamp as StampOf, Rekey as RekeyOf, Migrate as MigrateOf}
-use Rattle.pager.specs.File.{main_of}
 use Rattle.sqlcipher_tool.specs.Promises.{asks_some, lines_read, takes_keys}
 use Rattle.sqlcipher_tool.specs.Words.{alters, asked_keys, lacks_tags, layouts_differ, writes_beside}
 use Rattle.sqlcipher_tool.specs.declared.status.Refusal.TheVariants.{NoTags, LayoutDiffers}
@@ -44,7 +43,7 @@ same_secrets tells asked left these is secrets gave = ok_same secrets these (sym
 
 -- what holds of all secrets that may have been given holds of those that were
 pub changes_of : (status : Status) (command : Command) (tells : Bool) (drawn : List ℕ) (run : DiskRun) (gave given : List Secret → Type 0) → ((secrets : List Secret) → given secrets → gave secrets)
-    → Changes status command gave tells drawn run → Changes status command given tells drawn run
+    → ChangesBy status command gave tells drawn run → ChangesBy status command given tells drawn run
 changes_of status (Tags profile) tells drawn run gave given more was = was
 changes_of status (Header profile) tells drawn run gave given more was = was
 changes_of status (Verify profile) tells drawn run gave given more was = was
@@ -59,22 +58,22 @@ changes_of status (Migrate old new) tells drawn run gave given more was = λ sec
 changes_of status (Make profile rows) tells drawn run gave given more was = λ secrets has. was secrets (more secrets has)
 
 pub draws_of : (command : Command) (file drawn : List ℕ) (gave given : List Secret → Type 0) → ((secrets : List Secret) → given secrets → gave secrets)
-    → HasOwnDraws command gave file drawn → HasOwnDraws command given file drawn
+    → DrewOwn command gave file drawn → DrewOwn command given file drawn
 draws_of command file drawn gave given more was = λ secrets has. was secrets (more secrets has)
 
 -- a command that renews no file
 pub no_draws : (command other : Command) → command ≡ other → ((secrets : List Secret) → renewal other secrets ≡ None) → (gave : List Secret → Type 0) (file drawn : List ℕ)
-    → HasOwnDraws command gave file drawn
+    → DrewOwn command gave file drawn
 no_draws command other is none gave file drawn = λ secrets has.
     subst (λ (r : Option Renewal). IsDrawnFor command r file drawn) (sym (ap (λ (c : Command). renewal c secrets) is ∙ none secrets)) tt
 
 -- what holds of a command holds of the same one
 pub changes_as : (status : Status) (command other : Command) (gave : List Secret → Type 0) (tells : Bool) (drawn : List ℕ) (run : DiskRun) → command ≡ other
-    → Changes status other gave tells drawn run → Changes status command gave tells drawn run
-changes_as status command other gave tells drawn run is was = subst (λ (c : Command). Changes status c gave tells drawn run) (sym is) was
+    → ChangesBy status other gave tells drawn run → ChangesBy status command gave tells drawn run
+changes_as status command other gave tells drawn run is was = subst (λ (c : Command). ChangesBy status c gave tells drawn run) (sym is) was
 
-pub draws_as : (command other : Command) (gave : List Secret → Type 0) (file drawn : List ℕ) → command ≡ other → HasOwnDraws other gave file drawn → HasOwnDraws command gave file drawn
-draws_as command other gave file drawn is was = subst (λ (c : Command). HasOwnDraws c gave file drawn) (sym is) was
+pub draws_as : (command other : Command) (gave : List Secret → Type 0) (file drawn : List ℕ) → command ≡ other → DrewOwn other gave file drawn → DrewOwn command gave file drawn
+draws_as command other gave file drawn is was = subst (λ (c : Command). DrewOwn c gave file drawn) (sym is) was
 
 pub causes_as : (status : Status) (command other : Command) (a b d e f g : ℕ) → command ≡ other → HasDrawnCauses status (alters other) a b d e f g → HasDrawnCauses status (alters command) a b d e f g
 causes_as status command other a b d e f g is was = subst (λ (c : Command). HasDrawnCauses status (alters c) a b d e f g) (sym is) was
@@ -164,7 +163,7 @@ pub none_beside : (command other : Command) → command ≡ other → writes_bes
 none_beside command other is none beside = let no = sym none ∙ (sym (ap writes_beside is) ∙ beside) in cc
 
 pub two_changes : (status : Status) (change : Change) (old new : Profile) (gave : List Secret → Type 0) (tells : Bool) (drawn : List ℕ) (run : DiskRun) → length (asked_keys (command_of change old new)) ≡ 2
-    → ((secrets : List Secret) → gave secrets → IsSafely status (command_of change old new) tells drawn run (two_keys old new secrets)) → Changes status (command_of change old new) gave tells drawn run
+    → ((secrets : List Secret) → gave secrets → IsSafely status (command_of change old new) tells drawn run (two_keys old new secrets)) → ChangesBy status (command_of change old new) gave tells drawn run
 two_changes status (StampOf field value) old new gave tells drawn run keyed safe = cc
 two_changes status RekeyOf old new gave tells drawn run keyed safe = safe
 two_changes status MigrateOf old new gave tells drawn run keyed safe = safe
@@ -213,7 +212,7 @@ module _ {D : Type 0} (reads : D → Files) (images : D → Files → Type 0) (m
   }
 
   pub unchanged_changes : (status : Status) (command : Command) (gave : List Secret → Type 0) (tells : Bool) (drawn : List ℕ) (disk : D) → (status ≡ Done → ⊥)
-      → Changes status command gave tells drawn (still disk)
+      → ChangesBy status command gave tells drawn (still disk)
   unchanged_changes status (Tags profile) gave tells drawn disk never = tt
   unchanged_changes status (Header profile) gave tells drawn disk never = tt
   unchanged_changes status (Verify profile) gave tells drawn disk never = tt

@@ -4,7 +4,7 @@ use Rattle.std.specs.Prelude.{Bool, false, slice_index_or}
 use Rattle.std.proofs.Math.Nat.{add-mul, mul-le-mul_right, mul_comm}
 use Rattle.std.proofs.lemmas.List.{drop-drop, drop-take, take-take}
 use Rattle.page_codec.specs.Page.{FileKeys, accepts, stored_page}
-use Rattle.page_codec.specs.Pages.{page_at}
+use Rattle.page_codec.specs.Pages.{nth_page}
 use Rattle.sqlcipher_tool.specs.Tags.{AreKnown, refused_page, refused_unless}
 
 -- at first nothing is known
@@ -13,7 +13,7 @@ none_known keys held main n from to = absurd (omega arith)
 
 -- a page of a batch that was read is the page of the file
 pub page_of_batch : (size start count n : ℕ) (new main : List ℕ) → start ≤ n → n < start + count
-    → new ≡ take (count * size) (drop (start * size) main) → page_at size new (n - start) ≡ stored_page size (n + 1) main
+    → new ≡ take (count * size) (drop (start * size) main) → nth_page size new (n - start) ≡ stored_page size (n + 1) main
 page_of_batch size start count n new main from to read =
     let place : ℕ = n - start in
     let parts : start + place ≡ n = omega arith in
@@ -36,7 +36,7 @@ page_of_batch size start count n new main from to read =
 pub batch_known : (keys : FileKeys) (pages start count : ℕ) (new main : List ℕ) (told : List Bool) → start + count ≤ pages
     → length new ≡ count * keys.profile.page_size → pages * keys.profile.page_size ≤ length main
     → (start * keys.profile.page_size + length new ≤ length main → new ≡ take (length new) (drop (start * keys.profile.page_size) main))
-    → ((i : ℕ) → i < count → slice_index_or told i false ≡ accepts keys (start + 1 + i) (page_at keys.profile.page_size new i))
+    → ((i : ℕ) → i < count → slice_index_or told i false ≡ accepts keys (start + 1 + i) (nth_page keys.profile.page_size new i))
     → AreKnown keys start (start + count) told main
 batch_known keys pages start count new main told few long whole read is n from to =
     let size : ℕ = keys.profile.page_size in

@@ -4,7 +4,7 @@ use Rattle.std.specs.Prelude.{◌≢◌, IfErr, OnOk}
 use Rattle.cipher_profile.specs.declared.key_line.KeyError.{KeyError}
 use Rattle.cipher_profile.specs.declared.key_line.KeyError.TheVariants.{KeyMissing, KeyEmpty, KeyTooLong, KeyForm, SourceFault}
 use Rattle.cipher_profile.specs.declared.profile.Profile.{Profile}
-use Rattle.disk_side.specs.OnlyFresh.{IsOld, OnlyFresh, only_fresh_stays}
+use Rattle.fresh_disk.specs.OnlyFresh.{IsOld, OnlyFresh, only_fresh_stays}
 use Rattle.edge_model.specs.Files.{Files, bytes_of}
 use Rattle.edge_model.specs.Images.{Each}
 use Rattle.edge_model.specs.OnlyRead.{OnlyRead}
@@ -13,8 +13,8 @@ use Rattle.migrate_job.specs.declared.error.MigrateError.TheVariants.{DiskFault 
 use Rattle.rekey_job.specs.Stops.{is_unwritten}
 use Rattle.rekey_job.specs.declared.error.RekeyError.{RekeyError}
 use Rattle.rekey_job.specs.declared.error.RekeyError.TheVariants.{LayoutDiffers as LayoutsDiffer, PageTag as RekeyTag, Defect as RekeyDefect, DiskFault as RekeyDisk, EntropyFault as RekeyEntropy, OutOfMemory as RekeyMemory}
-use Rattle.rollback_journal.specs.Recovery.{IsDone}
-use Rattle.sqlcipher_tool.specs.Answer.{Answer, IsAnswer, IsFault, is_early}
+use Rattle.rollback_journal.specs.Recovery.{IsPlaybackDone}
+use Rattle.sqlcipher_tool.specs.Answer.{Answer, IsAnswer, IsFault, is_early_refusal}
 use Rattle.sqlcipher_tool.specs.Behind.{HasOnlyRead, IsOfRecovery, IsRefusal, IsRefusedChange, LeavesRecovered}
 use Rattle.sqlcipher_tool.specs.Change.{change_status, command_of, rekey_error, stop_status}
 use Rattle.sqlcipher_tool.specs.Due.{key_answer, word_refusal}
@@ -43,7 +43,7 @@ pub read_stays : {D : Type 0} {reads : D → Files} {images : D → Files → Ty
 read_stays read = λ c now. (c, read.same_images.no_more c now, only_fresh_stays c)
 
 -- and is recovered, where it was
-pub old_done : (size : ℕ) (main journal : Option (List ℕ)) (was image : Files) → OnlyFresh was image → IsDone size main journal was → IsDone size main journal image
+pub old_done : (size : ℕ) (main journal : Option (List ℕ)) (was image : Files) → OnlyFresh was image → IsPlaybackDone size main journal was → IsPlaybackDone size main journal image
 old_done size None journal was image same done = done
 old_done size (Some main) journal was image same done = (ap bytes_of same.main ∙ done.0, same.journal ∙ done.1)
 
@@ -101,7 +101,7 @@ abbrev given : Refusal → Option Refusal
 given refusal = Some refusal
 
 -- what the words or a key line refuse comes before the recovery
-early_last : (drawing : Bool) (refusal : Refusal) (last : Status) → is_early refusal ≡ true → (last ≡ Refused refusal) ⊎ (last ≡ OutputFault) → HasOnlyRead drawing last → ⊥
+early_last : (drawing : Bool) (refusal : Refusal) (last : Status) → is_early_refusal refusal ≡ true → (last ≡ Refused refusal) ⊎ (last ≡ OutputFault) → HasOnlyRead drawing last → ⊥
 early_last drawing refusal last early is has = ⊎_elim
     (λ (same : last ≡ Refused refusal).
     let late : HasOnlyRead drawing (Refused refusal) = subst (λ (s : Status). HasOnlyRead drawing s) same has in
@@ -123,9 +123,9 @@ word_last drawing command refusal last is refused has = early_last drawing refus
     some_is : (a b : Refusal) → given a ≡ given b → a ≡ b
     some_is a b same = cc
 
-    early : (a b : Bool) → (if a then Some NoTags else (if b then Some LayoutDiffers else None)) ≡ Some refusal → is_early refusal ≡ true
-    early true b is = subst (λ (r : Refusal). is_early r ≡ true) (some_is NoTags refusal is) refl
-    early false true is = subst (λ (r : Refusal). is_early r ≡ true) (some_is LayoutDiffers refusal is) refl
+    early : (a b : Bool) → (if a then Some NoTags else (if b then Some LayoutDiffers else None)) ≡ Some refusal → is_early_refusal refusal ≡ true
+    early true b is = subst (λ (r : Refusal). is_early_refusal r ≡ true) (some_is NoTags refusal is) refl
+    early false true is = subst (λ (r : Refusal). is_early_refusal r ≡ true) (some_is LayoutDiffers refusal is) refl
     early false false is = cc
 
 -- then nothing is said

@@ -2,14 +2,14 @@
 use Rattle.std.proofs.Common.{◌≡◌, ◌⊎◌, ⊎_elim, inl, inr, ◌≤◌, ◌<◌, ℕ, Bool, true, List, [], ◌∷◌, length, Option, Some, None, Result, Ok, Err, refl, sym, subst, ◌∙◌, arith}
 use Rattle.std.specs.Prelude.{unwrap_or, IfErr}
 use Rattle.std.specs.List.{Contains}
-use Rattle.disk_side.specs.Published.{IsNew as IsAlone}
+use Rattle.fresh_disk.specs.Published.{IsAlone}
 use Rattle.edge_model.specs.Causes.{Rose}
 use Rattle.edge_model.specs.Files.{Files}
-use Rattle.rollback_journal.specs.Recovery.{IsDone, recovered}
+use Rattle.rollback_journal.specs.Recovery.{IsPlaybackDone, recovered}
 use Rattle.sqlcipher_tool.specs.Answer.{Answer, HasDrawnCauses, IsAnswer, IsEarly, IsFault, IsStopStatus, done}
 use Rattle.sqlcipher_tool.specs.Change.{IsLateChange, change_answer, change_status, stop_status}
 use Rattle.sqlcipher_tool.specs.Promises.{AnswersOne, PutsSo}
-use Rattle.sqlcipher_tool.specs.Stop.{IsLate, stop_answer}
+use Rattle.sqlcipher_tool.specs.Stop.{IsLateStop, stop_answer}
 use Rattle.sqlcipher_tool.specs.declared.opening.ChangeError.{ChangeError}
 use Rattle.sqlcipher_tool.specs.declared.opening.ChangeError.TheVariants.{Stopped, EntropyFault as EntropyFails}
 use Rattle.sqlcipher_tool.specs.declared.opening.Stop.{Stop}
@@ -177,11 +177,11 @@ causes_after status before a b d e f g le causes = record {
   entropy_later = causes.entropy_later;
 }
 
-pub late_stop : {T : Type 0} (r : Result T ChangeError) (stop : Stop) → r ≡ Err (Stopped stop) → IfErr r IsLateChange → IsLate stop
+pub late_stop : {T : Type 0} (r : Result T ChangeError) (stop : Stop) → r ≡ Err (Stopped stop) → IfErr r IsLateChange → IsLateStop stop
 late_stop {T} r stop is late = subst (λ (o : Result T ChangeError). IfErr o IsLateChange) is late
 
 -- ---- the recovery before it
 
-pub done_alone : (size : ℕ) (main journal : Option (List ℕ)) (image : Files) → IsDone size main journal image → IsAlone (recovered size (unwrap_or main []) journal) image
+pub done_alone : (size : ℕ) (main journal : Option (List ℕ)) (image : Files) → IsPlaybackDone size main journal image → IsAlone (recovered size (unwrap_or main []) journal) image
 done_alone size None journal image done = absurd done
 done_alone size (Some main) journal image done = record { main = done.0; journal = done.1 }

@@ -4,9 +4,9 @@ use Rattle.edge_model.specs.Files.{Files, bytes_of}
 use Rattle.edge_model.specs.Images.{Each, From, LeavesOnly}
 use Rattle.edge_model.specs.Moments.{and_then, at_exit, weaker}
 use Rattle.edge_model.specs.OnlyRead.{OnlyRead}
-use Rattle.transaction.specs.Commit.{IsCommitted, LeavesChanged}
-use Rattle.transaction.specs.Database.{Base, HoldsEither, HoldsOld, HoldsOnly, stored_pages}
-use Rattle.transaction.specs.Facts.{SameFresh}
+use Rattle.atomic_commit.specs.Commit.{IsCommitted, LeavesChanged}
+use Rattle.atomic_commit.specs.Database.{Base, HoldsEither, HoldsOld, HoldsPages, stored_pages}
+use Rattle.atomic_commit.specs.Facts.{SameFresh}
 use Rattle.rekey_job.proofs.Committed.{while_read}
 use Rattle.sqlcipher_tool.specs.Change.{Commits, KeepsOld, KeepsOrCommits, change_status, stop_status}
 use Rattle.sqlcipher_tool.specs.Crash.{AtExit, StaysOrRenews}
@@ -154,7 +154,7 @@ module _ {D : Type 0} (reads : D → Files) (images : D → Files → Type 0) (m
   -- of the new Main.
   module _ (base : Base) {P : Files → Type 0} {Q : List ℕ → Files → Type 0} {is_new : List ℕ → Type 0} (Has : List ℕ → Type 0)
       (was_old : (c : Files) → HoldsOld base c → P c) (is_one : (main : List ℕ) → Has main → is_new main)
-      (has_one : (main : List ℕ) → Has main → (c : Files) → HoldsOnly base (stored_pages base.size base.pages main) c → Q main c)
+      (has_one : (main : List ℕ) → Has main → (c : Files) → HoldsPages base (stored_pages base.size base.pages main) c → Q main c)
       {old mid new : D} (before : LeavesOnly moment since old mid P) where
     joined : (main : List ℕ) → Has main → LeavesOnly moment since mid new (HoldsEither base (stored_pages base.size base.pages main))
         → LeavesOnly moment since old new (λ c. P c ⊎ Q main c)

@@ -17,12 +17,12 @@ use Rattle.db_format.specs.declared.header.Header.{Header as Fields}
 use Rattle.db_format.specs.declared.header.HeaderRefusal.{HeaderRefusal}
 use Rattle.db_maker.specs.Rows.{total_len}
 use Rattle.edge_model.specs.Causes.{Rose}
-use Rattle.edge_model.specs.Files.{Files}
+use Rattle.edge_model.specs.Files.{Files, main_of}
 use Rattle.export_rows.specs.Report.{export_report}
 use Rattle.page_codec.specs.Page.{FileKeys, accepts, fits, keys_of}
 use Rattle.pager.proofs.TxnLemmas.{listed_large}
 use Rattle.pager.specs.Database.{count_of, counted, ok_count}
-use Rattle.pager.specs.File.{main_of, page_stored, whole_pages}
+use Rattle.pager.specs.File.{page_stored, whole_pages}
 use Rattle.pager.specs.Opening.{Opened, file_header, file_opened, first_broken, unless, with_count, with_header}
 use Rattle.pager.specs.Pages.{opened_pages}
 use Rattle.pager.specs.declared.opening.OpenError.{OpenError}
@@ -34,7 +34,7 @@ use Rattle.rowid_find.specs.Lines.{found_report}
 use Rattle.rollback_journal.specs.declared.recovery.RecoverError.{RecoverError}
 use Rattle.salvage_scan.specs.Salvage.{salvage_lines}
 use Rattle.salvage_scan.specs.Text.{salvage_report}
-use Rattle.sqlcipher_tool.specs.Answer.{Answer, IsFault, done, first_of, key_refused, refused}
+use Rattle.sqlcipher_tool.specs.Answer.{Answer, IsFault, done, first_answer, key_refused, refused}
 use Rattle.sqlcipher_tool.specs.declared.command.Command.{Command}
 use Rattle.sqlcipher_tool.specs.declared.command.Command.TheVariants.{Tags, Header, Verify, Export, Salvage, Find, Probe, Recover, Stamp, Rekey, Migrate, Make}
 use Rattle.sqlcipher_tool.specs.declared.job.Job.TheVariants.{Verify as VerifyPages, Export as ExportPages, Find as FindRows}
@@ -56,7 +56,7 @@ use Rattle.sqlcipher_tool.specs.Recovered.{after_recovery, answers_after, recove
 use Rattle.sqlcipher_tool.specs.Rekey.{rekey_answers}
 use Rattle.sqlcipher_tool.specs.Renewal.{pages_under}
 use Rattle.sqlcipher_tool.specs.Salvage.{file_pages, salvage_answer, salvage_causes, salvaged_answer}
-use Rattle.sqlcipher_tool.specs.Servable.{AfterRecovery, CanBeServed, ForOne, ForTwo, HasFewPages, HasPages, HasTable, HasTags, IsDoneAlone, IsDoneOrStarved, IsFree, IsProbed, IsServable, NoneRose}
+use Rattle.sqlcipher_tool.specs.Servable.{AfterRecovery, CanBeServed, ForOne, ForTwo, HasFewPages, HasServablePages, HasTable, HasTags, IsDoneAlone, IsDoneOrStarved, CanMake, IsProbed, IsServable, NoneRose}
 use Rattle.sqlcipher_tool.specs.Stamp.{stamp_answer, stamped_answer}
 use Rattle.sqlcipher_tool.specs.Tags.{file_answer, is_refused, pages_answer, refused_pages, tags_answer, tags_causes}
 use Rattle.sqlcipher_tool.specs.Text.{header_report, made_report, migrated_report, probe_report, recovery_line, rekeyed_report, stamped_report, tags_report, verify_report}
@@ -196,7 +196,7 @@ migrate_alone old new secret count file listed has =
 -- ---- tags
 
 none_of_four : (a b d e : Bool) (w x y z : Answer) → a ≡ false → b ≡ false → d ≡ false → e ≡ false
-    → first_of (record { holds = a; answer = w } ∷ record { holds = b; answer = x } ∷ record { holds = d; answer = y } ∷ record { holds = e; answer = z } ∷ []) ≡ None
+    → first_answer (record { holds = a; answer = w } ∷ record { holds = b; answer = x } ∷ record { holds = d; answer = y } ∷ record { holds = e; answer = z } ∷ []) ≡ None
 none_of_four true b d e w x y z one two three four = cc
 none_of_four false true d e w x y z one two three four = cc
 none_of_four false false true e w x y z one two three four = cc
@@ -239,7 +239,7 @@ tags_alone profile secret file listed has =
     long : size ≤ length file
     long = whole_len (length file) size some has.some
 
-    none : first_of (tags_causes profile secret file) ≡ None
+    none : first_answer (tags_causes profile secret file) ≡ None
     none =
         none_of_four (length file == 0) (nat_lt (length file) size) (nat_lt largest_database (count * size)) (not (fits keys (page_stored keys file 1))) _ _ _ _
         (not_none (length file) (omega (arith, some, long)))
@@ -253,7 +253,7 @@ tags_alone profile secret file listed has =
 
 -- ---- salvage
 
-salvage_alone : (profile : Profile) (secret : Secret) (file : List ℕ) → IsListed profile → HasPages profile secret file → IsDoneAlone (salvage_answer profile secret file ∷ [])
+salvage_alone : (profile : Profile) (secret : Secret) (file : List ℕ) → IsListed profile → HasServablePages profile secret file → IsDoneAlone (salvage_answer profile secret file ∷ [])
 salvage_alone profile secret file listed has = (
   salvage_report (salvage_lines (file_pages keys file)),
   ap (λ (o : Option Answer). unwrap_or o (salvaged_answer keys file) ∷ []) none
@@ -273,13 +273,13 @@ salvage_alone profile secret file listed has = (
     long = whole_len (length file) size some has.some
 
     none_of_three : (a b d : Bool) (w x y : Answer) → a ≡ false → b ≡ false → d ≡ false
-        → first_of (record { holds = a; answer = w } ∷ record { holds = b; answer = x } ∷ record { holds = d; answer = y } ∷ []) ≡ None
+        → first_answer (record { holds = a; answer = w } ∷ record { holds = b; answer = x } ∷ record { holds = d; answer = y } ∷ []) ≡ None
     none_of_three true b d w x y one two three = cc
     none_of_three false true d w x y one two three = cc
     none_of_three false false true w x y one two three = cc
     none_of_three false false false w x y one two three = refl
 
-    none : first_of (salvage_causes profile file) ≡ None
+    none : first_answer (salvage_causes profile file) ≡ None
     none =
         none_of_three (length file == 0) (nat_lt (length file) size) (nat_lt largest_database (whole_pages profile file * size)) _ _ _
         (not_none (length file) (omega (arith, some, long)))
@@ -335,7 +335,7 @@ module _ (test : Profile → Bool) where
       (λ ciphered. cc)
 
 none_of_two : (a b : Bool) (x y : Answer) → a ≡ false → b ≡ false
-    → first_of (record { holds = a; answer = x } ∷ record { holds = b; answer = y } ∷ []) ≡ None
+    → first_answer (record { holds = a; answer = x } ∷ record { holds = b; answer = y } ∷ []) ≡ None
 none_of_two true b x y one two = cc
 none_of_two false true x y one two = cc
 none_of_two false false x y one two = refl
@@ -365,7 +365,7 @@ probe_alone secret files way = subst (λ (a : Answer). IsDoneAlone (a ∷ [])) (
 
 -- ---- make
 
-make_alone : (profile : Profile) (rows : ℕ) (files : Files) → IsFree profile rows files → IsDoneAlone (make_answers profile rows files)
+make_alone : (profile : Profile) (rows : ℕ) (files : Files) → CanMake profile rows files → IsDoneAlone (make_answers profile rows files)
 make_alone profile rows files free = (made_report rows (total_len rows), none_there (is_some files.main) (is_some files.journal) (ap is_some free.no_main) (ap is_some free.no_journal) ∙ made_fits profile rows free.few)
   where
     none_there : (m j : Bool) → m ≡ false → j ≡ false

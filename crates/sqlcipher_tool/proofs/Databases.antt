@@ -9,7 +9,7 @@ use Rattle.db_format.specs.Rules.{unless_broken}
 use Rattle.db_format.specs.declared.count.CountRefusal.{CountRefusal}
 use Rattle.db_format.specs.declared.count.CountRefusal.TheVariants.{Ragged, TooLarge, Short}
 use Rattle.db_format.specs.declared.header.Header.{Header}
-use Rattle.disk_side.specs.Published.{IsNew as IsAlone}
+use Rattle.fresh_disk.specs.Published.{IsAlone}
 use Rattle.edge_model.specs.Files.{File, Files, bytes_of}
 use Rattle.page_codec.specs.Page.{FileKeys, stored_page}
 use Rattle.pager.specs.Database.{stored_pages as with_pages, count_by, count_of, database, stored_by}
@@ -17,8 +17,8 @@ use Rattle.pager.specs.Base.{base_of, is_some_of}
 use Rattle.pager.specs.File.{page_stored}
 use Rattle.pager.specs.UnderWay.{Start}
 use Rattle.rollback_journal.specs.Recovery.{Recovers, RecoversTo}
-use Rattle.transaction.specs.Database.{Base, stored_pages, IsDatabase, HoldsOld, HoldsOnly as HoldsPages}
-use Rattle.transaction.specs.Facts.{IsBase}
+use Rattle.atomic_commit.specs.Database.{Base, stored_pages, IsDatabase, HoldsOld, HoldsPages}
+use Rattle.atomic_commit.specs.Facts.{IsBase}
 use Rattle.rekey_job.proofs.Renewed.{some_is}
 use Rattle.sqlcipher_tool.specs.Holding.{HoldsOnly, held_by}
 use Rattle.sqlcipher_tool.proofs.Numbers.{no_less, no_more}
@@ -210,5 +210,5 @@ holds_new keys file new n image some counts long holds = record {
   only = λ other to.
       let db = holds.only other to in
       same_database keys new other n some (counts (length new) long)
-      (counts (length other) (Rattle.transaction.proofs.Pages.pages_long keys.profile.page_size n other new long db.pages_are)) db.pages_are;
+      (counts (length other) (Rattle.atomic_commit.proofs.Pages.pages_long keys.profile.page_size n other new long db.pages_are)) db.pages_are;
 }

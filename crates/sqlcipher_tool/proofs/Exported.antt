@@ -7,7 +7,7 @@ use Rattle.btree_model.specs.Plain.{with_zeros}
 use Rattle.btree_walk.specs.declared.error.WalkError.{WalkError}
 use Rattle.btree_walk.specs.declared.error.WalkError.TheVariants.{Defect as Found, Source, OutOfMemory as MemoryEnds}
 use Rattle.db_format.specs.Pages.{Pages}
-use Rattle.export_rows.specs.Causes.{IfWalk, is_defect}
+use Rattle.export_rows.specs.Causes.{IfWalk, is_export_defect}
 use Rattle.row_text.specs.Out.{MovesPart}
 use Rattle.export_rows.specs.Report.{export_report}
 use Rattle.export_rows.specs.declared.error.ExportError.{ExportError}
@@ -130,7 +130,7 @@ module _ (told_disk : Bool) (pages : Pages) (error : WalkError PageError) (statu
 
 stopped_by : (told_disk : Bool) (pages : Pages) (error : WalkError PageError) (status : Status) (tells : Bool) (before mid after : List ℕ)
     → IsTrue told_disk → IsEarliest (MayRefuse told_disk) pages (parts pages) error
-    → (is_defect (Walk error) ≡ true → mid ≡ before) → (mid ≡ before) ⊎ (is_database pages ≡ true)
+    → (is_export_defect (Walk error) ≡ true → mid ≡ before) → (mid ≡ before) ⊎ (is_database pages ≡ true)
     → (IsTrue tells → MovesPart (export_report (content pages)) before [] mid)
     → ((answer : Answer) → stop_answer (walk_stop error) ≡ Some answer → (status ≡ answer.status) ⊎ (status ≡ OutputFault))
     → ((answer : Answer) → stop_answer (walk_stop error) ≡ Some answer → IsTrue tells → Puts status answer.text mid after)
@@ -155,7 +155,7 @@ stopped_by told_disk pages MemoryEnds status tells before mid after told causes 
 -- the same of a stop by that name
 pub stopped_one : (told_disk : Bool) (pages : Pages) (error : WalkError PageError) (stop : Stop) (status : Status) (tells : Bool) (before mid after : List ℕ)
     → IsTrue told_disk → stop ≡ walk_stop error → IsEarliest (MayRefuse told_disk) pages (parts pages) error
-    → (is_defect (Walk error) ≡ true → mid ≡ before) → (mid ≡ before) ⊎ (is_database pages ≡ true)
+    → (is_export_defect (Walk error) ≡ true → mid ≡ before) → (mid ≡ before) ⊎ (is_database pages ≡ true)
     → (IsTrue tells → MovesPart (export_report (content pages)) before [] mid)
     → ((answer : Answer) → stop_answer stop ≡ Some answer → (status ≡ answer.status) ⊎ (status ≡ OutputFault))
     → ((answer : Answer) → stop_answer stop ≡ Some answer → IsTrue tells → Puts status answer.text mid after)
@@ -181,7 +181,7 @@ causes_of told_disk pages stopped error is told causes =
 no_line : (status other : Status) (before after : List ℕ) → status ≡ other → PutsLine other before after → PutsLine status before after
 no_line status other before after is put = subst (λ (s : Status). PutsLine s before after) (sym is) put
 
-line_by : (error : WalkError PageError) (status : Status) (before mid after : List ℕ) → (is_defect (Walk error) ≡ true → mid ≡ before)
+line_by : (error : WalkError PageError) (status : Status) (before mid after : List ℕ) → (is_export_defect (Walk error) ≡ true → mid ≡ before)
     → ((answer : Answer) → stop_answer (walk_stop error) ≡ Some answer → (status ≡ answer.status) ⊎ (status ≡ OutputFault))
     → (walk_stop error ≡ StopDisk → status ≡ DiskFault) → (walk_stop error ≡ StopMemory → status ≡ OutOfMemory)
     → PutsLine status mid after → PutsLine status before after
@@ -196,7 +196,7 @@ line_by (Source AllPinned) status before mid after defect is disk memory put = n
 line_by MemoryEnds status before mid after defect is disk memory put = no_line status OutOfMemory before after (memory refl) (λ line h. cc)
 
 pub line_one : (error : WalkError PageError) (stop : Stop) (status : Status) (before mid after : List ℕ) → stop ≡ walk_stop error
-    → (is_defect (Walk error) ≡ true → mid ≡ before)
+    → (is_export_defect (Walk error) ≡ true → mid ≡ before)
     → ((answer : Answer) → stop_answer stop ≡ Some answer → (status ≡ answer.status) ⊎ (status ≡ OutputFault))
     → (stop ≡ StopDisk → status ≡ DiskFault) → (stop ≡ StopMemory → status ≡ OutOfMemory)
     → PutsLine status mid after → PutsLine status before after

@@ -20,14 +20,14 @@ use Rattle.rowid_find.specs.Causes.{IfWalk}
 use Rattle.rowid_find.specs.declared.error.FindError.{FindError}
 use Rattle.rowid_find.specs.declared.error.FindError.TheVariants.{Walk}
 use Rattle.rowid_find.specs.Found.{found_rows}
-use Rattle.rowid_find.specs.Lines.{count_line, found_report, rows_text}
+use Rattle.rowid_find.specs.Lines.{count_line, found_report, found_rows_text}
 use Rattle.rowid_find.specs.Reach.{reach_all}
-use Rattle.rowid_find.specs.Search.{IsAllFound, IsCut, IsCutOff}
+use Rattle.rowid_find.specs.Search.{IsAllFound, IsSearchCut, IsCutOff}
 use Rattle.rowid_find.specs.Table.{IsSearchedSchema, IsTableRead, IsTableStop, Table, at_root, unaccepted, no_kind, schema_rows, table_of}
 use Rattle.rowid_find.proofs.SearchSteps.{text_both}
 use Rattle.rowid_find.proofs.SoundFound.{sound_reach}
 use Rattle.schema_map.proofs.SoundParts.{sound_faults, sound_refusals}
-use Rattle.sqlcipher_tool.specs.Answer.{Answer, IsFault, Puts, PutsLine, PutsPart, done, is_defect, refused}
+use Rattle.sqlcipher_tool.specs.Answer.{Answer, IsFault, Puts, PutsLine, PutsPart, done, is_defect_status, refused}
 use Rattle.sqlcipher_tool.specs.Find.{before_stop, ended_answer, find_answers, first_stop, met_answer, table_answer}
 use Rattle.sqlcipher_tool.specs.Promises.{AnswersOne, PutsSo}
 use Rattle.sqlcipher_tool.specs.Stop.{stop_answer}
@@ -54,7 +54,7 @@ of_same a b same f = ap f same
 -- ---- the first findings, and what comes next
 
 abbrev text_of : List Finding → List ℕ
-text_of found = rows_text (entries found)
+text_of found = found_rows_text (entries found)
 
 more_before : (found more : List Finding) → is_sound found ≡ true → before_stop (found ++ more) ≡ found ++ before_stop more
 more_before [] more sound = refl
@@ -218,7 +218,7 @@ outside_one all found more status failed tells before mid after whole sound kind
     (record { answer = met_answer all; is_due = alone (met_answer all); answered = inr tt; puts = part })) kind)
 
 stopped_by : (told_disk : Bool) (pages : Pages) (all : List Finding) (error : WalkError PageError) (status : Status) (tells : Bool) (before mid after : List ℕ) (reads later : ℕ)
-    → IsTrue told_disk → IsCut (MayRefuse told_disk) pages tells all before mid reads later error
+    → IsTrue told_disk → IsSearchCut (MayRefuse told_disk) pages tells all before mid reads later error
     → ((answer : Answer) → stop_answer (walk_stop error) ≡ Some answer → (status ≡ answer.status) ⊎ (status ≡ OutputFault))
     → ((answer : Answer) → stop_answer (walk_stop error) ≡ Some answer → IsTrue tells → Puts status answer.text mid after)
     → (walk_stop error ≡ StopDisk → (status ≡ DiskFault) × (after ≡ mid)) → (walk_stop error ≡ StopMemory → (status ≡ OutOfMemory) × (after ≡ mid))
@@ -243,7 +243,7 @@ stopped_by told_disk pages all MemoryEnds status tells before mid after reads la
     outside_one all cut.found cut.more status OutOfMemory tells before mid after cut.whole cut.sound (inr refl) (memory refl) cut.text
 
 pub stopped_one : (told_disk : Bool) (pages : Pages) (all : List Finding) (error : WalkError PageError) (stop : Stop) (status : Status) (tells : Bool) (before mid after : List ℕ) (reads later : ℕ)
-    → IsTrue told_disk → stop ≡ walk_stop error → IsCut (MayRefuse told_disk) pages tells all before mid reads later error
+    → IsTrue told_disk → stop ≡ walk_stop error → IsSearchCut (MayRefuse told_disk) pages tells all before mid reads later error
     → ((answer : Answer) → stop_answer stop ≡ Some answer → (status ≡ answer.status) ⊎ (status ≡ OutputFault))
     → ((answer : Answer) → stop_answer stop ≡ Some answer → IsTrue tells → Puts status answer.text mid after)
     → (stop ≡ StopDisk → (status ≡ DiskFault) × (after ≡ mid)) → (stop ≡ StopMemory → (status ≡ OutOfMemory) × (after ≡ mid))
@@ -330,11 +330,11 @@ unread_due told_disk pages name low high error stop told same read answer is =
 no_line : (status other : Status) (before after : List ℕ) → status ≡ other → PutsLine other before after → PutsLine status before after
 no_line status other before after is put = subst (λ (s : Status). PutsLine s before after) (sym is) put
 
-line_by : (error : WalkError PageError) (status : Status) (before after : List ℕ) → is_defect status ≡ false
+line_by : (error : WalkError PageError) (status : Status) (before after : List ℕ) → is_defect_status status ≡ false
     → ((answer : Answer) → stop_answer (walk_stop error) ≡ Some answer → (status ≡ answer.status) ⊎ (status ≡ OutputFault))
     → (walk_stop error ≡ StopDisk → status ≡ DiskFault) → (walk_stop error ≡ StopMemory → status ≡ OutOfMemory) → PutsLine status before after
 line_by (Found d) status before after none is disk memory =
-    ⊎_elim (λ (same : status ≡ Refused (RefusedDefect d)). let no : true ≡ false = sym (ap is_defect same) ∙ none in cc)
+    ⊎_elim (λ (same : status ≡ Refused (RefusedDefect d)). let no : true ≡ false = sym (ap is_defect_status same) ∙ none in cc)
     (λ (same : status ≡ OutputFault). no_line status OutputFault before after same (λ line h. cc)) (is (refused (RefusedDefect d)) refl)
 line_by (Source (TagRefused page)) status before after none is disk memory =
     ⊎_elim (λ (same : status ≡ Refused (PageTag page)). no_line status (Refused (PageTag page)) before after same (λ line h. cc))
@@ -345,7 +345,7 @@ line_by (Source DrawFault) status before after none is disk memory = no_line sta
 line_by (Source AllPinned) status before after none is disk memory = no_line status OutOfMemory before after (memory refl) (λ line h. cc)
 line_by MemoryEnds status before after none is disk memory = no_line status OutOfMemory before after (memory refl) (λ line h. cc)
 
-pub line_one : (error : WalkError PageError) (stop : Stop) (status : Status) (before after : List ℕ) → stop ≡ walk_stop error → is_defect status ≡ false
+pub line_one : (error : WalkError PageError) (stop : Stop) (status : Status) (before after : List ℕ) → stop ≡ walk_stop error → is_defect_status status ≡ false
     → ((answer : Answer) → stop_answer stop ≡ Some answer → (status ≡ answer.status) ⊎ (status ≡ OutputFault))
     → (stop ≡ StopDisk → status ≡ DiskFault) → (stop ≡ StopMemory → status ≡ OutOfMemory) → PutsLine status before after
 line_one error stop status before after same none is disk memory =

@@ -3,12 +3,11 @@ use Rattle.std.proofs.Common.{◌≡◌, ⊎_elim, ℕ, ◌≤◌, Bool, true, f
 use Rattle.std.specs.Prelude.{IsErr, unwrap_or}
 use Rattle.cipher_profile.specs.declared.keys.Secret.{Secret}
 use Rattle.cipher_profile.specs.declared.profile.Profile.{Profile}
-use Rattle.edge_model.specs.Files.{Files, bytes_of}
+use Rattle.edge_model.specs.Files.{Files, bytes_of, main_of}
 use Rattle.edge_model.specs.Images.{LeavesOnly}
 use Rattle.edge_model.specs.OnlyRead.{OnlyRead}
 use Rattle.journal_format.specs.Header.{page_size_at}
 use Rattle.journal_format.specs.Segments.{is_hot, names_super, played}
-use Rattle.pager.specs.File.{main_of}
 use Rattle.pager.specs.Opening.{Opened}
 use Rattle.pager.specs.declared.opening.OpenError.{OpenError}
 use Rattle.rollback_journal.specs.declared.recovery.Recovery.{Recovery}

@@ -7,12 +7,12 @@ use Rattle.export_rows.proofs.Zeros.{zeros_content}
 use Rattle.make_job.specs.Made.{IsMade, made_content, made_header}
 use Rattle.page_codec.specs.Page.{accepts, keys_of}
 use Rattle.pager.specs.File.{page_stored}
-use Rattle.pager.specs.Pages.{is_number, opened_pages}
+use Rattle.pager.specs.Pages.{is_page_number, opened_pages}
 use Rattle.sqlcipher_tool.specs.Plain.{IsClean, is_left}
 use Rattle.sqlcipher_tool.proofs.OpenedParts.{open_count, open_parts}
 use Rattle.sqlcipher_tool.proofs.Verified.{none_where}
 
-numbered : (count i : ℕ) → i < count → is_number count (1 + i) ≡ true
+numbered : (count i : ℕ) → i < count → is_page_number count (1 + i) ≡ true
 numbered count i within = search (rules, within)
 
 left : (leaf number accepted : Bool) → number ≡ true → accepted ≡ true → (not leaf && not (number && accepted)) ≡ false
@@ -36,7 +36,7 @@ made_clean profile secret rows file made =
         };
         accepted = none_where (is_left pages (is_leaf pages)) made.count (λ i within.
             let number = numbered made.count i within in
-            left (is_leaf pages (1 + i)) (is_number made.count (1 + i)) (accepts keys (1 + i) (page_stored keys file (1 + i))) number (made.accepted (1 + i) number));
+            left (is_leaf pages (1 + i)) (is_page_number made.count (1 + i)) (accepts keys (1 + i) (page_stored keys file (1 + i))) number (made.accepted (1 + i) number));
       },
       refl,
     )

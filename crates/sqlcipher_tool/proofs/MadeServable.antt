@@ -8,19 +8,19 @@ use Rattle.cipher_profile.specs.declared.keys.Secret.{Secret}
 use Rattle.cipher_profile.specs.declared.profile.Profile.{Profile}
 use Rattle.cipher_profile.specs.Profile.{IsListed, is_plain, profile_named, sqlcipher_4}
 use Rattle.db_format.specs.Count.{largest_database}
-use Rattle.edge_model.specs.Files.{File, nothing}
+use Rattle.edge_model.specs.Files.{File, no_files}
 use Rattle.make_job.specs.Made.{IsMade, made_header}
 use Rattle.page_codec.specs.Page.{FileKeys, keys_of}
 use Rattle.pager.specs.File.{whole_pages}
 use Rattle.pager.specs.Opening.{Opened}
-use Rattle.pager.specs.Pages.{is_number}
+use Rattle.pager.specs.Pages.{is_page_number}
 use Rattle.pager.specs.declared.opening.OpenError.{OpenError}
 use Rattle.pager.proofs.BatchLemmas.{number_is}
 use Rattle.sqlcipher_tool.specs.declared.command.Command.{Command}
 use Rattle.sqlcipher_tool.specs.declared.command.Command.TheVariants.{Tags, Header, Verify, Export, Salvage, Find, Probe, Recover, Stamp, Rekey, Migrate, Make}
 use Rattle.sqlcipher_tool.specs.Opening.{opened_with}
 use Rattle.sqlcipher_tool.specs.Plain.{IsClean}
-use Rattle.sqlcipher_tool.specs.Servable.{CanBeServed, HasPages, HasTags, IsProbed, IsReading, IsServable, standing}
+use Rattle.sqlcipher_tool.specs.Servable.{CanBeServed, HasServablePages, HasTags, IsProbed, IsReadCommand, IsServable, standing}
 use Rattle.sqlcipher_tool.proofs.Completeness.{listed_some}
 use Rattle.sqlcipher_tool.proofs.Databases.{counted_pages}
 use Rattle.sqlcipher_tool.proofs.MadeFile.{made_clean}
@@ -43,12 +43,12 @@ module _ (profile : Profile) (secret : Secret) (rows : ℕ) (file : File) (fresh
     some = omega (arith, le-div 1 (length file.bytes) profile.page_size (listed_some profile listed) (omega (arith, is_open.long)));
     few = subst (λ (n : ℕ). n * profile.page_size ≤ largest_database) (sym whole) (counted_pages (made_header profile made.count) (length file.bytes) made.count is_open.counts).small;
     fit = is_open.fit;
-    accepted = λ n number. made.accepted n (subst (λ (count : ℕ). is_number count n ≡ true) whole number);
+    accepted = λ n number. made.accepted n (subst (λ (count : ℕ). is_page_number count n ≡ true) whole number);
   }
 
-  has_pages : HasPages profile secret file.bytes
+  has_pages : HasServablePages profile secret file.bytes
   has_pages =
-      let first : is_number (whole_pages profile file.bytes) 1 ≡ true = number_is (whole_pages profile file.bytes) 1 (omega arith) (omega (arith, has_tags.some)) in
+      let first : is_page_number (whole_pages profile file.bytes) 1 ≡ true = number_is (whole_pages profile file.bytes) 1 (omega arith) (omega (arith, has_tags.some)) in
       record { some = has_tags.some; few = has_tags.few; opens = page_opened keys file.bytes 1 first (has_tags.accepted 1 first) }
 
   opens : IsOk (opened_with profile secret file.bytes)
@@ -66,7 +66,7 @@ module _ (profile : Profile) (secret : Secret) (rows : ℕ) (file : File) (fresh
     fit = both_true (le_true profile.page_size (length file.bytes) is_open.long) is_open.fit;
   }
 
-  pub made_servable : (second : Secret) (command : Command) → IsReading profile command → IsServable command (secret ∷ second ∷ []) (standing file fresh)
+  pub made_servable : (second : Secret) (command : Command) → IsReadCommand profile command → IsServable command (secret ∷ second ∷ []) (standing file fresh)
   made_servable second (Tags other) is = subst (λ (p : Profile). IsServable (Tags p) (secret ∷ second ∷ []) (standing file fresh)) (sym is) (record { recovers = refl; holds = has_tags })
   made_servable second (Header other) is = subst (λ (p : Profile). IsServable (Header p) (secret ∷ second ∷ []) (standing file fresh)) (sym is) (record { recovers = refl; holds = opens })
   made_servable second (Verify other) is = subst (λ (p : Profile). IsServable (Verify p) (secret ∷ second ∷ []) (standing file fresh)) (sym is) (record { recovers = refl; holds = clean })
@@ -82,7 +82,7 @@ module _ (profile : Profile) (secret : Secret) (rows : ℕ) (file : File) (fresh
   made_servable second (Migrate old new) is = absurd is
   made_servable second (Make other count) is = absurd is
 
--- where no file is there, `recover` has nothing to do
-pub nothing_servable : (left : List ℕ) → CanBeServed (codes "recover" ∷ codes "4" ∷ []) left nothing
+-- where no file is there, `recover` has no_files to do
+pub nothing_servable : (left : List ℕ) → CanBeServed (codes "recover" ∷ codes "4" ∷ []) left no_files
 unfolding profile_named
 nothing_servable left = record { command = Recover sqlcipher_4; is_form = refl; no_refusal = refl; secrets = []; gave = refl; servable = refl }

@@ -5,19 +5,18 @@ use Rattle.cipher_profile.specs.declared.profile.Profile.{Profile}
 use Rattle.cipher_profile.specs.Profile.{usable}
 use Rattle.db_maker.specs.Pages.{made_pages}
 use Rattle.db_maker.specs.Rows.{total_len}
-use Rattle.disk_side.specs.Published.{IsNew}
-use Rattle.edge_model.specs.Files.{Files, bytes_of}
+use Rattle.fresh_disk.specs.Published.{IsAlone}
+use Rattle.edge_model.specs.Files.{Files, bytes_of, main_of}
 use Rattle.edge_model.specs.Images.{Each, From, LeavesOnly}
 use Rattle.edge_model.specs.Moments.{weaker}
-use Rattle.disk_side.specs.OnlyFresh.{IsOld}
+use Rattle.fresh_disk.specs.OnlyFresh.{IsOld}
 use Rattle.edge_model.specs.OnlyRead.{OnlyRead}
-use Rattle.make_job.specs.Free.{IsFree, is_at_exit, may_be, never}
-use Rattle.disk_side.specs.Place.{LeavesOld, MayTakePlace, TakesPlace}
+use Rattle.make_job.specs.Free.{HasNeither, is_at_exit, may_be, never}
+use Rattle.fresh_disk.specs.Place.{LeavesOld, MayTakePlace, TakesPlace}
 use Rattle.fresh_file.specs.State.{most_pages}
-use Rattle.make_job.specs.Stops.{in_the_way, is_refusal}
+use Rattle.make_job.specs.Stops.{in_the_way, is_make_refusal}
 use Rattle.make_job.specs.declared.error.MakeError.{MakeError}
 use Rattle.make_job.specs.declared.error.MakeError.TheVariants.{FileThere as MainStands, JournalThere as JournalStands, TooManyPages as PagesEnd, DiskFault as DiskFails, EntropyFault as DrawFails, OutOfMemory as MemoryEnds}
-use Rattle.pager.specs.File.{main_of}
 use Rattle.sqlcipher_tool.specs.Answer.{Answer, done, refused}
 use Rattle.sqlcipher_tool.specs.Change.{Commits, IsLateChange, KeepsOld, KeepsOrCommits, change_answer, change_status}
 use Rattle.sqlcipher_tool.specs.Crash.{HasNoMain, SameJournal, Stays}
@@ -96,7 +95,7 @@ made_due result made files profile rows given bytes is stands one two answer sam
 
 -- and so is why nothing was
 pub unmade_due : {T : Type 0} (result : Result T MakeError) (e : MakeError) (files : Files) (profile : Profile) (rows : ℕ) → result ≡ Err e
-    → ((e : MakeError) → in_the_way files ≡ Some e → (result ≡ Err e) ⊎ (result ≡ Err DiskFails)) → (is_refusal e ≡ true → in_the_way files ≡ Some e)
+    → ((e : MakeError) → in_the_way files ≡ Some e → (result ≡ Err e) ⊎ (result ≡ Err DiskFails)) → (is_make_refusal e ≡ true → in_the_way files ≡ Some e)
     → ((limit : ℕ) → result ≡ Err (PagesEnd limit) → (limit ≡ most_pages profile) × (most_pages profile < made_pages (usable profile) rows))
     → (answer : Answer) → change_answer (Err (make_error e)) ≡ Some answer → Contains (make_answers profile rows files) answer
 unmade_due result MainStands files profile rows is stands there most answer same =
@@ -181,13 +180,13 @@ place_with own there has = record {
 -- no image at the start has a Main or a Journal
 module _ {D : Type 0} (reads : D → Files) (images : D → Files → Type 0) (moment : D → ℕ) (since : D → ℕ → Files → Type 0)
     (counts_now : (disk : D) (t : ℕ) (c : Files) → t ≤ moment disk → images disk c → since disk t c)
-    (only_now : (disk : D) (c : Files) → since disk (moment disk) c → images disk c) {old new : D} (free : Each (images old) IsFree) where
+    (only_now : (disk : D) (c : Files) → since disk (moment disk) c → images disk c) {old new : D} (free : Each (images old) HasNeither) where
   -- there is none
   none_there : (status : Status) → (status ≡ Done → ⊥) → LeavesOld reads images moment since old new → KeepsOld moment since status HasNoMain old new
   none_there status never_done stays = record { any_moment = never free stays; not_done = never_done }
 
   -- it was made
-  pub made_there : {is_new : List ℕ → Type 0} → TakesPlace reads images moment since is_new old new → Commits reads images moment since Done is_new HasNoMain IsNew old new
+  pub made_there : {is_new : List ℕ → Type 0} → TakesPlace reads images moment since is_new old new → Commits reads images moment since Done is_new HasNoMain IsAlone old new
   made_there {is_new} there = commits_done reads images moment since counts_now only_now there.may.file.bytes there.may.is
       (may_be {images = images} free {is_new = is_new} there.may)
       (λ c here. let now = is_at_exit free there c here in (now, now.journal))
@@ -195,7 +194,7 @@ module _ {D : Type 0} (reads : D → Files) (images : D → Files → Type 0) (m
 
   pub unmade_there : {is_new : List ℕ → Type 0} (e : MakeError) → ((e ≡ DiskFails → ⊥) → LeavesOld reads images moment since old new)
       → LeavesOld reads images moment since old new ⊎ MayTakePlace images moment since is_new old new
-      → KeepsOrCommits reads images moment since (change_status (Err (make_error e))) is_new HasNoMain IsNew old new
+      → KeepsOrCommits reads images moment since (change_status (Err (make_error e))) is_new HasNoMain IsAlone old new
   unmade_there {is_new} DiskFails stays may = ⊎_elim (λ was. inl (none_there DiskFault (error_not_done (make_error DiskFails)) was))
       (λ has. inr (commits_failed reads images moment since counts_now only_now has.file.bytes has.is (may_be {images = images} free {is_new = is_new} has))) may
   unmade_there MainStands stays may = inl (none_there _ (error_not_done (make_error MainStands)) (stays (λ is. cc)))

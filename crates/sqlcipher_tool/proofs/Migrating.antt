@@ -11,9 +11,9 @@ use Rattle.cipher_profile.specs.declared.keys.Secret.{Secret}
 use Rattle.cipher_profile.specs.declared.profile.Profile.{Profile}
 use Rattle.db_format.specs.Pages.{Pages}
 use Rattle.db_format.specs.declared.header.Header.{Header}
-use Rattle.disk_side.specs.OnlyFresh.{IsOld}
-use Rattle.disk_side.specs.Place.{LeavesOld, MayTakePlace, TakesPlace}
-use Rattle.disk_side.specs.Published.{IsNew as IsAlone, IsOldOrPublished, IsPublished}
+use Rattle.fresh_disk.specs.OnlyFresh.{IsOld}
+use Rattle.fresh_disk.specs.Place.{LeavesOld, MayTakePlace, TakesPlace}
+use Rattle.fresh_disk.specs.Published.{IsAlone, IsOldOrPublished, IsPublished}
 use Rattle.edge_model.specs.Files.{File, Files, bytes_of}
 use Rattle.edge_model.specs.Images.{Each}
 use Rattle.edge_model.specs.Moments.{weaker}
@@ -21,7 +21,7 @@ use Rattle.export_rows.proofs.Zeros.{zeros_content}
 use Rattle.fresh_file.specs.State.{most_pages}
 use Rattle.migrate_job.specs.Bound.{pages_at_most}
 use Rattle.migrate_job.specs.Migrated.{IsMigratedUnder, migrated_header}
-use Rattle.migrate_job.specs.Stops.{IsShown}
+use Rattle.migrate_job.specs.Stops.{IsMigrateShown}
 use Rattle.migrate_job.specs.declared.error.MigrateError.{MigrateError}
 use Rattle.migrate_job.specs.declared.error.MigrateError.TheVariants.{PageTag as MigrateTag, Defect as MigrateDefect, TooManyPages as PagesEnd, DiskFault as DiskFails, EntropyFault as DrawFails, OutOfMemory as MemoryEnds}
 use Rattle.page_codec.specs.Page.{FileKeys, keys_of}
@@ -29,7 +29,7 @@ use Rattle.sqlcipher_tool.specs.Answer.{Answer, done, refused}
 use Rattle.sqlcipher_tool.specs.Change.{Commits, IsLateChange, KeepsOld, KeepsOrCommits, change_answer, change_status}
 use Rattle.sqlcipher_tool.specs.Holding.{HoldsOnly, held_by}
 use Rattle.sqlcipher_tool.specs.Migrate.{migrate_due, migrate_error, too_many}
-use Rattle.sqlcipher_tool.specs.Renewal.{pages_of}
+use Rattle.sqlcipher_tool.specs.Renewal.{page_count_of}
 use Rattle.sqlcipher_tool.specs.Text.{migrated_report}
 use Rattle.sqlcipher_tool.specs.Verify.{stop_answers}
 use Rattle.sqlcipher_tool.specs.declared.status.Refusal.TheVariants.{PageTag, Defect as RefusedDefect, TooManyPages}
@@ -54,7 +54,7 @@ above_due limit first true is = (1, omega arith, refl)
 above_due limit first false is = cc
 
 -- what stopped a migration is due
-pub unmigrated_due : (profile : Profile) (count : ℕ) (pages : Pages) (error : MigrateError) (answer : Answer) → IsShown profile pages error
+pub unmigrated_due : (profile : Profile) (count : ℕ) (pages : Pages) (error : MigrateError) (answer : Answer) → IsMigrateShown profile pages error
     → ((limit : ℕ) → error ≡ PagesEnd limit → limit ≡ most_pages profile) → change_answer (Err (migrate_error error)) ≡ Some answer → Contains (migrate_due profile count pages) answer
 unmigrated_due profile count pages (MigrateTag n) answer shown most is = subst (λ (a : Answer). Contains (migrate_due profile count pages) a) (some_is (refused (PageTag n)) answer is)
     (else_left (stop_answers (first_faults (parts pages)) (first_refusals (parts pages))) _ (refused (PageTag n)) (among_pages (first_faults (parts pages)) (first_refusals (parts pages)) n shown))
@@ -78,7 +78,7 @@ migrated_due profile count given pages answer whole same is = subst (λ (a : Ans
 
 -- a file that is so many pages long has so many
 pub migrated_count : (keys : FileKeys) (old : Header) (before : Pages) (file : List ℕ) (given : ℕ) → 1 ≤ keys.profile.page_size → IsMigratedUnder keys old before file
-    → length file ≡ given * keys.profile.page_size → given ≡ pages_of keys file
+    → length file ≡ given * keys.profile.page_size → given ≡ page_count_of keys file
 migrated_count keys old before file given size is counts =
     let header = migrated_header keys.profile old is.count in
     same given is.count keys.profile.page_size size (sym counts ∙ is.size)

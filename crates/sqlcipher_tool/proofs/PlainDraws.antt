@@ -3,14 +3,14 @@ use Rattle.std.proofs.Common.{◌≡◌, ⊎_elim, inl, inr, ℕ, Bool, true, fa
 use Rattle.cipher_profile.specs.declared.keys.Secret.{Secret}
 use Rattle.cipher_profile.specs.declared.profile.Profile.{Profile}
 use Rattle.cipher_profile.specs.Profile.{is_plain}
-use Rattle.disk_side.specs.Published.{IsNew as IsAlone}
+use Rattle.fresh_disk.specs.Published.{IsAlone}
 use Rattle.edge_model.specs.Files.{Files}
 use Rattle.make_job.specs.Made.{IsMade}
 use Rattle.sqlcipher_tool.specs.Answer.{HasDrawnCauses}
 use Rattle.sqlcipher_tool.specs.Change.{command_of}
-use Rattle.sqlcipher_tool.specs.Crash.{Changes, HasNoMain, HasOwnDraws, IsDrawnFor, IsSafely, MakesWith, Renews, StaysOrRenews}
+use Rattle.sqlcipher_tool.specs.Crash.{ChangesBy, HasNoMain, DrewOwn, IsDrawnFor, IsSafely, MakesWith, Renews, StaysOrRenews}
 use Rattle.sqlcipher_tool.specs.Holding.{DiskRun}
-use Rattle.sqlcipher_tool.specs.Renewal.{AreDrawn, Renewal, WithDraws, from_to, renewal}
+use Rattle.sqlcipher_tool.specs.Renewal.{AreDrawnBy, Renewal, WithDraws, from_to, renewal}
 use Rattle.sqlcipher_tool.specs.Words.{asked_keys, draws}
 use Rattle.sqlcipher_tool.specs.declared.change.Change.{Change}
 use Rattle.sqlcipher_tool.specs.declared.change.Change.TheVariants.{Stamp as StampOf, Rekey as RekeyOf, Migrate as MigrateOf}
@@ -46,12 +46,12 @@ plain_drawn (Migrate old new) (first ∷ second ∷ rest) file drawn none = λ c
 plain_drawn (Make profile rows) [] file drawn none = tt
 plain_drawn (Make profile rows) (secret ∷ rest) file drawn none = λ ciphered. absurd (never_both (is_plain profile) none ciphered)
 
-pub plain_own : (command : Command) (gave : List Secret → Type 0) (file drawn : List ℕ) → draws command ≡ false → HasOwnDraws command gave file drawn
+pub plain_own : (command : Command) (gave : List Secret → Type 0) (file drawn : List ℕ) → draws command ≡ false → DrewOwn command gave file drawn
 plain_own command gave file drawn none = λ secrets has. plain_drawn command secrets file drawn none
 
 -- and so of a change into a plain file
 pub plain_renewed : (change : Change) (old new : Profile) (first second : Secret) (file drawn : List ℕ) → is_plain new ≡ true
-    → length (asked_keys (command_of change old new)) ≡ 2 → AreDrawn (command_of change old new) (from_to old first new second) file drawn
+    → length (asked_keys (command_of change old new)) ≡ 2 → AreDrawnBy (command_of change old new) (from_to old first new second) file drawn
 plain_renewed (StampOf field value) old new first second file drawn plain two = cc
 plain_renewed RekeyOf old new first second file drawn plain two = λ ciphered. let never : true ≡ false = sym plain ∙ ciphered in cc
 plain_renewed MigrateOf old new first second file drawn plain two = λ ciphered. let never : true ≡ false = sym plain ∙ ciphered in cc
@@ -72,12 +72,12 @@ renews_as status is_new own_was own old new tells run all was = ⊎_elim (λ sta
       no_journal = renews.no_journal;
     }
 
-pub safely_as : (status : Status) (command : Command) (tells : Bool) (was drawn : List ℕ) (run : DiskRun) (renewal : Renewal) → ((file : List ℕ) → AreDrawn command renewal file drawn)
+pub safely_as : (status : Status) (command : Command) (tells : Bool) (was drawn : List ℕ) (run : DiskRun) (renewal : Renewal) → ((file : List ℕ) → AreDrawnBy command renewal file drawn)
     → IsSafely status command false was run (Some renewal) → IsSafely status command tells drawn run (Some renewal)
 safely_as status command tells was drawn run renewal all safe = λ start. renews_as status _ _ _ _ _ tells run all (safe start)
 
 pub plain_changes : (status : Status) (command : Command) (gave : List Secret → Type 0) (tells : Bool) (was drawn : List ℕ) (run : DiskRun) → draws command ≡ false
-    → Changes status command gave false was run → Changes status command gave tells drawn run
+    → ChangesBy status command gave false was run → ChangesBy status command gave tells drawn run
 plain_changes status (Tags profile) gave tells was drawn run none change = tt
 plain_changes status (Header profile) gave tells was drawn run none change = tt
 plain_changes status (Verify profile) gave tells was drawn run none change = tt

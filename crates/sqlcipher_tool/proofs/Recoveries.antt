@@ -3,7 +3,7 @@ use Rattle.std.proofs.Common.{◌≡◌, ⊎_elim, ◌≤◌, ◌<◌, ◌*◌, 
 use Rattle.std.specs.Prelude.{nat_lt, unwrap_or}
 use Rattle.db_format.specs.Count.{largest_database}
 use Rattle.page_codec.specs.Page.{fits, keys_of}
-use Rattle.edge_model.specs.Files.{Files, bytes_of}
+use Rattle.edge_model.specs.Files.{Files, bytes_of, main_of}
 use Rattle.edge_model.specs.Images.{From, LeavesOnly}
 use Rattle.edge_model.specs.Moments.{goes_less}
 use Rattle.edge_model.specs.OnlyRead.{OnlyRead}
@@ -14,9 +14,9 @@ use Rattle.pager.specs.declared.opening.OpenError.{OpenError}
 use Rattle.pager.specs.declared.opening.OpenError.TheVariants.{Empty, Short, KeyRefused as NoKey, HeaderFault, WalMode, AutoVacuum, Ragged, TooLarge, DiskFault as DiskFails, OutOfMemory as MemoryEnds}
 use Rattle.rollback_journal.specs.declared.recovery.Recovery.{Recovery}
 use Rattle.rollback_journal.specs.declared.recovery.RecoverError.{RecoverError}
-use Rattle.rollback_journal.specs.Recovery.{HasByte, IsDone, answer_of, answer_to, changes_nothing, recovered}
-use Rattle.pager.specs.File.{first_page, main_of, whole_pages}
-use Rattle.sqlcipher_tool.specs.Answer.{Answer, Cause, IsAnswered, IsFault, first_of}
+use Rattle.rollback_journal.specs.Recovery.{HasByte, IsPlaybackDone, answer_of, answer_to, changes_nothing, recovered}
+use Rattle.pager.specs.File.{first_page, whole_pages}
+use Rattle.sqlcipher_tool.specs.Answer.{Answer, Cause, IsAnswered, IsFault, first_answer}
 use Rattle.sqlcipher_tool.specs.declared.status.Status.{Status}
 use Rattle.sqlcipher_tool.specs.declared.status.Status.TheVariants.{Done, Usage, Refused, KeyRefused, DiskFault, OutputFault, InputFault, EntropyFault, OutOfMemory}
 use Rattle.sqlcipher_tool.specs.Header.{header_answer, opened_answer}
@@ -85,7 +85,7 @@ abbrev cause_of : Bool → OpenError → Cause
 cause_of holds error = record { holds = holds; answer = open_answer error }
 
 first_of_file : (a b d e : Bool) (len pages : ℕ) (answer : Answer) → IsOfFile answer
-    → IsOfFile (unwrap_or (first_of (cause_of a Empty ∷ cause_of b (Short len) ∷ cause_of d (TooLarge pages) ∷ cause_of e NoKey ∷ [])) answer)
+    → IsOfFile (unwrap_or (first_answer (cause_of a Empty ∷ cause_of b (Short len) ∷ cause_of d (TooLarge pages) ∷ cause_of e NoKey ∷ [])) answer)
 first_of_file true b d e len pages answer other is = is
 first_of_file false true d e len pages answer other is = is
 first_of_file false false true e len pages answer other is = is
@@ -118,7 +118,7 @@ had_byte profile files main is byte =
     byte_before profile.page_size (main_of files) (bytes_of files.journal) (subst (λ (l : List ℕ). 0 < length l) is byte)
 
 -- and then no journal is left
-pub journal_gone : (size : ℕ) (main journal : Option (List ℕ)) (image : Files) → IsDone size main journal image → image.journal ≡ None
+pub journal_gone : (size : ℕ) (main journal : Option (List ℕ)) (image : Files) → IsPlaybackDone size main journal image → image.journal ≡ None
 journal_gone size None journal image done = absurd done
 journal_gone size (Some main) journal image done = done.1
 
@@ -128,7 +128,7 @@ none_recovered size None = refl
 none_recovered size (Some journal) = refl
 
 -- what is read after a recovery that came to its end
-pub main_after : (size : ℕ) (was now : Files) → (HasByte (bytes_of was.main) → IsDone size (bytes_of was.main) (bytes_of was.journal) now)
+pub main_after : (size : ℕ) (was now : Files) → (HasByte (bytes_of was.main) → IsPlaybackDone size (bytes_of was.main) (bytes_of was.journal) now)
     → (IsTrue (changes_nothing (answer_to size was)) → now ≡ was) → main_of now ≡ recovered size (main_of was) (bytes_of was.journal)
 main_after size was now done idle = by_main (bytes_of was.main) (bytes_of was.journal) refl done idle
   where
@@ -136,7 +136,7 @@ main_after size was now done idle = by_main (bytes_of was.main) (bytes_of was.jo
     empty o journal is none same =
         ap (λ (files : Files). unwrap_or (bytes_of files.main) []) same ∙ (ap (λ (b : Option (List ℕ)). unwrap_or b []) is ∙ (none ∙ sym (none_recovered size journal)))
 
-    by_main : (o journal : Option (List ℕ)) → bytes_of was.main ≡ o → (HasByte o → IsDone size o journal now)
+    by_main : (o journal : Option (List ℕ)) → bytes_of was.main ≡ o → (HasByte o → IsPlaybackDone size o journal now)
         → (IsTrue (changes_nothing (answer_of size o journal)) → now ≡ was) → unwrap_or (bytes_of now.main) [] ≡ recovered size (unwrap_or o []) journal
     by_main None journal is done idle = empty None journal is refl (idle refl)
     by_main (Some []) None is done idle = empty (Some []) None is refl (idle refl)

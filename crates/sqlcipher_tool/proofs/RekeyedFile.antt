@@ -23,7 +23,7 @@ use Rattle.page_codec.proofs.Parts.{opened_plain_file}
 use Rattle.page_codec.specs.Page.{FileKeys, accepts, bears_sign, fits, magic, opened}
 use Rattle.pager.specs.Database.{count_by, count_of, counted, ok_count}
 use Rattle.pager.specs.File.{page_stored}
-use Rattle.pager.specs.Pages.{is_number, opened_pages}
+use Rattle.pager.specs.Pages.{is_page_number, opened_pages}
 use Rattle.pager.proofs.BatchLemmas.{number_is}
 use Rattle.rekey_job.specs.Rekeyed.{IsRekeyed}
 use Rattle.rekey_job.specs.Stops.{AreClean}
@@ -130,10 +130,10 @@ module _ (old_keys new_keys : FileKeys) (count : ℕ) (old new : List ℕ) (old_
 
   -- ---- the pages in use
 
-  was_accepted : (n : ℕ) → is_number count n ≡ true → is_leaf before n ≡ false → before.accepts n ≡ true
+  was_accepted : (n : ℕ) → is_page_number count n ≡ true → is_leaf before n ≡ false → before.accepts n ≡ true
   was_accepted n num none = by_accepts (before.accepts n) refl
     where
-      in_range : (count n : ℕ) → is_number count n ≡ true → (1 ≤ n) × (n ≤ count)
+      in_range : (count n : ℕ) → is_page_number count n ≡ true → (1 ≤ n) × (n ≤ count)
       in_range count n is = search (rules, is)
 
       left : (leaf accepted : Bool) → leaf ≡ false → accepted ≡ false → (not leaf && not accepted) ≡ true
@@ -149,9 +149,9 @@ module _ (old_keys new_keys : FileKeys) (count : ℕ) (old new : List ℕ) (old_
           absurd (empty none_refused (number_among (is_left before (is_leaf before)) count n range.0 range.1 (left (is_leaf before n) (before.accepts n) none is)))
 
   same_page : (n : ℕ) → is_leaf before n ≡ false → after.page n ≡ before.page n
-  same_page n none = by_number (is_number count n) refl
+  same_page n none = by_number (is_page_number count n) refl
     where
-      by_number : (b : Bool) → is_number count n ≡ b → after.page n ≡ before.page n
+      by_number : (b : Bool) → is_page_number count n ≡ b → after.page n ≡ before.page n
       by_number true num =
           ap (λ (b : Bool). if b then opened new_keys n (page_stored new_keys new n) else []) num
           ∙ rekeyed.plain n num
@@ -161,9 +161,9 @@ module _ (old_keys new_keys : FileKeys) (count : ℕ) (old new : List ℕ) (old_
           ∙ sym (ap (λ (b : Bool). if b then opened old_keys n (page_stored old_keys old n) else []) num)
 
   same_accepts : (n : ℕ) → is_leaf before n ≡ false → after.accepts n ≡ before.accepts n
-  same_accepts n none = by_number (is_number count n) refl
+  same_accepts n none = by_number (is_page_number count n) refl
     where
-      by_number : (b : Bool) → is_number count n ≡ b → after.accepts n ≡ before.accepts n
+      by_number : (b : Bool) → is_page_number count n ≡ b → after.accepts n ≡ before.accepts n
       by_number true num =
           ap (λ (b : Bool). b && accepts new_keys n (page_stored new_keys new n)) num
           ∙ rekeyed.accepted n num
@@ -216,7 +216,7 @@ module _ (old_keys new_keys : FileKeys) (count : ℕ) (old new : List ℕ) (old_
       zero_is : (a : ℕ) → a ≡ 0 → (a == 0) ≡ true
       zero_is a is = search (rules, is)
 
-      first : is_number count 1 ≡ true
+      first : is_page_number count 1 ≡ true
       first = number_is count 1 (omega arith) (count_some old_keys old count (omega (arith, size old_keys.profile old_listed)) rekeyed.was)
         where
           size : (p : Profile) → IsListed p → 1 ≤ p.page_size

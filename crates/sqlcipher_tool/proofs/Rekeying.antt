@@ -10,8 +10,8 @@ use Rattle.btree_model.specs.Plain.{is_leaf}
 use Rattle.db_format.specs.Header.{header_read}
 use Rattle.db_format.specs.Pages.{Pages, Test, is_page}
 use Rattle.db_format.specs.declared.header.Header.{Header}
-use Rattle.disk_side.specs.Published.{IsNew as IsAlone}
-use Rattle.edge_model.specs.Files.{File, Files, bytes_of}
+use Rattle.fresh_disk.specs.Published.{IsAlone}
+use Rattle.edge_model.specs.Files.{File, Files, bytes_of, main_of}
 use Rattle.edge_model.specs.Images.{Each, LeavesOnly}
 use Rattle.edge_model.specs.Moments.{started}
 use Rattle.edge_model.specs.OnlyRead.{OnlyRead}
@@ -21,25 +21,25 @@ use Rattle.page_codec.specs.Page.{FileKeys, keys_of, opened}
 use Rattle.pager.specs.Base.{base_of}
 use Rattle.pager.specs.Changed.{same_layout}
 use Rattle.pager.specs.Database.{count_by, count_of, counted}
-use Rattle.pager.specs.File.{main_of, page_stored}
+use Rattle.pager.specs.File.{page_stored}
 use Rattle.pager.specs.Opening.{file_opened}
-use Rattle.pager.specs.Pages.{is_number}
+use Rattle.pager.specs.Pages.{is_page_number}
 use Rattle.rekey_job.specs.Rekeyed.{IsRekeyed}
-use Rattle.rekey_job.specs.Stops.{AreClean, IsFirstRefused, IsShown, is_unwritten}
+use Rattle.rekey_job.specs.Stops.{AreClean, IsFirstRefused, IsRekeyShown, is_unwritten}
 use Rattle.rekey_job.specs.declared.error.RekeyError.{RekeyError}
 use Rattle.rekey_job.specs.declared.error.RekeyError.TheVariants.{LayoutDiffers, PageTag as RekeyTag, Defect as RekeyDefect, DiskFault as RekeyDisk, EntropyFault as RekeyEntropy, OutOfMemory as RekeyMemory}
 use Rattle.rekey_job.proofs.Renewed.{some_is as count_is}
 use Rattle.rollback_journal.specs.Recovery.{Recovers}
-use Rattle.transaction.specs.Commit.{IsCommitted, LeavesChanged}
-use Rattle.transaction.specs.Database.{HoldsEither, HoldsOld, HoldsOnly as HoldsPages, stored_pages}
-use Rattle.transaction.specs.Facts.{IsBegun}
+use Rattle.atomic_commit.specs.Commit.{IsCommitted, LeavesChanged}
+use Rattle.atomic_commit.specs.Database.{HoldsEither, HoldsOld, HoldsPages, stored_pages}
+use Rattle.atomic_commit.specs.Facts.{IsCommitBegun}
 use Rattle.sqlcipher_tool.specs.Answer.{Answer, done, refused}
 use Rattle.sqlcipher_tool.specs.Change.{Commits, IsLateChange, KeepsOld, KeepsOrCommits, change_answer, change_status, rekey_error}
 use Rattle.rekey_job.specs.Draws.{FileDraws}
 use Rattle.sqlcipher_tool.specs.Holding.{HoldsOnly, held_by}
 use Rattle.sqlcipher_tool.specs.Plain.{is_left, refused_in_use}
 use Rattle.sqlcipher_tool.specs.Rekey.{rekey_due}
-use Rattle.sqlcipher_tool.specs.Renewal.{WithDraws, pages_of}
+use Rattle.sqlcipher_tool.specs.Renewal.{WithDraws, page_count_of}
 use Rattle.sqlcipher_tool.specs.Tags.{numbers_where, page_numbers}
 use Rattle.sqlcipher_tool.specs.Text.{rekeyed_report}
 use Rattle.sqlcipher_tool.specs.Verify.{else_answers, stop_answers}
@@ -91,7 +91,7 @@ refused_among pages n first =
     number_among (is_left pages (is_leaf pages)) pages.count n range.0 range.1 (rw (first.used, first.refused) refl)
 
 -- what stopped a rekey is due
-pub shown_due : (pages : Pages) (error : RekeyError) (answer : Answer) → IsShown pages error → change_answer (Err (rekey_error error)) ≡ Some answer → Contains (rekey_due pages) answer
+pub shown_due : (pages : Pages) (error : RekeyError) (answer : Answer) → IsRekeyShown pages error → change_answer (Err (rekey_error error)) ≡ Some answer → Contains (rekey_due pages) answer
 shown_due pages LayoutDiffers answer shown is = cc
 shown_due pages (RekeyTag n) answer shown is = subst (λ (a : Answer). Contains (rekey_due pages) a) (some_is (refused (PageTag n)) answer is) (⊎_elim
     (λ part. else_left (stop_answers (first_faults (parts pages)) (first_refusals (parts pages))) _ (refused (PageTag n)) (among_pages (first_faults (parts pages)) (first_refusals (parts pages)) n part))
@@ -184,10 +184,10 @@ main_there keys files n sized is = by_file files.main (omega (arith, sized, long
 
 -- its draws are those of a file under the keys that the secret gives for it
 pub rekeyed_draws : (keys write : FileKeys) (n : ℕ) (file main drawn : List ℕ) (profile : Profile) (secret : Secret) → IsRekeyed keys write n file main → write ≡ keys_of profile secret main
-    → FileDraws write main (is_number n) 0 drawn → FileDraws (keys_of profile secret main) main (is_number (pages_of (keys_of profile secret main) main)) 0 drawn
+    → FileDraws write main (is_page_number n) 0 drawn → FileDraws (keys_of profile secret main) main (is_page_number (page_count_of (keys_of profile secret main) main)) 0 drawn
 rekeyed_draws keys write n file main drawn profile secret rekeyed same draws =
-    subst (λ (k : FileKeys). FileDraws k main (is_number (pages_of k main)) 0 drawn) same
-    (subst (λ (m : ℕ). FileDraws write main (is_number m) 0 drawn) (sym (ap (λ (o : Option ℕ). unwrap_or o 0) rekeyed.is)) draws)
+    subst (λ (k : FileKeys). FileDraws k main (is_page_number (page_count_of k main)) 0 drawn) same
+    (subst (λ (m : ℕ). FileDraws write main (is_page_number m) 0 drawn) (sym (ap (λ (o : Option ℕ). unwrap_or o 0) rekeyed.is)) draws)
 
 -- ---- the disk
 
@@ -219,7 +219,7 @@ module _ {D : Type 0} (reads : D → Files) (images : D → Files → Type 0) (m
       (counted_pages header (length file) n parts_open.counts).within
 
   -- what the transaction asks of the images
-  pub begun : IsBegun (base_of keys file n) (images old)
+  pub begun : IsCommitBegun (base_of keys file n) (images old)
   begun = record {
     base_is = record {
       size = sized;

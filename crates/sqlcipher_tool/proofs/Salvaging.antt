@@ -9,12 +9,12 @@ use Rattle.db_format.specs.Count.{largest_database}
 use Rattle.row_text.specs.Out.{MovesPart}
 use Rattle.page_codec.specs.Page.{FileKeys, accepts, keys_of}
 use Rattle.pager.specs.File.{page_stored, whole_pages}
-use Rattle.pager.specs.Pages.{is_number}
+use Rattle.pager.specs.Pages.{is_page_number}
 use Rattle.pager.specs.declared.opening.OpenError.TheVariants.{Empty, Short, TooLarge}
 use Rattle.pager.proofs.BatchLemmas.{and_true, number_in, number_is}
 use Rattle.salvage_scan.specs.Salvage.{IsNoneAccepted, salvage_lines}
 use Rattle.salvage_scan.specs.Text.{salvage_report}
-use Rattle.sqlcipher_tool.specs.Answer.{Answer, IsFault, Puts, PutsPart, done, first_of, key_refused}
+use Rattle.sqlcipher_tool.specs.Answer.{Answer, IsFault, Puts, PutsPart, done, first_answer, key_refused}
 use Rattle.sqlcipher_tool.specs.Opening.{open_answer}
 use Rattle.sqlcipher_tool.specs.Promises.{AnswersOne}
 use Rattle.sqlcipher_tool.specs.Salvage.{file_pages, opens_none, salvage_answer, salvage_causes, salvaged_answer}
@@ -91,7 +91,7 @@ module _ (keys : FileKeys) (file : List ℕ) where
       by_value true is = absurd (never (none_is is).0 (none_is is).1)
 
   -- a page that is accepted is opened
-  pub page_opened : (n : ℕ) → is_number count n ≡ true → accepts keys n (page_stored keys file n) ≡ true → opens_none keys file ≡ false
+  pub page_opened : (n : ℕ) → is_page_number count n ≡ true → accepts keys n (page_stored keys file n) ≡ true → opens_none keys file ≡ false
   page_opened n number accepted =
       some_opened (λ tagged none.
       let yes : (file_pages keys file).accepts n ≡ true = both_true number accepted in
@@ -144,7 +144,7 @@ module _ (keys : FileKeys) (file : List ℕ) (tells : Bool) (before after : List
 
 -- the answer of a stop is the one that is due
 pub stop_due : (profile : Profile) (secret : Secret) (file : List ℕ) (stop : Stop) (answer : Answer)
-    → (stop ≡ StopDisk) ⊎ (first_of (salvage_causes profile file) ≡ stop_answer stop) → stop_answer stop ≡ Some answer
+    → (stop ≡ StopDisk) ⊎ (first_answer (salvage_causes profile file) ≡ stop_answer stop) → stop_answer stop ≡ Some answer
     → Contains (salvage_answer profile secret file ∷ []) answer
 stop_due profile secret file stop answer is due =
     ⊎_elim (λ (disk : stop ≡ StopDisk). let none : None ≡ Some answer = sym (ap stop_answer disk) ∙ due in cc)
@@ -157,7 +157,7 @@ salvage_of_file profile secret file =
     (opens_none (keys_of profile secret file) file)
   where
     by_causes : (a b d none : Bool)
-        → IsOfFile (unwrap_or (first_of (record { holds = a; answer = open_answer Empty } ∷ record { holds = b; answer = open_answer (Short (length file)) }
+        → IsOfFile (unwrap_or (first_answer (record { holds = a; answer = open_answer Empty } ∷ record { holds = b; answer = open_answer (Short (length file)) }
         ∷ record { holds = d; answer = open_answer (TooLarge (whole_pages profile file)) } ∷ []))
         (if none then key_refused else done (salvage_report (salvage_lines (file_pages (keys_of profile secret file) file)))))
     by_causes true b d none is = is

@@ -17,7 +17,7 @@ use Rattle.btree_model.proofs.UnreadLemmas.{AreAlikeBut}
 use Rattle.btree_model.proofs.WholeLemmas.{parts_same}
 use Rattle.page_codec.specs.Page.{FileKeys, fits, opened}
 use Rattle.pager.specs.File.{page_stored}
-use Rattle.pager.specs.Pages.{is_number, opened_pages}
+use Rattle.pager.specs.Pages.{is_page_number, opened_pages}
 use Rattle.schema_map.proofs.SoundParts.{free}
 use Rattle.export_rows.proofs.Zeros.{content_alike, no_free_leaf, zeros_content}
 use Rattle.sqlcipher_tool.specs.Plain.{HaveSamePages, IsSameInUse, Opens}
@@ -58,13 +58,13 @@ module _ (keys : FileKeys) (file : List ℕ) (count : ℕ) where
 
   -- the plain pages, and none out of range
   plain : ℕ → List ℕ
-  plain n = if is_number count n then (with_zeros pages).page n else []
+  plain n = if is_page_number count n then (with_zeros pages).page n else []
 
   plain_of : (n : ℕ) → is_leaf pages n ≡ false → plain n ≡ pages.page n
   unfolding plain
   plain_of n none =
-      ap (λ b. if is_number count n then (if b then replicate pages.usable 0 else pages.page n) else []) none
-      ∙ if_both (is_number count n) (opened keys n (page_stored keys file n))
+      ap (λ b. if is_page_number count n then (if b then replicate pages.usable 0 else pages.page n) else []) none
+      ∙ if_both (is_page_number count n) (opened keys n (page_stored keys file n))
 
   -- no page is a leaf of a freelist with a defect
   no_leaves : (n : ℕ) → is_sound (freelist_walk pages nothing) ≡ false → is_leaf pages n ≡ false
@@ -97,7 +97,7 @@ module _ (count : ℕ) (old_keys new_keys : FileKeys) (old new : List ℕ) (same
       ∙ get_or-map-range_with_len (with_zeros before).page 1 count (n - 1) n [] (omega arith) (omega arith)
 
   -- out of range no page has a byte in either file
-  by_number : (n : ℕ) (b : Bool) → is_number count n ≡ b → is_leaf before n ≡ false → plain new_keys new count n ≡ before.page n
+  by_number : (n : ℕ) (b : Bool) → is_page_number count n ≡ b → is_leaf before n ≡ false → plain new_keys new count n ≡ before.page n
   unfolding plain
   by_number n true is none =
       let low : 1 ≤ n = true_le 1 n (and_left (nat_le 1 n) (nat_le n count) is) in
@@ -119,7 +119,7 @@ module _ (count : ℕ) (old_keys new_keys : FileKeys) (old new : List ℕ) (same
       clipped sound = in_use_same before (with_page after (plain new_keys new count)) sound (record {
         count = refl;
         usable = same.usable;
-        page = λ n none. by_number n (is_number count n) refl none;
+        page = λ n none. by_number n (is_page_number count n) refl none;
         accepted = same.accepted;
       })
 
@@ -129,7 +129,7 @@ module _ (count : ℕ) (old_keys new_keys : FileKeys) (old new : List ℕ) (same
   -- the pages in use are the same
   pub in_use_alike : is_sound (freelist_walk before nothing) ≡ true → (n : ℕ) → is_leaf before n ≡ false → after.page n ≡ before.page n
   in_use_alike sound n none =
-      sym (plain_of new_keys new count n (same_leaf (same_parts sound) n ∙ none)) ∙ by_number n (is_number count n) refl none
+      sym (plain_of new_keys new count n (same_leaf (same_parts sound) n ∙ none)) ∙ by_number n (is_page_number count n) refl none
 
 -- what `Opens` says of a file with so many pages
 pub opens_same : (count : ℕ) (old_keys new_keys : FileKeys) (old new : List ℕ) (held : Content) → HaveSamePages count old_keys old new_keys new

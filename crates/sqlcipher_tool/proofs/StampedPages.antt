@@ -12,7 +12,7 @@ use Rattle.page_codec.proofs.Parts.{opened_plain_file}
 use Rattle.page_codec.specs.Page.{FileKeys, opened, salt_of, sealed}
 use Rattle.pager.specs.Database.{count_by, counted, ok_count}
 use Rattle.pager.specs.File.{page_stored}
-use Rattle.pager.specs.Pages.{is_number}
+use Rattle.pager.specs.Pages.{is_page_number}
 use Rattle.pager.specs.UnderWay.{HasNewPages}
 use Rattle.pager.proofs.BatchLemmas.{number_is}
 use Rattle.page_codec.proofs.Salt.{salt_stands}
@@ -121,7 +121,7 @@ module _ (keys : FileKeys) (field : Field) (value n : ℕ) (file : List ℕ) (he
     (salt : keys.salt ≡ salt_of file) (room : 120 ≤ usable keys.profile)
     (touched : ℕ → Bool) (pages : ℕ → List ℕ) (tells : Bool) (before after main : List ℕ)
     (is_page : pages 1 ≡ stamped_page field value n (opened keys 1 (page_stored keys file 1)))
-    (alone : (m : ℕ) → is_number n m ≡ true → touched m ≡ (m == 1))
+    (alone : (m : ℕ) → is_page_number n m ≡ true → touched m ≡ (m == 1))
     (new : HasNewPages (start_of keys file n before) keys touched pages tells after main) where
   abbrev plain : List ℕ
   plain = opened keys 1 (page_stored keys file 1)
@@ -132,7 +132,7 @@ module _ (keys : FileKeys) (field : Field) (value n : ℕ) (file : List ℕ) (he
   abbrev change : ℕ
   change = next_change (u32_at plain 24)
 
-  numbered : is_number n 1 ≡ true
+  numbered : is_page_number n 1 ≡ true
   numbered = number_is n 1 (omega arith) some
 
   is_touched : touched 1 ≡ true
@@ -222,7 +222,7 @@ module _ (keys : FileKeys) (field : Field) (value n : ℕ) (file : List ℕ) (he
   pub own_draws : IsTrue tells → FileDraws keys main (λ m. m == 1) 0 (drop (length before) after)
   own_draws told = file_draws (start_of keys file n before) keys touched pages tells after main new told (λ m. m == 1) (λ m is.
       let one = is_one m is in
-      (ap (is_number n) one ∙ numbered, ap touched one ∙ is_touched))
+      (ap (is_page_number n) one ∙ numbered, ap touched one ∙ is_touched))
     where
       is_one : (m : ℕ) → (m == 1) ≡ true → m ≡ 1
       is_one m is = search rules

@@ -3,12 +3,12 @@ use Rattle.std.proofs.Common.{◌≡◌, ◌≤◌, ◌*◌, ℕ, Bool, List, []
 use Rattle.std.specs.Prelude.{OnOk, if◌then◌else◌, ◌&&◌, ◌==◌, true, false}
 use Rattle.std.specs.Str.{bytes_eq}
 use Rattle.std.proofs.lemmas.Slice.Eq.{bytes_eq-Decides}
-use Rattle.disk_side.specs.Published.{IsNew as IsAlone}
+use Rattle.fresh_disk.specs.Published.{IsAlone}
 use Rattle.cipher_profile.specs.Profile.{IsListed, is_plain, usable}
 use Rattle.cipher_profile.specs.declared.profile.Profile.{Profile}
 use Rattle.cipher_profile.proofs.Layouts.{IsListed-laid_out}
 use Rattle.db_format.specs.declared.header.Header.{Header}
-use Rattle.edge_model.specs.Files.{File, Files, bytes_of}
+use Rattle.edge_model.specs.Files.{File, Files, bytes_of, contents, main_of}
 use Rattle.edge_model.specs.Images.{Each, LeavesOnly}
 use Rattle.edge_model.specs.Moments.{and_then, started, weaker}
 use Rattle.db_format.specs.Pages.{Pages}
@@ -19,23 +19,22 @@ use Rattle.page_codec.specs.Page.{FileKeys, accepts, keys_of, keys_with_salt, ma
 use Rattle.pager.specs.Base.{base_of}
 use Rattle.pager.specs.Changed.{same_layout}
 use Rattle.pager.specs.Database.{count_by, count_of}
-use Rattle.pager.specs.File.{main_of, page_stored}
+use Rattle.pager.specs.File.{page_stored}
 use Rattle.pager.specs.Opening.{file_opened}
 use Rattle.pager.specs.declared.opening.OpenError.{OpenError}
 use Rattle.pager.specs.declared.opening.OpenError.TheVariants.{Empty as IsEmpty, Short as IsShort, KeyRefused as NoKey, HeaderFault as AtFault, WalMode as IsWal, AutoVacuum as IsVacuum, Ragged as IsRagged, TooLarge as IsLarge, DiskFault as DiskFails, OutOfMemory as MemoryEnds}
-use Rattle.pager.specs.Pages.{is_number, opened_pages}
+use Rattle.pager.specs.Pages.{is_page_number, opened_pages}
 use Rattle.pager.specs.declared.fill.PageError.{PageError}
 use Rattle.pager.specs.declared.fill.PageError.TheVariants.{OutOfRange, TagRefused, DiskFault as PageFault, EntropyFault as DrawFault, AllPinned}
-use Rattle.rollback_journal.specs.Playing.{contents, main_of as read_main}
-use Rattle.transaction.specs.Commit.{IsCommitted, LeavesChanged}
+use Rattle.atomic_commit.specs.Commit.{IsCommitted, LeavesChanged}
 use Rattle.pager.specs.UnderWay.{HasNewPages, Start, is_touched, seen_pages, IsRefusedAs}
 use Rattle.pager.proofs.UnderWayLemmas.{same_main}
-use Rattle.transaction.specs.Database.{Base, HoldsEither, HoldsOld, HoldsOnly as HoldsPages, stored_pages}
-use Rattle.transaction.specs.Facts.{IsBase, IsBegun}
-use Rattle.transaction.specs.Marks.{is_marked}
+use Rattle.atomic_commit.specs.Database.{Base, HoldsEither, HoldsOld, HoldsPages, stored_pages}
+use Rattle.atomic_commit.specs.Facts.{IsBase, IsCommitBegun}
+use Rattle.atomic_commit.specs.Marks.{is_marked}
 use Rattle.sqlcipher_tool.specs.Answer.{IsFault}
 use Rattle.sqlcipher_tool.specs.Change.{Commits, IsLateChange, KeepsOld, KeepsOrCommits, change_status, IsStopOf}
-use Rattle.sqlcipher_tool.specs.Stop.{IsLate, stop_of}
+use Rattle.sqlcipher_tool.specs.Stop.{IsLateStop, stop_of}
 use Rattle.rekey_job.specs.Draws.{FileDraws}
 use Rattle.sqlcipher_tool.specs.Holding.{HoldsOnly, held_by}
 use Rattle.sqlcipher_tool.specs.Renewal.{WithDraws}
@@ -82,7 +81,7 @@ starts tells keys file header n size some opens = is_base tells keys file n size
 
 -- ---- what is written, and what a refused page stops
 
-one_number : (n : ℕ) → 1 ≤ n → is_number n 1 ≡ true
+one_number : (n : ℕ) → 1 ≤ n → is_page_number n 1 ≡ true
 one_number n some = search (rules, some)
 
 -- a transaction that changed nothing sees page 1 of the file, which is accepted where the file opens
@@ -157,9 +156,9 @@ page_late AllPinned stop is = absurd is
 -- what refuses page 1 after an earlier change of it
 pub refused_later : (tells : Bool) (first now : Pages) (a b d e f h : ℕ) (error : PageError) → now.count ≡ first.count → (IsTrue tells → now.accepts 1 ≡ true) → a ≤ b → e ≤ f
     → IsRefusedAs tells now 1 b d f h error → IsRefusedAs tells first 1 a d e h error
-refused_later tells first now a b d e f h OutOfRange same accepted disk entropy was = subst (λ (k : ℕ). is_number k 1 ≡ false) same was
+refused_later tells first now a b d e f h OutOfRange same accepted disk entropy was = subst (λ (k : ℕ). is_page_number k 1 ≡ false) same was
 refused_later tells first now a b d e f h (TagRefused page) same accepted disk entropy was =
-    (subst (λ (k : ℕ). is_number k 1 ≡ true) same was.0, was.1, λ told. absurd (differ (sym (accepted told) ∙ was.2 told)))
+    (subst (λ (k : ℕ). is_page_number k 1 ≡ true) same was.0, was.1, λ told. absurd (differ (sym (accepted told) ∙ was.2 told)))
 refused_later tells first now a b d e f h PageFault same accepted disk entropy was = omega (arith, disk, was)
 refused_later tells first now a b d e f h DrawFault same accepted disk entropy was = omega (arith, entropy, was)
 refused_later tells first now a b d e f h AllPinned same accepted disk entropy was = was
@@ -174,7 +173,7 @@ layout_same keys = parts (keys.profile.page_size == keys.profile.page_size) (key
 
 -- ---- a file that does not open
 
-pub stop_late : (error : OpenError) → IsLate (stop_of error)
+pub stop_late : (error : OpenError) → IsLateStop (stop_of error)
 stop_late IsEmpty = refl
 stop_late (IsShort len) = refl
 stop_late NoKey = tt
@@ -229,7 +228,7 @@ module _ {D : Type 0} (reads : D → Files) (images : D → Files → Type 0) (m
   was_old c holds = holds_old keys file n c some counts (subst (λ (b : Base). HoldsOld b c) is_start holds)
 
   -- what the transaction asks of the images
-  pub begun : IsBase start.base → IsBegun start.base (images old)
+  pub begun : IsBase start.base → IsCommitBegun start.base (images old)
   begun is = record {
     base_is = is;
     no_journal = λ c now. (alone c now).journal;
@@ -257,7 +256,7 @@ module _ {D : Type 0} (reads : D → Files) (images : D → Files → Type 0) (m
 
     module _ (field : Field) (value : ℕ) (salt : keys.salt ≡ salt_of file) (listed : IsListed keys.profile)
         (touched : ℕ → Bool) (pages : ℕ → List ℕ) (tells : Bool) (after : List ℕ)
-        (is_page : pages 1 ≡ stamped_page field value n (opened keys 1 (page_stored keys file 1))) (one : (m : ℕ) → is_number n m ≡ true → touched m ≡ (m == 1)) where
+        (is_page : pages 1 ≡ stamped_page field value n (opened keys 1 (page_stored keys file 1))) (one : (m : ℕ) → is_page_number n m ≡ true → touched m ≡ (m == 1)) where
       abbrev pub IsNew : List ℕ → Type 0
       IsNew = WithDraws (IsStamped keys field value file) tells (λ main. FileDraws keys main (λ m. m == 1) 0 (drop (length start.drawn) after))
 
@@ -288,11 +287,11 @@ module _ {D : Type 0} (reads : D → Files) (images : D → Files → Type 0) (m
           (subst (λ (b : Base). HoldsPages b (stored_pages b.size b.pages main) image) is_start is)
 
       -- the commit was done
-      pub done : HasNew (read_main (reads new)) → Each (images new) (IsCommitted start.base (read_main (reads new)))
-          → LeavesOnly moment since mid new (HoldsEither start.base (stored_pages start.base.size start.base.pages (read_main (reads new))))
+      pub done : HasNew (main_of (reads new)) → Each (images new) (IsCommitted start.base (main_of (reads new)))
+          → LeavesOnly moment since mid new (HoldsEither start.base (stored_pages start.base.size start.base.pages (main_of (reads new))))
           → Commits reads images moment since Done IsNew Old New old new
       done has now either =
-          let main = read_main (reads new) in
+          let main = main_of (reads new) in
           committed reads images moment since counts_now only_now start.base HasNew was_old is_new holds before main has now either
           (some_file (reads new).main (omega (arith, size_some, one_at n keys.profile.page_size (length main) some (is_long main has))))
         where
@@ -305,6 +304,6 @@ module _ {D : Type 0} (reads : D → Files) (images : D → Files → Type 0) (m
       pub failed : LeavesChanged moment since start.base HasNew mid new → KeepsOrCommits reads images moment since DiskFault IsNew Old New old new
       failed run = broken reads images moment since counts_now only_now start.base HasNew was_old is_new holds before run
 
-      pub draws : IsTrue tells → HasNew (read_main (reads new)) → FileDraws keys (main_of (reads new)) (λ m. m == 1) 0 (drop (length start.drawn) after)
+      pub draws : IsTrue tells → HasNew (main_of (reads new)) → FileDraws keys (main_of (reads new)) (λ m. m == 1) 0 (drop (length start.drawn) after)
       draws told has = subst (λ (l : List ℕ). FileDraws keys l (λ m. m == 1) 0 (drop (length start.drawn) after)) (sym (same_main (reads new)))
-          ((is_new (read_main (reads new)) has).1 told)
+          ((is_new (main_of (reads new)) has).1 told)

@@ -19,9 +19,9 @@ pub record Cause : Type 0 where
   pub answer : Answer
 
 -- the answer of the first cause that holds, none where none does
-abbrev pub first_of : List Cause → Option Answer
-first_of [] = None
-first_of (cause ∷ causes) = if cause.holds then Some cause.answer else first_of causes
+abbrev pub first_answer : List Cause → Option Answer
+first_answer [] = None
+first_answer (cause ∷ causes) = if cause.holds then Some cause.answer else first_answer causes
 
 abbrev pub done : List ℕ → Answer
 done report = record { status = Done; text = report; begun = report }
@@ -91,87 +91,87 @@ code_of EntropyFault = 7
 code_of OutOfMemory = 8
 
 -- the words or the key line alone decide it
-abbrev pub is_early : Refusal → Bool
-is_early NoTags = true
-is_early LayoutDiffers = true
-is_early KeyMissing = true
-is_early KeyEmpty = true
-is_early KeyTooLong = true
-is_early KeyForm = true
-is_early FileThere = false
-is_early JournalThere = false
-is_early Empty = false
-is_early (Short len) = false
-is_early (HeaderFault offset found) = false
-is_early WalMode = false
-is_early AutoVacuum = false
-is_early (Ragged len) = false
-is_early (TooLarge pages) = false
-is_early (PageTag page) = false
-is_early (JournalPageSize found) = false
-is_early SuperJournal = false
-is_early (Defect defect) = false
-is_early (TooManyPages limit) = false
-is_early NoTable = false
+abbrev pub is_early_refusal : Refusal → Bool
+is_early_refusal NoTags = true
+is_early_refusal LayoutDiffers = true
+is_early_refusal KeyMissing = true
+is_early_refusal KeyEmpty = true
+is_early_refusal KeyTooLong = true
+is_early_refusal KeyForm = true
+is_early_refusal FileThere = false
+is_early_refusal JournalThere = false
+is_early_refusal Empty = false
+is_early_refusal (Short len) = false
+is_early_refusal (HeaderFault offset found) = false
+is_early_refusal WalMode = false
+is_early_refusal AutoVacuum = false
+is_early_refusal (Ragged len) = false
+is_early_refusal (TooLarge pages) = false
+is_early_refusal (PageTag page) = false
+is_early_refusal (JournalPageSize found) = false
+is_early_refusal SuperJournal = false
+is_early_refusal (Defect defect) = false
+is_early_refusal (TooManyPages limit) = false
+is_early_refusal NoTable = false
 
 -- it is a page whose tag does not hold
-abbrev pub is_page : Refusal → Bool
-is_page NoTags = false
-is_page LayoutDiffers = false
-is_page KeyMissing = false
-is_page KeyEmpty = false
-is_page KeyTooLong = false
-is_page KeyForm = false
-is_page FileThere = false
-is_page JournalThere = false
-is_page Empty = false
-is_page (Short len) = false
-is_page (HeaderFault offset found) = false
-is_page WalMode = false
-is_page AutoVacuum = false
-is_page (Ragged len) = false
-is_page (TooLarge pages) = false
-is_page (PageTag page) = true
-is_page (JournalPageSize found) = false
-is_page SuperJournal = false
-is_page (Defect defect) = false
-is_page (TooManyPages limit) = false
-is_page NoTable = false
+abbrev pub is_page_refusal : Refusal → Bool
+is_page_refusal NoTags = false
+is_page_refusal LayoutDiffers = false
+is_page_refusal KeyMissing = false
+is_page_refusal KeyEmpty = false
+is_page_refusal KeyTooLong = false
+is_page_refusal KeyForm = false
+is_page_refusal FileThere = false
+is_page_refusal JournalThere = false
+is_page_refusal Empty = false
+is_page_refusal (Short len) = false
+is_page_refusal (HeaderFault offset found) = false
+is_page_refusal WalMode = false
+is_page_refusal AutoVacuum = false
+is_page_refusal (Ragged len) = false
+is_page_refusal (TooLarge pages) = false
+is_page_refusal (PageTag page) = true
+is_page_refusal (JournalPageSize found) = false
+is_page_refusal SuperJournal = false
+is_page_refusal (Defect defect) = false
+is_page_refusal (TooManyPages limit) = false
+is_page_refusal NoTable = false
 
 -- the one line of an answer that has one; pages whose tags do not hold have a line each
-abbrev pub line_of : Status → Option (List ℕ)
-line_of Done = None
-line_of Usage = Some usage_line
-line_of (Refused refusal) = if is_page refusal then None else Some (refusal_line refusal)
-line_of KeyRefused = Some key_refused_line
-line_of DiskFault = None
-line_of OutputFault = None
-line_of InputFault = None
-line_of EntropyFault = None
-line_of OutOfMemory = None
+abbrev pub status_line : Status → Option (List ℕ)
+status_line Done = None
+status_line Usage = Some usage_line
+status_line (Refused refusal) = if is_page_refusal refusal then None else Some (refusal_line refusal)
+status_line KeyRefused = Some key_refused_line
+status_line DiskFault = None
+status_line OutputFault = None
+status_line InputFault = None
+status_line EntropyFault = None
+status_line OutOfMemory = None
 
 -- an answer of one line puts exactly that line
 abbrev pub PutsLine : Status → List ℕ → List ℕ → Type 0
-PutsLine status before after = (line : List ℕ) → line_of status ≡ Some line → after ≡ before ++ line
+PutsLine status before after = (line : List ℕ) → status_line status ≡ Some line → after ≡ before ++ line
 
 -- it is a defect that was met
-abbrev pub is_defect : Status → Bool
-is_defect (Refused (Defect defect)) = true
-is_defect (Refused refusal) = false
-is_defect Done = false
-is_defect Usage = false
-is_defect KeyRefused = false
-is_defect DiskFault = false
-is_defect OutputFault = false
-is_defect InputFault = false
-is_defect EntropyFault = false
-is_defect OutOfMemory = false
+abbrev pub is_defect_status : Status → Bool
+is_defect_status (Refused (Defect defect)) = true
+is_defect_status (Refused refusal) = false
+is_defect_status Done = false
+is_defect_status Usage = false
+is_defect_status KeyRefused = false
+is_defect_status DiskFault = false
+is_defect_status OutputFault = false
+is_defect_status InputFault = false
+is_defect_status EntropyFault = false
+is_defect_status OutOfMemory = false
 
 -- an answer that needs no file
 abbrev pub IsEarly : Status → Type 0
 IsEarly Done = ⊥
 IsEarly Usage = Unit {0}
-IsEarly (Refused refusal) = IsTrue (is_early refusal)
+IsEarly (Refused refusal) = IsTrue (is_early_refusal refusal)
 IsEarly KeyRefused = ⊥
 IsEarly DiskFault = ⊥
 IsEarly OutputFault = ⊥

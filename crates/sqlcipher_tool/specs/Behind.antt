@@ -1,11 +1,10 @@
 -- What a command that recovers Main first leaves, where behind the recovery it only read.
 use Rattle.std.specs.Prelude.{◌≡◌, ◌<◌, Bool, false, length, Option, Some, None}
 use Rattle.cipher_profile.specs.declared.profile.Profile.{Profile}
-use Rattle.edge_model.specs.Files.{bytes_of}
+use Rattle.edge_model.specs.Files.{bytes_of, main_of}
 use Rattle.edge_model.specs.Images.{Each}
-use Rattle.pager.specs.File.{main_of}
-use Rattle.rollback_journal.specs.Recovery.{IsDone}
-use Rattle.sqlcipher_tool.specs.Answer.{is_early}
+use Rattle.rollback_journal.specs.Recovery.{IsPlaybackDone}
+use Rattle.sqlcipher_tool.specs.Answer.{is_early_refusal}
 use Rattle.sqlcipher_tool.specs.Holding.{DiskRun}
 use Rattle.sqlcipher_tool.specs.Promises.{IsUnrecovered}
 use Rattle.sqlcipher_tool.specs.declared.opening.ChangeError.{ChangeError}
@@ -20,7 +19,7 @@ use Rattle.sqlcipher_tool.specs.declared.status.Status.TheVariants.{Done, Usage,
 abbrev pub HasOnlyRead : Bool → Status → Type 0
 HasOnlyRead alters Done = alters ≡ false
 HasOnlyRead alters Usage = ⊥
-HasOnlyRead alters (Refused refusal) = (is_early refusal ≡ false) × (IsUnrecovered (Refused refusal) → ⊥)
+HasOnlyRead alters (Refused refusal) = (is_early_refusal refusal ≡ false) × (IsUnrecovered (Refused refusal) → ⊥)
 HasOnlyRead alters KeyRefused = Unit {0}
 HasOnlyRead alters DiskFault = ⊥
 HasOnlyRead alters OutputFault = ⊥
@@ -31,7 +30,7 @@ HasOnlyRead alters OutOfMemory = ⊥
 -- where Main had a byte, every image has the recovered file as Main and no journal
 abbrev pub IsRecovered : Profile → DiskRun → Type 0
 IsRecovered profile run =
-    0 < length (main_of run.before) → Each run.at_exit (IsDone profile.page_size (bytes_of run.before.main) (bytes_of run.before.journal))
+    0 < length (main_of run.before) → Each run.at_exit (IsPlaybackDone profile.page_size (bytes_of run.before.main) (bytes_of run.before.journal))
 
 -- so it is left by a command that recovers by this profile
 abbrev pub LeavesRecovered : Status → Bool → Option Profile → DiskRun → Type 0

@@ -13,7 +13,7 @@ use Rattle.sqlcipher_tool.specs.Migrate.{migrate_answers}
 use Rattle.sqlcipher_tool.specs.Rekey.{rekey_answers}
 use Rattle.sqlcipher_tool.specs.Renewal.{Renewal, pages_under}
 use Rattle.sqlcipher_tool.specs.Stamp.{stamp_answer}
-use Rattle.sqlcipher_tool.specs.Stop.{IsLate, stop_answer}
+use Rattle.sqlcipher_tool.specs.Stop.{IsLateStop, stop_answer}
 use Rattle.sqlcipher_tool.specs.declared.change.Change.{Change}
 use Rattle.sqlcipher_tool.specs.declared.change.Change.TheVariants.{Stamp as StampOf, Rekey as RekeyOf, Migrate as MigrateOf}
 use Rattle.sqlcipher_tool.specs.declared.command.Command.{Command}
@@ -89,7 +89,7 @@ change_answers MigrateOf renewal file after =
 
 -- it is none that the words or the key line alone decide
 abbrev pub IsLateChange : ChangeError → Type 0
-IsLateChange (Stopped stop) = IsLate stop
+IsLateChange (Stopped stop) = IsLateStop stop
 IsLateChange EntropyFails = Unit {0}
 
 -- One new file, from the first disk to the last: each image had the old one or it, and at the exit as the status says. `new` says

@@ -1,14 +1,14 @@
 -- What a crash at any moment of a run leaves, and what the run leaves at its end.
 use Rattle.std.specs.Prelude.{◌≡◌, ◌⊎◌, ℕ, Bool, true, IsTrue, List, [], ◌∷◌, Option, Some, None, Ok}
-use Rattle.edge_model.specs.Files.{Files, bytes_of}
+use Rattle.edge_model.specs.Files.{Files, bytes_of, main_of}
 use Rattle.edge_model.specs.Images.{Each, From}
-use Rattle.disk_side.specs.Published.{IsNew as IsAlone}
+use Rattle.fresh_disk.specs.Published.{IsAlone}
 use Rattle.fresh_file.specs.Draws.{HasOwnDraws as AreOwn}
-use Rattle.make_job.specs.Free.{IsFree}
+use Rattle.make_job.specs.Free.{HasNeither}
 use Rattle.make_job.specs.Made.{IsMade}
 use Rattle.cipher_profile.specs.declared.keys.Secret.{Secret}
 use Rattle.cipher_profile.specs.declared.profile.Profile.{Profile}
-use Rattle.rollback_journal.specs.Recovery.{Keeps as KeepsRecovered}
+use Rattle.rollback_journal.specs.Recovery.{KeepsRecovered}
 use Rattle.sqlcipher_tool.specs.declared.command.Command.{Command}
 use Rattle.sqlcipher_tool.specs.declared.command.Command.TheVariants.{Tags, Header, Verify, Export, Salvage, Find, Probe, Recover, Stamp, Rekey, Migrate, Make}
 use Rattle.sqlcipher_tool.specs.declared.status.Status.{Status}
@@ -18,10 +18,9 @@ use Rattle.sqlcipher_tool.specs.Holding.{Held, HoldsOnly, HoldsOneOf, AreOfSize,
 use Rattle.sqlcipher_tool.specs.Make.{has_main_or_journal}
 use Rattle.sqlcipher_tool.specs.Promises.{asks_some}
 use Rattle.sqlcipher_tool.specs.Recovered.{recovered_main}
-use Rattle.sqlcipher_tool.specs.Renewal.{Renewal, renewal, old_keys, new_keys, AreDrawn, IsNewDrawn, WithDraws}
+use Rattle.sqlcipher_tool.specs.Renewal.{Renewal, renewal, old_keys, new_keys, AreDrawnBy, IsNewDrawn, WithDraws}
 use Rattle.page_codec.specs.Page.{keys_of}
-use Rattle.pager.specs.File.{main_of}
-use Rattle.transaction.specs.Facts.{SameFresh}
+use Rattle.atomic_commit.specs.Facts.{SameFresh}
 
 -- ---- recovery, and the commands that only read after it
 
@@ -111,7 +110,7 @@ HasNoMain image = image.main ≡ None
 -- After Done Main is a made file. Where no image at the start has a Main or a Journal, there is never a Main, or there is one made file.
 pub record Makes (status : Status) (profile : Profile) (secret : Secret) (rows : ℕ) (tells : Bool) (drawn : List ℕ) (run : DiskRun) : Type 0 where
   pub made : status ≡ Done → IsMade profile secret rows (main_of run.after)
-  pub safely : Each run.at_start IsFree
+  pub safely : Each run.at_start HasNeither
       → StaysOrRenews status (WithDraws (IsMade profile secret rows) tells (λ file. AreOwn (keys_of profile secret file) file drawn)) HasNoMain IsAlone run
 
 -- the same with the secret that was given
@@ -142,30 +141,30 @@ Keeps (Make profile rows) run = KeepsFiles run
 
 -- What a command changes with the secrets that it was given, at every moment and by its status. `drawn` are the bytes that it drew, where
 -- the entropy tells them.
-abbrev pub Changes : Status → Command → (List Secret → Type 0) → Bool → List ℕ → DiskRun → Type 0
-Changes status (Tags profile) gave tells drawn run = Unit {0}
-Changes status (Header profile) gave tells drawn run = Unit {0}
-Changes status (Verify profile) gave tells drawn run = Unit {0}
-Changes status (Export profile) gave tells drawn run = Unit {0}
-Changes status (Salvage profile) gave tells drawn run = Unit {0}
-Changes status (Find profile name low high) gave tells drawn run = Unit {0}
-Changes status Probe gave tells drawn run = Unit {0}
-Changes status (Recover profile) gave tells drawn run = Unit {0}
-Changes status (Stamp profile field value) gave tells drawn run =
+abbrev pub ChangesBy : Status → Command → (List Secret → Type 0) → Bool → List ℕ → DiskRun → Type 0
+ChangesBy status (Tags profile) gave tells drawn run = Unit {0}
+ChangesBy status (Header profile) gave tells drawn run = Unit {0}
+ChangesBy status (Verify profile) gave tells drawn run = Unit {0}
+ChangesBy status (Export profile) gave tells drawn run = Unit {0}
+ChangesBy status (Salvage profile) gave tells drawn run = Unit {0}
+ChangesBy status (Find profile name low high) gave tells drawn run = Unit {0}
+ChangesBy status Probe gave tells drawn run = Unit {0}
+ChangesBy status (Recover profile) gave tells drawn run = Unit {0}
+ChangesBy status (Stamp profile field value) gave tells drawn run =
     (secrets : List Secret) → gave secrets
     → IsSafely status (Stamp profile field value) tells drawn run (renewal (Stamp profile field value) secrets)
-Changes status (Rekey old new) gave tells drawn run =
+ChangesBy status (Rekey old new) gave tells drawn run =
     (secrets : List Secret) → gave secrets → IsSafely status (Rekey old new) tells drawn run (renewal (Rekey old new) secrets)
-Changes status (Migrate old new) gave tells drawn run =
+ChangesBy status (Migrate old new) gave tells drawn run =
     (secrets : List Secret) → gave secrets → IsSafely status (Migrate old new) tells drawn run (renewal (Migrate old new) secrets)
-Changes status (Make profile rows) gave tells drawn run = (secrets : List Secret) → gave secrets → MakesWith status profile rows tells drawn run secrets
+ChangesBy status (Make profile rows) gave tells drawn run = (secrets : List Secret) → gave secrets → MakesWith status profile rows tells drawn run secrets
 
 -- what was drawn for the new file
 abbrev pub IsDrawnFor : Command → Option Renewal → List ℕ → List ℕ → Type 0
 IsDrawnFor command None file drawn = Unit {0}
-IsDrawnFor command (Some renewal) file drawn = AreDrawn command renewal file drawn
+IsDrawnFor command (Some renewal) file drawn = AreDrawnBy command renewal file drawn
 
 -- after Done, each page that the command sealed has drawn bytes of its own
-abbrev pub HasOwnDraws : Command → (List Secret → Type 0) → List ℕ → List ℕ → Type 0
-HasOwnDraws command gave file drawn =
+abbrev pub DrewOwn : Command → (List Secret → Type 0) → List ℕ → List ℕ → Type 0
+DrewOwn command gave file drawn =
     (secrets : List Secret) → gave secrets → IsDrawnFor command (renewal command secrets) file drawn

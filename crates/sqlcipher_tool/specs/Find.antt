@@ -6,7 +6,7 @@ use Rattle.db_format.specs.Pages.{Pages, nothing}
 use Rattle.db_format.specs.declared.defect.Defect.TheVariants.{BadKind}
 use Rattle.btree_model.specs.Finding.{Finding, place, leaf, entry, key, fault, refused as refused_page, entries, faults, refusals}
 use Rattle.btree_model.specs.Schema.{schema_part}
-use Rattle.rowid_find.specs.Lines.{found_report, rows_text}
+use Rattle.rowid_find.specs.Lines.{found_report, found_rows_text}
 use Rattle.rowid_find.specs.Reach.{reach_all}
 use Rattle.rowid_find.specs.Table.{Table, at_root, no_table, unaccepted, no_kind, schema_rows, table_of}
 use Rattle.sqlcipher_tool.specs.Answer.{Answer, done, refused}
@@ -40,7 +40,7 @@ before_stop (refused_page n ∷ rest) = []
 abbrev pub ended_answer : List Finding → Option Refusal → Answer
 ended_answer found None = done (found_report (entries found))
 ended_answer found (Some refusal) =
-    record { status = Refused refusal; text = rows_text (entries found) ++ refusal_line refusal; begun = rows_text (entries found) }
+    record { status = Refused refusal; text = found_rows_text (entries found) ++ refusal_line refusal; begun = found_rows_text (entries found) }
 
 -- the answer to a search that meets this
 abbrev pub met_answer : List Finding → Answer

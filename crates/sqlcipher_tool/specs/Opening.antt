@@ -1,13 +1,13 @@
 -- What stands in the way of opening a file, in the order in which it is looked at.
 use Rattle.std.specs.Prelude.{ℕ, ◌*◌, ◌<◌, List, [], ◌∷◌, length, map, nat_lt, Option, Some, None, Result, Ok, Err}
-use Rattle.edge_model.specs.Files.{Files}
+use Rattle.edge_model.specs.Files.{Files, main_of}
 use Rattle.edge_model.specs.Images.{Each}
 use Rattle.cipher_profile.specs.declared.keys.Secret.{Secret}
 use Rattle.cipher_profile.specs.declared.profile.Profile.{Profile}
 use Rattle.db_format.specs.Count.{largest_database}
 use Rattle.db_format.specs.Rules.{Rule}
 use Rattle.page_codec.specs.Page.{keys_of}
-use Rattle.pager.specs.File.{main_of, whole_pages}
+use Rattle.pager.specs.File.{whole_pages}
 use Rattle.pager.specs.Opening.{HasNoJournal, Opened, file_opened, key_rules, length_rules}
 use Rattle.pager.specs.declared.opening.OpenError.{OpenError}
 use Rattle.pager.specs.declared.opening.OpenError.TheVariants.{Empty as IsEmpty, Short as IsShort, KeyRefused as NoKey, HeaderFault as AtFault, WalMode as IsWal, AutoVacuum as IsVacuum, Ragged as IsRagged, TooLarge as IsLarge, DiskFault as DiskFails, OutOfMemory as MemoryEnds}

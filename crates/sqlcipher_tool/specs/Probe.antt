@@ -1,13 +1,13 @@
 -- What `probe` answers: the first profile whose key fits. It recovers nothing.
 use Rattle.std.specs.Prelude.{ℕ, ◌==◌, ◌&&◌, nat_le, Bool, List, [], ◌∷◌, length, is_some, unwrap_or, find, Option, Some, None}
-use Rattle.edge_model.specs.Files.{Files}
+use Rattle.edge_model.specs.Files.{Files, main_of}
 use Rattle.cipher_profile.specs.declared.keys.Secret.{Secret}
 use Rattle.cipher_profile.specs.declared.profile.Profile.{Profile}
 use Rattle.cipher_profile.specs.Profile.{probed_profiles}
 use Rattle.page_codec.specs.Page.{FileKeys, fits, keys_of}
-use Rattle.sqlcipher_tool.specs.Answer.{Answer, Cause, first_of, done, refused, key_refused}
+use Rattle.sqlcipher_tool.specs.Answer.{Answer, Cause, first_answer, done, refused, key_refused}
 use Rattle.sqlcipher_tool.specs.declared.status.Refusal.TheVariants.{JournalThere, Empty}
-use Rattle.pager.specs.File.{main_of, first_page}
+use Rattle.pager.specs.File.{first_page}
 use Rattle.sqlcipher_tool.specs.Text.{probe_report}
 
 -- the file has a page of the keys' profile, and the key fits it
@@ -36,4 +36,4 @@ first_fitting secret file = find (is_fitting secret file) probed_profiles
 
 -- the answer to `probe` with this secret
 abbrev pub probe_answer : Secret → Files → Answer
-probe_answer secret files = unwrap_or (first_of (probe_causes files)) (found_answer (first_fitting secret (main_of files)))
+probe_answer secret files = unwrap_or (first_answer (probe_causes files)) (found_answer (first_fitting secret (main_of files)))

@@ -1,6 +1,6 @@
 -- The file to which the files as they read recover, and the answer where there is none.
 use Rattle.std.specs.Prelude.{ℕ, List, [], ◌∷◌, Option, Some, None, Result, Ok, Err}
-use Rattle.edge_model.specs.Files.{Files, bytes_of}
+use Rattle.edge_model.specs.Files.{Files, bytes_of, main_of}
 use Rattle.cipher_profile.specs.declared.profile.Profile.{Profile}
 use Rattle.rollback_journal.specs.declared.recovery.Recovery.{Recovery}
 use Rattle.rollback_journal.specs.declared.recovery.RecoverError.{RecoverError}
@@ -9,7 +9,6 @@ use Rattle.rollback_journal.specs.Recovery.{recovered, answer_to}
 use Rattle.sqlcipher_tool.specs.Answer.{Answer, done, refused}
 use Rattle.sqlcipher_tool.specs.declared.status.Refusal.TheVariants.{JournalPageSize, SuperJournal}
 use Rattle.sqlcipher_tool.specs.declared.status.Status.TheVariants.{DiskFault, OutOfMemory}
-use Rattle.pager.specs.File.{main_of}
 use Rattle.sqlcipher_tool.specs.Text.{recovery_line}
 
 -- Main with the images of a hot journal laid, where bytes that no image gives are zeros

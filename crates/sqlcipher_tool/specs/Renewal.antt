@@ -8,7 +8,7 @@ use Rattle.sqlcipher_tool.specs.declared.command.Command.TheVariants.{Tags, Head
 use Rattle.fresh_file.specs.Draws.{HasOwnDraws}
 use Rattle.make_job.specs.Made.{IsMade}
 use Rattle.pager.specs.Database.{count_of}
-use Rattle.pager.specs.Pages.{is_number}
+use Rattle.pager.specs.Pages.{is_page_number}
 use Rattle.rekey_job.specs.Rekeyed.{IsRekeyed}
 use Rattle.rekey_job.specs.Draws.{FileDraws}
 use Rattle.sqlcipher_tool.specs.Migrate.{IsMigratedSo}
@@ -68,42 +68,42 @@ pub record IsRekeyedSo (old new : FileKeys) (before after : List ℕ) : Type 0 w
   pub rekeyed : IsRekeyed old new count before after
 
 -- how many pages the file has, 0 where it has no count
-abbrev pub pages_of : FileKeys → List ℕ → ℕ
-pages_of keys file = unwrap_or (count_of keys file) 0
+abbrev pub page_count_of : FileKeys → List ℕ → ℕ
+page_count_of keys file = unwrap_or (count_of keys file) 0
 
 -- the same under the keys that the secret gives for it
 abbrev pub pages_under : Profile → Secret → List ℕ → ℕ
-pages_under profile secret file = pages_of (keys_of profile secret file) file
+pages_under profile secret file = page_count_of (keys_of profile secret file) file
 
 -- the file `after` is a new file of the command for the file `before`
-abbrev pub IsNew : Command → Renewal → List ℕ → List ℕ → Type 0
-IsNew (Tags profile) renewal before after = ⊥
-IsNew (Header profile) renewal before after = ⊥
-IsNew (Verify profile) renewal before after = ⊥
-IsNew (Export profile) renewal before after = ⊥
-IsNew (Salvage profile) renewal before after = ⊥
-IsNew (Find profile name low high) renewal before after = ⊥
-IsNew Probe renewal before after = ⊥
-IsNew (Recover profile) renewal before after = ⊥
-IsNew (Stamp profile field value) renewal before after = IsStamped (old_keys renewal before) field value before after
-IsNew (Rekey old new) renewal before after = IsRekeyedSo (old_keys renewal before) (new_keys renewal after) before after
-IsNew (Migrate old new) renewal before after = IsMigratedSo (old_keys renewal before) (new_keys renewal after) before after
-IsNew (Make profile rows) renewal before after = IsMade renewal.new_profile renewal.new_secret rows after
+abbrev pub IsMadeBy : Command → Renewal → List ℕ → List ℕ → Type 0
+IsMadeBy (Tags profile) renewal before after = ⊥
+IsMadeBy (Header profile) renewal before after = ⊥
+IsMadeBy (Verify profile) renewal before after = ⊥
+IsMadeBy (Export profile) renewal before after = ⊥
+IsMadeBy (Salvage profile) renewal before after = ⊥
+IsMadeBy (Find profile name low high) renewal before after = ⊥
+IsMadeBy Probe renewal before after = ⊥
+IsMadeBy (Recover profile) renewal before after = ⊥
+IsMadeBy (Stamp profile field value) renewal before after = IsStamped (old_keys renewal before) field value before after
+IsMadeBy (Rekey old new) renewal before after = IsRekeyedSo (old_keys renewal before) (new_keys renewal after) before after
+IsMadeBy (Migrate old new) renewal before after = IsMigratedSo (old_keys renewal before) (new_keys renewal after) before after
+IsMadeBy (Make profile rows) renewal before after = IsMade renewal.new_profile renewal.new_secret rows after
 
 -- each page of the new file that the command sealed has drawn bytes of its own; a plain file takes none, and nothing is asked of one
-abbrev pub AreDrawn : Command → Renewal → List ℕ → List ℕ → Type 0
-AreDrawn (Tags profile) renewal file drawn = ⊥
-AreDrawn (Header profile) renewal file drawn = ⊥
-AreDrawn (Verify profile) renewal file drawn = ⊥
-AreDrawn (Export profile) renewal file drawn = ⊥
-AreDrawn (Salvage profile) renewal file drawn = ⊥
-AreDrawn (Find profile name low high) renewal file drawn = ⊥
-AreDrawn Probe renewal file drawn = ⊥
-AreDrawn (Recover profile) renewal file drawn = ⊥
-AreDrawn (Stamp profile field value) renewal file drawn = FileDraws (new_keys renewal file) file (λ n. n == 1) 0 drawn
-AreDrawn (Rekey old new) renewal file drawn = FileDraws (new_keys renewal file) file (is_number (pages_of (new_keys renewal file) file)) 0 drawn
-AreDrawn (Migrate old new) renewal file drawn = HasOwnDraws (new_keys renewal file) file drawn
-AreDrawn (Make profile rows) renewal file drawn = HasOwnDraws (new_keys renewal file) file drawn
+abbrev pub AreDrawnBy : Command → Renewal → List ℕ → List ℕ → Type 0
+AreDrawnBy (Tags profile) renewal file drawn = ⊥
+AreDrawnBy (Header profile) renewal file drawn = ⊥
+AreDrawnBy (Verify profile) renewal file drawn = ⊥
+AreDrawnBy (Export profile) renewal file drawn = ⊥
+AreDrawnBy (Salvage profile) renewal file drawn = ⊥
+AreDrawnBy (Find profile name low high) renewal file drawn = ⊥
+AreDrawnBy Probe renewal file drawn = ⊥
+AreDrawnBy (Recover profile) renewal file drawn = ⊥
+AreDrawnBy (Stamp profile field value) renewal file drawn = FileDraws (new_keys renewal file) file (λ n. n == 1) 0 drawn
+AreDrawnBy (Rekey old new) renewal file drawn = FileDraws (new_keys renewal file) file (is_page_number (page_count_of (new_keys renewal file) file)) 0 drawn
+AreDrawnBy (Migrate old new) renewal file drawn = HasOwnDraws (new_keys renewal file) file drawn
+AreDrawnBy (Make profile rows) renewal file drawn = HasOwnDraws (new_keys renewal file) file drawn
 
 -- such a file, and of it holds what is said of its draws, where the entropy tells them
 abbrev pub WithDraws : (List ℕ → Type 0) → Bool → (List ℕ → Type 0) → List ℕ → Type 0
@@ -111,4 +111,4 @@ WithDraws is_new tells own file = is_new file × (IsTrue tells → own file)
 
 -- the file `after` is a new file of the command for the file `before`, and the pages that the command sealed have drawn bytes of their own
 abbrev pub IsNewDrawn : Command → Renewal → Bool → List ℕ → List ℕ → List ℕ → Type 0
-IsNewDrawn command renewal tells drawn before after = WithDraws (IsNew command renewal before) tells (λ file. AreDrawn command renewal file drawn) after
+IsNewDrawn command renewal tells drawn before after = WithDraws (IsMadeBy command renewal before) tells (λ file. AreDrawnBy command renewal file drawn) after

@@ -9,7 +9,7 @@ use Rattle.pager.specs.File.{whole_pages}
 pub use Rattle.salvage_scan.specs.Salvage.{pages_of_file as file_pages}
 use Rattle.salvage_scan.specs.Salvage.{salvage_lines}
 use Rattle.salvage_scan.specs.Text.{salvage_report}
-use Rattle.sqlcipher_tool.specs.Answer.{Answer, Cause, done, first_of, key_refused}
+use Rattle.sqlcipher_tool.specs.Answer.{Answer, Cause, done, first_answer, key_refused}
 use Rattle.sqlcipher_tool.specs.Opening.{length_causes, size_causes}
 
 -- the profile has tags, and no page is accepted
@@ -27,4 +27,4 @@ salvage_causes profile file = length_causes profile file ++ size_causes profile 
 
 -- the answer to `salvage` on this file with this secret
 abbrev pub salvage_answer : Profile → Secret → List ℕ → Answer
-salvage_answer profile secret file = unwrap_or (first_of (salvage_causes profile file)) (salvaged_answer (keys_of profile secret file) file)
+salvage_answer profile secret file = unwrap_or (first_answer (salvage_causes profile file)) (salvaged_answer (keys_of profile secret file) file)

@@ -11,14 +11,14 @@ use Rattle.cipher_profile.specs.Profile.{IsListed, is_plain, usable}
 use Rattle.db_format.specs.Count.{largest_database}
 use Rattle.db_format.specs.Pages.{nothing}
 use Rattle.edge_model.specs.Causes.{Rose}
-use Rattle.edge_model.specs.Files.{File, Files}
+use Rattle.edge_model.specs.Files.{File, Files, main_of}
 use Rattle.db_maker.specs.Pages.{made_pages}
 use Rattle.fresh_file.specs.State.{most_pages}
 use Rattle.migrate_job.specs.Bound.{pages_at_most}
 use Rattle.page_codec.specs.Page.{accepts, fits, keys_of}
-use Rattle.pager.specs.File.{main_of, page_stored, whole_pages}
+use Rattle.pager.specs.File.{page_stored, whole_pages}
 use Rattle.pager.specs.Opening.{Opened}
-use Rattle.pager.specs.Pages.{is_number, opened_pages}
+use Rattle.pager.specs.Pages.{is_page_number, opened_pages}
 use Rattle.rowid_find.specs.Table.{at_root, schema_rows, table_of}
 use Rattle.sqlcipher_tool.specs.Answer.{Answer, done}
 use Rattle.sqlcipher_tool.specs.declared.command.Command.{Command}
@@ -56,11 +56,11 @@ pub record HasTags (profile : Profile) (secret : Secret) (file : List ℕ) : Typ
   pub some : 0 < whole_pages profile file
   pub few : whole_pages profile file * profile.page_size ≤ largest_database
   pub fit : fits (keys_of profile secret file) (page_stored (keys_of profile secret file) file 1) ≡ true
-  pub accepted : (n : ℕ) → is_number (whole_pages profile file) n ≡ true
+  pub accepted : (n : ℕ) → is_page_number (whole_pages profile file) n ≡ true
       → accepts (keys_of profile secret file) n (page_stored (keys_of profile secret file) file n) ≡ true
 
 -- the file has a page, and no more than are served; where the profile has tags a page is accepted
-pub record HasPages (profile : Profile) (secret : Secret) (file : List ℕ) : Type 0 where
+pub record HasServablePages (profile : Profile) (secret : Secret) (file : List ℕ) : Type 0 where
   pub some : 0 < whole_pages profile file
   pub few : whole_pages profile file * profile.page_size ≤ largest_database
   pub opens : opens_none (keys_of profile secret file) file ≡ false
@@ -78,7 +78,7 @@ abbrev pub HasFewPages : Profile → Content → Type 0
 HasFewPages new held = pages_at_most (usable new) (most_pages new) held ≤ most_pages new
 
 -- neither Main nor Journal is there, and the bound on the pages is within the limit
-pub record IsFree (profile : Profile) (rows : ℕ) (files : Files) : Type 0 where
+pub record CanMake (profile : Profile) (rows : ℕ) (files : Files) : Type 0 where
   pub no_main : files.main ≡ None
   pub no_journal : files.journal ≡ None
   pub few : made_pages (usable profile) rows ≤ most_pages profile
@@ -99,7 +99,7 @@ IsServable (Header profile) secrets files = ForOne secrets (λ secret. AfterReco
 IsServable (Verify profile) secrets files = ForOne secrets (λ secret. AfterRecovery profile files (λ file. IsClean (keys_of profile secret file) file))
 IsServable (Export profile) secrets files =
     ForOne secrets (λ secret. AfterRecovery profile files (λ file. (held : Content) × Opens (keys_of profile secret file) file held))
-IsServable (Salvage profile) secrets files = ForOne secrets (λ secret. AfterRecovery profile files (HasPages profile secret))
+IsServable (Salvage profile) secrets files = ForOne secrets (λ secret. AfterRecovery profile files (HasServablePages profile secret))
 IsServable (Find profile name low high) secrets files = ForOne secrets (λ secret. AfterRecovery profile files (HasTable profile secret name))
 IsServable Probe secrets files = ForOne secrets (λ secret. IsProbed secret files)
 IsServable (Recover profile) secrets files = IsOk (recovery_of profile files)
@@ -108,7 +108,7 @@ IsServable (Stamp profile field value) secrets files =
 IsServable (Rekey old new) secrets files = ForTwo secrets (λ first second. AfterRecovery old files (λ file. IsClean (keys_of old first file) file))
 IsServable (Migrate old new) secrets files =
     ForTwo secrets (λ first second. AfterRecovery old files (λ file. (held : Content) × Opens (keys_of old first file) file held × HasFewPages new held))
-IsServable (Make profile rows) secrets files = ForOne secrets (λ secret. IsFree profile rows files)
+IsServable (Make profile rows) secrets files = ForOne secrets (λ secret. CanMake profile rows files)
 
 -- The words make a command that they don't refuse, its key lines give their secrets, and nothing stands in its way.
 pub record CanBeServed (words : List (List ℕ)) (left : List ℕ) (files : Files) : Type 0 where
@@ -126,19 +126,19 @@ abbrev pub standing : File → Option File → Files
 standing file fresh = record { main = Some file; journal = None; fresh = fresh }
 
 -- the command reads a file of this profile, and nothing of what it asks rests on the size of the content; `probe` finds no plain file
-abbrev pub IsReading : Profile → Command → Type 0
-IsReading profile (Tags other) = other ≡ profile
-IsReading profile (Header other) = other ≡ profile
-IsReading profile (Verify other) = other ≡ profile
-IsReading profile (Export other) = other ≡ profile
-IsReading profile (Salvage other) = other ≡ profile
-IsReading profile (Find other name low high) = ⊥
-IsReading profile Probe = is_plain profile ≡ false
-IsReading profile (Recover other) = other ≡ profile
-IsReading profile (Stamp other field value) = other ≡ profile
-IsReading profile (Rekey old new) = old ≡ profile
-IsReading profile (Migrate old new) = ⊥
-IsReading profile (Make other rows) = ⊥
+abbrev pub IsReadCommand : Profile → Command → Type 0
+IsReadCommand profile (Tags other) = other ≡ profile
+IsReadCommand profile (Header other) = other ≡ profile
+IsReadCommand profile (Verify other) = other ≡ profile
+IsReadCommand profile (Export other) = other ≡ profile
+IsReadCommand profile (Salvage other) = other ≡ profile
+IsReadCommand profile (Find other name low high) = ⊥
+IsReadCommand profile Probe = is_plain profile ≡ false
+IsReadCommand profile (Recover other) = other ≡ profile
+IsReadCommand profile (Stamp other field value) = other ≡ profile
+IsReadCommand profile (Rekey old new) = old ≡ profile
+IsReadCommand profile (Migrate old new) = ⊥
+IsReadCommand profile (Make other rows) = ⊥
 
 -- ---- what follows
 

@@ -1,6 +1,6 @@
 -- What a command comes to, as an answer.
 use Rattle.std.specs.Prelude.{◌≡◌, ◌⊎◌, false, ℕ, List, Option, Some, None, Result, Ok, Err}
-use Rattle.sqlcipher_tool.specs.Answer.{Answer, done, refused, key_refused, is_early}
+use Rattle.sqlcipher_tool.specs.Answer.{Answer, done, refused, key_refused, is_early_refusal}
 use Rattle.pager.specs.declared.opening.OpenError.{OpenError}
 use Rattle.pager.specs.declared.opening.OpenError.TheVariants.{Empty as IsEmpty, Short as IsShort, KeyRefused as NoKey, HeaderFault as AtFault, WalMode as IsWal, AutoVacuum as IsVacuum, Ragged as IsRagged, TooLarge as IsLarge, DiskFault as DiskFails, OutOfMemory as MemoryEnds}
 use Rattle.sqlcipher_tool.specs.declared.status.Refusal.TheVariants.{Empty, Short, HeaderFault, WalMode, AutoVacuum, Ragged, TooLarge}
@@ -28,11 +28,11 @@ stop_of DiskFails = StopDisk
 stop_of MemoryEnds = StopMemory
 
 -- it is none that the words or the key line alone decide
-abbrev pub IsLate : Stop → Type 0
-IsLate (StopRefused refusal) = is_early refusal ≡ false
-IsLate StopKey = Unit {0}
-IsLate StopDisk = Unit {0}
-IsLate StopMemory = Unit {0}
+abbrev pub IsLateStop : Stop → Type 0
+IsLateStop (StopRefused refusal) = is_early_refusal refusal ≡ false
+IsLateStop StopKey = Unit {0}
+IsLateStop StopDisk = Unit {0}
+IsLateStop StopMemory = Unit {0}
 
 -- the answer of a report, or of the stop in its place
 abbrev pub outcome_answer : Result (List ℕ) Stop → Option Answer

@@ -1,9 +1,8 @@
 -- A command that recovers Main first leaves the disk alone where there is no file to recover.
 use Rattle.std.specs.Prelude.{◌≡◌, ◌⊎◌, length, Option, Some, None, IsErr}
 use Rattle.cipher_profile.specs.declared.profile.Profile.{Profile}
-use Rattle.edge_model.specs.Files.{Files}
+use Rattle.edge_model.specs.Files.{Files, main_of}
 use Rattle.edge_model.specs.Images.{Each}
-use Rattle.pager.specs.File.{main_of}
 use Rattle.sqlcipher_tool.specs.Holding.{DiskRun}
 use Rattle.sqlcipher_tool.specs.Recovered.{recovery_of}
 use Rattle.sqlcipher_tool.specs.declared.command.Command.{Command}

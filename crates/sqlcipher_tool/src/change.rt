@@ -1,15 +1,15 @@
 // A change of the file: it is recovered, opened, and changed in one transaction, or written anew.
 ghost use Rattle.std.specs.Prelude.{◌≡◌, ◌≤◌, drop, length, true, false, None, Some, Err, IfErr, IsErr, OnOk, IsTrue};
 ghost use Rattle.std.specs.List.{Contains};
-ghost use Rattle.disk_side.specs.OnlyFresh.{IsOld};
-ghost use Rattle.disk_side.specs.Published.{IsNew as IsAlone};
+ghost use Rattle.fresh_disk.specs.OnlyFresh.{IsOld};
+ghost use Rattle.fresh_disk.specs.Published.{IsAlone};
 ghost use Rattle.cipher_profile.specs.Profile.{IsListed};
 ghost use Rattle.edge_model.specs.Causes.{Rose};
 ghost use Rattle.edge_model.specs.Images.{Each, From, LeavesOnly};
 ghost use Rattle.edge_model.specs.OnlyRead.{OnlyRead};
 ghost use Rattle.page_codec.specs.Page.{keys_of};
-ghost use Rattle.pager.specs.File.{main_of};
-ghost use Rattle.transaction.specs.Facts.{SameFresh};
+ghost use Rattle.edge_model.specs.Files.{main_of};
+ghost use Rattle.atomic_commit.specs.Facts.{SameFresh};
 ghost use Rattle.sqlcipher_tool.specs.Answer.{Answer, HasDrawnCauses, PutsLine};
 ghost use Rattle.sqlcipher_tool.specs.Behind.{HasOnlyRead, IsRecovered, IsRefusedChange};
 ghost use Rattle.sqlcipher_tool.specs.Change.{IsChangeBetween, IsLateChange, KeepsOrCommits, change_answer, change_answers, change_status, command_of, is_in_place};
@@ -18,7 +18,7 @@ ghost use Rattle.sqlcipher_tool.specs.Holding.{HoldsOnly, disk_run, held_by};
 ghost use Rattle.sqlcipher_tool.specs.Opening.{AreRecovered, opened_with};
 ghost use Rattle.sqlcipher_tool.specs.Promises.{AnswersOne, IsUnrecovered};
 ghost use Rattle.sqlcipher_tool.specs.Recovered.{recovered_answers};
-ghost use Rattle.sqlcipher_tool.specs.Renewal.{AreDrawn, IsNewDrawn, from_to};
+ghost use Rattle.sqlcipher_tool.specs.Renewal.{AreDrawnBy, IsNewDrawn, from_to};
 ghost use Rattle.sqlcipher_tool.specs.Untouched.{HasNoFile, IsUnwritten};
 
 use crate::command::Field;
@@ -75,7 +75,7 @@ pub fn change_file<S: Sink, E: Entropy, D: Disk>(
     ensures fresh { IsTrue D.tells → is_in_place change ≡ true → LeavesOnly D.moment D.since disk.old disk.new (From SameFresh (D.images disk.old)) }
     ensures fresh_gone { IsTrue D.tells → result ≡ Status.Done → is_in_place change ≡ false → (D.reads disk.new).fresh ≡ None }
     ensures own_draws { IsTrue D.tells → IsTrue E.tells → result ≡ Status.Done
-        → AreDrawn (command_of change old new) (from_to old first.now new second.now)
+        → AreDrawnBy (command_of change old new) (from_to old first.now new second.now)
         (main_of (D.reads disk.new)) (drop (length (E.drawn entropy.old)) (E.drawn entropy.new)) }
     ensures unrecovered { IsTrue D.tells → IsUnrecovered result → D.reads disk.new ≡ D.reads disk.old }
     ensures recovered { IsTrue D.tells → HasOnlyRead true result → IsRecovered old (disk_run D.reads D.images D.moment D.since disk.old disk.new) }
@@ -118,7 +118,7 @@ fn change_main<S: Sink, E: Entropy, D: Disk>(
     ensures unopened { IsTrue D.tells → IsErr (opened_with old first.now (main_of (D.reads disk.old))) → OnlyRead D.reads D.images D.moment D.since disk.old disk.new }
     ensures fresh_gone { IsTrue D.tells → result ≡ Status.Done → is_in_place change ≡ false → (D.reads disk.new).fresh ≡ None }
     ensures own_draws { IsTrue D.tells → IsTrue E.tells → result ≡ Status.Done
-        → AreDrawn (command_of change old new) (from_to old first.now new second.now)
+        → AreDrawnBy (command_of change old new) (from_to old first.now new second.now)
         (main_of (D.reads disk.new)) (drop (length (E.drawn entropy.old)) (E.drawn entropy.new)) }
 {
     match change_opened(alloc, change, old, new, first, second, entropy, disk) {
@@ -155,7 +155,7 @@ fn change_opened<E: Entropy, D: Disk>(
     ensures unopened { IsTrue D.tells → IsErr (opened_with old first.now (main_of (D.reads disk.old))) → OnlyRead D.reads D.images D.moment D.since disk.old disk.new }
     ensures fresh_gone { IsTrue D.tells → is_in_place change ≡ false → OnOk result ((D.reads disk.new).fresh ≡ None) }
     ensures own_draws { OnOk result (IsTrue D.tells → IsTrue E.tells
-        → AreDrawn (command_of change old new) (from_to old first.now new second.now)
+        → AreDrawnBy (command_of change old new) (from_to old first.now new second.now)
         (main_of (D.reads disk.new)) (drop (length (E.drawn entropy.old)) (E.drawn entropy.new))) }
     ensures late { IfErr result IsLateChange }
     ensures disk_fault { result ≡ Err (ChangeError.Stopped Stop.DiskFault) → Rose (D.faults disk.old) (D.faults disk.new) }

@@ -4,7 +4,7 @@ ghost use Rattle.edge_model.specs.Causes.{Rose};
 ghost use Rattle.sqlcipher_tool.specs.Answer.{Answer, IsAnswer, IsEarly, IsKeyStatus, IsStopStatus, Puts, PutsLine};
 ghost use Rattle.sqlcipher_tool.specs.Due.{key_answer};
 ghost use Rattle.sqlcipher_tool.specs.Text.{refusal_line};
-ghost use Rattle.sqlcipher_tool.specs.Stop.{stop_answer, outcome_answer, IsLate};
+ghost use Rattle.sqlcipher_tool.specs.Stop.{stop_answer, outcome_answer, IsLateStop};
 
 use crate::opening::Stop;
 use crate::status::{Refusal, Status};
@@ -65,7 +65,7 @@ pub fn conclude_stop<S: Sink>(out: &mut S, stop: Stop) -> Status
     ensures no_disk { result ≡ Status.DiskFault → stop ≡ Stop.DiskFault }
     ensures memory { stop ≡ Stop.OutOfMemory → (result ≡ Status.OutOfMemory) × (out.new ≡ out.old) }
     ensures no_memory { result ≡ Status.OutOfMemory → stop ≡ Stop.OutOfMemory }
-    ensures late { IsLate stop → IsEarly result → ⊥ }
+    ensures late { IsLateStop stop → IsEarly result → ⊥ }
     ensures line { IsTrue S.tells → PutsLine result (S.taken out.old) (S.taken out.new) }
     ensures fault { result ≡ Status.OutputFault → Rose (S.faults out.old) (S.faults out.new) }
     ensures others { IsStopStatus result }
@@ -87,7 +87,7 @@ pub fn conclude_outcome<S: Sink>(out: &mut S, outcome: Result<Text, Stop>) -> St
     ensures no_disk { result ≡ Status.DiskFault → outcome ≡ Err Stop.DiskFault }
     ensures memory { outcome ≡ Err Stop.OutOfMemory → (result ≡ Status.OutOfMemory) × (out.new ≡ out.old) }
     ensures no_memory { result ≡ Status.OutOfMemory → outcome ≡ Err Stop.OutOfMemory }
-    ensures late { IfErr outcome IsLate → IsEarly result → ⊥ }
+    ensures late { IfErr outcome IsLateStop → IsEarly result → ⊥ }
     ensures line { IsTrue S.tells → PutsLine result (S.taken out.old) (S.taken out.new) }
     ensures fault { result ≡ Status.OutputFault → Rose (S.faults out.old) (S.faults out.new) }
     ensures others { IsStopStatus result }

@@ -4,9 +4,9 @@ ghost use Rattle.edge_model.specs.Causes.{Rose};
 ghost use Rattle.edge_model.specs.Images.{From, LeavesOnly};
 ghost use Rattle.edge_model.specs.OnlyRead.{OnlyRead};
 ghost use Rattle.cipher_profile.specs.Profile.{IsListed};
-ghost use Rattle.pager.specs.File.{main_of};
+ghost use Rattle.edge_model.specs.Files.{main_of};
 ghost use Rattle.pager.specs.Opening.{file_opened};
-ghost use Rattle.rollback_journal.specs.Recovery.{Keeps};
+ghost use Rattle.rollback_journal.specs.Recovery.{KeepsRecovered};
 ghost use Rattle.sqlcipher_tool.specs.Behind.{HasOnlyRead, IsRecovered};
 ghost use Rattle.sqlcipher_tool.specs.Answer.{Puts, PutsLine, IsAnswered, HasCauses};
 ghost use Rattle.sqlcipher_tool.specs.Header.{header_answer};
@@ -14,7 +14,7 @@ ghost use Rattle.sqlcipher_tool.specs.Holding.{disk_run};
 ghost use Rattle.sqlcipher_tool.specs.Opening.{AreRecovered};
 ghost use Rattle.sqlcipher_tool.specs.Promises.{IsUnrecovered};
 ghost use Rattle.sqlcipher_tool.specs.Recovered.{recovered_answer};
-ghost use Rattle.sqlcipher_tool.specs.Stop.{outcome_answer, IsLate};
+ghost use Rattle.sqlcipher_tool.specs.Stop.{outcome_answer, IsLateStop};
 ghost use Rattle.sqlcipher_tool.specs.Text.{header_report};
 ghost use Rattle.sqlcipher_tool.specs.Untouched.{HasNoFile, IsUnwritten};
 
@@ -44,7 +44,7 @@ pub fn header<S: Sink, E: Entropy, D: Disk>(
     ensures disk_text { result ≡ Status.DiskFault → out.new ≡ out.old }
     ensures memory_text { result ≡ Status.OutOfMemory → out.new ≡ out.old }
     ensures causes { HasCauses result (D.faults disk.old) (D.faults disk.new) (S.faults out.old) (S.faults out.new) }
-    ensures keeps { IsTrue D.tells → LeavesOnly D.moment D.since disk.old disk.new (From (Keeps profile.page_size) (D.images disk.old)) }
+    ensures keeps { IsTrue D.tells → LeavesOnly D.moment D.since disk.old disk.new (From (KeepsRecovered profile.page_size) (D.images disk.old)) }
     ensures draws { entropy.new ≡ entropy.old }
     ensures unrecovered { IsTrue D.tells → IsUnrecovered result → D.reads disk.new ≡ D.reads disk.old }
     ensures recovered { IsTrue D.tells → HasOnlyRead false result → IsRecovered profile (disk_run D.reads D.images D.moment D.since disk.old disk.new) }
@@ -92,7 +92,7 @@ fn describe_main<E: Entropy, D: Disk>(
     requires recovered { IsTrue D.tells → AreRecovered (D.reads disk.old) (D.images disk.old) }
     ensures told { IsTrue D.tells → (result ≡ Err Stop.DiskFault) ⊎ ((result ≡ Err Stop.OutOfMemory)
         ⊎ (outcome_answer result ≡ Some (header_answer profile secret.now (main_of (D.reads disk.old))))) }
-    ensures late { IfErr result IsLate }
+    ensures late { IfErr result IsLateStop }
     ensures cause { IfErr result (λ stop. stop ≡ Stop.DiskFault → Rose (D.faults disk.old) (D.faults disk.new)) }
     ensures later { D.faults disk.old ≤ D.faults disk.new }
     ensures draws { entropy.new ≡ entropy.old }

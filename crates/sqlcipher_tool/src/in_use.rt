@@ -2,7 +2,7 @@
 ghost use Rattle.std.specs.Prelude.{◌≡◌, ◌⊎◌, ◌≤◌, ◌++◌, ◌∷◌, [], slice_get, option_to_list, None, Some, Ok, IfOk, IfErr, OnOk, OnErr, IsTrue, Err};
 ghost use Rattle.edge_model.specs.Causes.{Rose};
 ghost use Rattle.db_format.specs.Seen.{marked};
-ghost use Rattle.pager.specs.File.{main_of};
+ghost use Rattle.edge_model.specs.Files.{main_of};
 ghost use Rattle.pager.specs.Pages.{opened_pages};
 ghost use Rattle.pager.specs.Reads.{DiskRead, Untouched};
 ghost use Rattle.sqlcipher_tool.specs.Answer.{PutsPart};

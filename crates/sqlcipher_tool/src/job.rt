@@ -5,14 +5,14 @@ ghost use Rattle.edge_model.specs.OnlyRead.{OnlyRead};
 ghost use Rattle.cipher_profile.specs.Profile.{IsListed};
 ghost use Rattle.db_format.specs.Header.{header_fields};
 ghost use Rattle.db_format.specs.Source.{no_pins};
-ghost use Rattle.pager.specs.File.{main_of};
+ghost use Rattle.edge_model.specs.Files.{main_of};
 ghost use Rattle.pager.specs.Held.{pins_of};
 ghost use Rattle.pager.specs.Opening.{file_opened};
 ghost use Rattle.pager.specs.Pages.{opened_pages};
 ghost use Rattle.pager.specs.Reads.{DiskRead, Untouched};
-ghost use Rattle.rollback_journal.specs.Recovery.{Keeps};
+ghost use Rattle.rollback_journal.specs.Recovery.{KeepsRecovered};
 ghost use Rattle.sqlcipher_tool.specs.Behind.{HasOnlyRead, IsRecovered};
-ghost use Rattle.sqlcipher_tool.specs.Answer.{HasCauses, PutsLine, is_defect};
+ghost use Rattle.sqlcipher_tool.specs.Answer.{HasCauses, PutsLine, is_defect_status};
 ghost use Rattle.sqlcipher_tool.specs.Holding.{disk_run};
 ghost use Rattle.sqlcipher_tool.specs.Opening.{AreRecovered};
 ghost use Rattle.sqlcipher_tool.specs.Promises.{AnswersOne, IsUnrecovered};
@@ -64,9 +64,9 @@ pub fn answer_job<S: Sink, E: Entropy, D: Disk>(
     requires { IsListed profile }
     ensures answer { IsTrue D.tells
         → AnswersOne (recovered_answers profile (D.reads disk.old) (job_answers job.entry profile secret.now)) result S.tells (S.taken out.old) (S.taken out.new) }
-    ensures line { IsTrue S.tells → (prints_rows job.entry ≡ true → is_defect result ≡ false) → PutsLine result (S.taken out.old) (S.taken out.new) }
+    ensures line { IsTrue S.tells → (prints_rows job.entry ≡ true → is_defect_status result ≡ false) → PutsLine result (S.taken out.old) (S.taken out.new) }
     ensures causes { HasCauses result (D.faults disk.old) (D.faults disk.new) (S.faults out.old) (S.faults out.new) }
-    ensures keeps { IsTrue D.tells → LeavesOnly D.moment D.since disk.old disk.new (From (Keeps profile.page_size) (D.images disk.old)) }
+    ensures keeps { IsTrue D.tells → LeavesOnly D.moment D.since disk.old disk.new (From (KeepsRecovered profile.page_size) (D.images disk.old)) }
     ensures draws { entropy.new ≡ entropy.old }
     ensures unrecovered { IsTrue D.tells → IsUnrecovered result → D.reads disk.new ≡ D.reads disk.old }
     ensures recovered { IsTrue D.tells → HasOnlyRead false result → IsRecovered profile (disk_run D.reads D.images D.moment D.since disk.old disk.new) }
@@ -91,7 +91,7 @@ fn job_on_main<S: Sink, E: Entropy, D: Disk>(
     requires listed { IsListed profile }
     requires recovered { IsTrue D.tells → AreRecovered (D.reads disk.old) (D.images disk.old) }
     ensures answer { IsTrue D.tells → AnswersOne (job_answers job.entry profile secret.now (main_of (D.reads disk.old))) result S.tells (S.taken out.old) (S.taken out.new) }
-    ensures line { IsTrue S.tells → (prints_rows job.entry ≡ true → is_defect result ≡ false) → PutsLine result (S.taken out.old) (S.taken out.new) }
+    ensures line { IsTrue S.tells → (prints_rows job.entry ≡ true → is_defect_status result ≡ false) → PutsLine result (S.taken out.old) (S.taken out.new) }
     ensures causes { HasCauses result (D.faults disk.old) (D.faults disk.new) (S.faults out.old) (S.faults out.new) }
     ensures draws { entropy.new ≡ entropy.old }
     ensures only_read { IsTrue D.tells → OnlyRead D.reads D.images D.moment D.since disk.old disk.new }
@@ -114,7 +114,7 @@ fn job_on_file<S: Sink, E: Entropy, D: Disk>(
     requires { IsTrue D.tells → file_opened file.codec (main_of (D.reads disk.old)) ≡ Ok (record { header = file.header; count = file.count }) }
     ensures answer { IsTrue D.tells
         → AnswersOne (job_due job.entry (opened_pages file.codec (main_of (D.reads disk.old)) file.count)) result S.tells (S.taken out.old) (S.taken out.new) }
-    ensures line { IsTrue S.tells → (prints_rows job.entry ≡ true → is_defect result ≡ false) → PutsLine result (S.taken out.old) (S.taken out.new) }
+    ensures line { IsTrue S.tells → (prints_rows job.entry ≡ true → is_defect_status result ≡ false) → PutsLine result (S.taken out.old) (S.taken out.new) }
     ensures causes { HasCauses result (D.faults disk.old) (D.faults disk.new) (S.faults out.old) (S.faults out.new) }
     ensures draws { entropy.new ≡ entropy.old }
     ensures only_read { IsTrue D.tells → OnlyRead D.reads D.images D.moment D.since disk.old disk.new }
@@ -140,7 +140,7 @@ fn job_on_pages<S: Sink, E: Entropy, D: Disk>(
     requires unpinned { pins_of pager.old.cache.held ≡ no_pins }
     ensures answer { IsTrue D.tells
         → AnswersOne (job_due job.entry (opened_pages pager.old.codec (main_of (D.reads pager.old.disk.now)) pager.old.count)) result S.tells (S.taken out.old) (S.taken out.new) }
-    ensures line { IsTrue S.tells → (prints_rows job.entry ≡ true → is_defect result ≡ false) → PutsLine result (S.taken out.old) (S.taken out.new) }
+    ensures line { IsTrue S.tells → (prints_rows job.entry ≡ true → is_defect_status result ≡ false) → PutsLine result (S.taken out.old) (S.taken out.new) }
     ensures causes { HasCauses result (D.faults pager.old.disk.now) (D.faults pager.new.disk.now) (S.faults out.old) (S.faults out.new) }
     ensures disk { DiskRead D.tells D.reads D.images D.moment D.since D.faults pager.old.disk pager.new.disk }
     ensures entropy { Untouched pager.old.entropy pager.new.entropy }

@@ -2,15 +2,15 @@
 ghost use Rattle.std.specs.Prelude.{◌≡◌, ◌≤◌, drop, length, true, None, Some, Err, IfErr, OnOk, IsTrue};
 ghost use Rattle.std.specs.List.{Contains};
 ghost use Rattle.cipher_profile.specs.Profile.{IsListed};
-ghost use Rattle.disk_side.specs.Published.{IsNew};
+ghost use Rattle.fresh_disk.specs.Published.{IsAlone};
 ghost use Rattle.edge_model.specs.Causes.{Rose};
 ghost use Rattle.edge_model.specs.Images.{Each, From, LeavesOnly};
 ghost use Rattle.edge_model.specs.OnlyRead.{OnlyRead};
-ghost use Rattle.make_job.specs.Free.{IsFree};
+ghost use Rattle.make_job.specs.Free.{HasNeither};
 ghost use Rattle.fresh_file.specs.Draws.{HasOwnDraws};
 ghost use Rattle.make_job.specs.Made.{IsMade};
 ghost use Rattle.page_codec.specs.Page.{keys_of};
-ghost use Rattle.pager.specs.File.{main_of};
+ghost use Rattle.edge_model.specs.Files.{main_of};
 ghost use Rattle.sqlcipher_tool.specs.Answer.{Answer, HasDrawnCauses, PutsLine};
 ghost use Rattle.sqlcipher_tool.specs.Change.{IsLateChange, KeepsOrCommits, change_answer, change_status};
 ghost use Rattle.sqlcipher_tool.specs.Crash.{HasNoMain, Makes, SameJournal};
@@ -72,9 +72,9 @@ fn make_database<E: Entropy, D: Disk>(
     requires { IsListed profile }
     ensures told { IsTrue D.tells → (answer : Answer) → change_answer result ≡ Some answer → Contains (make_answers profile rows (D.reads disk.old)) answer }
     ensures made { OnOk result (IsTrue D.tells → IsMade profile secret.now rows (main_of (D.reads disk.new))) }
-    ensures safely { IsTrue D.tells → Each (D.images disk.old) IsFree
+    ensures safely { IsTrue D.tells → Each (D.images disk.old) HasNeither
         → KeepsOrCommits D.reads D.images D.moment D.since (change_status result)
-        (WithDraws (IsMade profile secret.now rows) E.tells (λ file. HasOwnDraws (keys_of profile secret.now file) file (drop (length (E.drawn entropy.old)) (E.drawn entropy.new)))) HasNoMain IsNew disk.old disk.new }
+        (WithDraws (IsMade profile secret.now rows) E.tells (λ file. HasOwnDraws (keys_of profile secret.now file) file (drop (length (E.drawn entropy.old)) (E.drawn entropy.new)))) HasNoMain IsAlone disk.old disk.new }
     ensures only_read { IsTrue D.tells → has_main_or_journal (D.reads disk.old) ≡ true → OnlyRead D.reads D.images D.moment D.since disk.old disk.new }
     ensures journal { IsTrue D.tells → LeavesOnly D.moment D.since disk.old disk.new (From SameJournal (D.images disk.old)) }
     ensures undrawn { IsTrue D.tells → has_main_or_journal (D.reads disk.old) ≡ true → entropy.new ≡ entropy.old }

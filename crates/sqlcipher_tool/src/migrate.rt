@@ -3,14 +3,14 @@ ghost use Rattle.std.specs.Prelude.{◌≡◌, ◌≤◌, ℕ, List, drop, lengt
 ghost use Rattle.std.specs.List.{Contains};
 ghost use Rattle.cipher_profile.specs.Profile.{IsListed};
 ghost use Rattle.db_format.specs.Source.{no_pins};
-ghost use Rattle.disk_side.specs.OnlyFresh.{IsOld};
-ghost use Rattle.disk_side.specs.Published.{IsNew as IsAlone};
+ghost use Rattle.fresh_disk.specs.OnlyFresh.{IsOld};
+ghost use Rattle.fresh_disk.specs.Published.{IsAlone};
 ghost use Rattle.edge_model.specs.Causes.{Rose};
 ghost use Rattle.edge_model.specs.Images.{Each};
 ghost use Rattle.edge_model.specs.OnlyRead.{OnlyRead};
 ghost use Rattle.fresh_file.specs.Draws.{HasOwnDraws};
 ghost use Rattle.page_codec.specs.Page.{keys_of};
-ghost use Rattle.pager.specs.File.{main_of};
+ghost use Rattle.edge_model.specs.Files.{main_of};
 ghost use Rattle.pager.specs.Held.{pins_of};
 ghost use Rattle.pager.specs.Opening.{file_opened};
 ghost use Rattle.pager.specs.Pages.{opened_pages};

@@ -5,7 +5,7 @@ ghost use Rattle.cipher_profile.specs.declared.profile.Profile.{Profile as Kind}
 ghost use Rattle.edge_model.specs.Causes.{Rose};
 ghost use Rattle.edge_model.specs.OnlyRead.{OnlyRead};
 ghost use Rattle.db_format.specs.Source.{no_pins};
-ghost use Rattle.pager.specs.File.{main_of};
+ghost use Rattle.edge_model.specs.Files.{main_of};
 ghost use Rattle.pager.specs.Held.{pins_of};
 ghost use Rattle.pager.specs.Opening.{file_opened};
 ghost use Rattle.pager.specs.Pages.{opened_pages};

@@ -5,10 +5,10 @@ ghost use Rattle.edge_model.specs.OnlyRead.{OnlyRead};
 ghost use Rattle.cipher_profile.specs.Profile.{IsListed, is_plain};
 ghost use Rattle.db_format.specs.Count.{largest_database};
 ghost use Rattle.page_codec.specs.Page.{codec_salt, keys_of, magic};
-ghost use Rattle.pager.specs.File.{main_of};
-ghost use Rattle.sqlcipher_tool.specs.Answer.{first_of};
+ghost use Rattle.edge_model.specs.Files.{main_of};
+ghost use Rattle.sqlcipher_tool.specs.Answer.{first_answer};
 ghost use Rattle.sqlcipher_tool.specs.Opening.{length_causes, key_causes, opened_with, unopened_answer, AreRecovered};
-ghost use Rattle.sqlcipher_tool.specs.Stop.{stop_answer, IsLate, IsOutside};
+ghost use Rattle.sqlcipher_tool.specs.Stop.{stop_answer, IsLateStop, IsOutside};
 ghost use Rattle.sqlcipher_tool.specs.declared.opening.Stop.TheVariants.{DiskFault};
 ghost use Rattle.sqlcipher_tool.specs.declared.opening.ChangeError.TheVariants.{Stopped};
 ghost use Rattle.sqlcipher_tool.specs.declared.status.Refusal.TheVariants.{TooLarge};
@@ -100,7 +100,7 @@ pub fn open_main<D: Disk>(
     ensures profile { IfOk result (λ file. file.codec.profile ≡ profile) }
     ensures stop { IfErr result (λ stop. IsTrue D.tells
         → IsOutside stop ⊎ (stop_answer stop ≡ unopened_answer (opened_with profile secret.now (main_of (D.reads disk.old))))) }
-    ensures late { IfErr result IsLate }
+    ensures late { IfErr result IsLateStop }
     ensures cause { IfErr result (λ stop. stop ≡ Stop.DiskFault → Rose (D.faults disk.old) (D.faults disk.new)) }
     ensures later { D.faults disk.old ≤ D.faults disk.new }
     ensures only_read { IsTrue D.tells → OnlyRead D.reads D.images D.moment D.since disk.old disk.new }
@@ -116,12 +116,12 @@ pub fn open_main<D: Disk>(
 /// The length of Main, where it has a page.
 pub fn served_length<D: Disk>(disk: &mut D, profile: Profile) -> Result<u64, Stop>
     requires { IsListed profile }
-    ensures none { OnOk result (IsTrue D.tells → first_of (length_causes profile (main_of (D.reads disk.old))) ≡ None) }
+    ensures none { OnOk result (IsTrue D.tells → first_answer (length_causes profile (main_of (D.reads disk.old))) ≡ None) }
     ensures told { IfOk result (λ len. IsTrue D.tells → len ≡ length (main_of (D.reads disk.old))) }
-    ensures stop { IfErr result (λ stop. IsTrue D.tells → (stop ≡ Stop.DiskFault) ⊎ (first_of (length_causes profile (main_of (D.reads disk.old))) ≡ stop_answer stop)) }
+    ensures stop { IfErr result (λ stop. IsTrue D.tells → (stop ≡ Stop.DiskFault) ⊎ (first_answer (length_causes profile (main_of (D.reads disk.old))) ≡ stop_answer stop)) }
     ensures page { IfOk result (λ len. profile.page_size ≤ len) }
     ensures fed { IfErr result (λ stop. stop ≡ Stop.OutOfMemory → ⊥) }
-    ensures late { IfErr result IsLate }
+    ensures late { IfErr result IsLateStop }
     ensures cause { IfErr result (λ stop. stop ≡ Stop.DiskFault → Rose (D.faults disk.old) (D.faults disk.new)) }
     ensures later { D.faults disk.old ≤ D.faults disk.new }
     ensures only_read { IsTrue D.tells → OnlyRead D.reads D.images D.moment D.since disk.old disk.new }
@@ -153,12 +153,12 @@ pub fn fitting_codec<D: Disk>(
 ) -> Result<Codec, Stop>
     requires listed { IsListed profile }
     requires some { IsTrue D.tells → profile.page_size ≤ length (main_of (D.reads disk.old)) }
-    ensures none { OnOk result (IsTrue D.tells → first_of (key_causes profile secret.now (main_of (D.reads disk.old))) ≡ None) }
+    ensures none { OnOk result (IsTrue D.tells → first_answer (key_causes profile secret.now (main_of (D.reads disk.old))) ≡ None) }
     ensures codec { IfOk result (λ codec. IsTrue D.tells → codec ≡ keys_of profile secret.now (main_of (D.reads disk.old))) }
     ensures fed { IfErr result (λ stop. stop ≡ Stop.OutOfMemory → ⊥) }
-    ensures late { IfErr result IsLate }
+    ensures late { IfErr result IsLateStop }
     ensures profile { IfOk result (λ codec. codec.profile ≡ profile) }
-    ensures stop { IfErr result (λ stop. IsTrue D.tells → (stop ≡ Stop.DiskFault) ⊎ (first_of (key_causes profile secret.now (main_of (D.reads disk.old))) ≡ stop_answer stop)) }
+    ensures stop { IfErr result (λ stop. IsTrue D.tells → (stop ≡ Stop.DiskFault) ⊎ (first_answer (key_causes profile secret.now (main_of (D.reads disk.old))) ≡ stop_answer stop)) }
     ensures cause { IfErr result (λ stop. stop ≡ Stop.DiskFault → Rose (D.faults disk.old) (D.faults disk.new)) }
     ensures later { D.faults disk.old ≤ D.faults disk.new }
     ensures only_read { IsTrue D.tells → OnlyRead D.reads D.images D.moment D.since disk.old disk.new }
@@ -186,7 +186,7 @@ pub fn open_to_change<D: Disk>(
     ensures profile { IfOk result (λ both. both.0.codec.profile ≡ profile) }
     ensures stop { IfErr result (λ stop. IsTrue D.tells
         → IsOutside stop ⊎ (stop_answer stop ≡ unopened_answer (opened_with profile secret.now (main_of (D.reads disk.old))))) }
-    ensures late { IfErr result IsLate }
+    ensures late { IfErr result IsLateStop }
     ensures cause { IfErr result (λ stop. stop ≡ Stop.DiskFault → Rose (D.faults disk.old) (D.faults disk.new)) }
     ensures later { D.faults disk.old ≤ D.faults disk.new }
     ensures only_read { IsTrue D.tells → OnlyRead D.reads D.images D.moment D.since disk.old disk.new }

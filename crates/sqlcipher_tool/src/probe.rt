@@ -4,10 +4,10 @@ ghost use Rattle.edge_model.specs.Causes.{HasCause, Rose};
 ghost use Rattle.edge_model.specs.OnlyRead.{OnlyRead};
 ghost use Rattle.cipher_profile.specs.Profile.{IsListed, probed_profiles};
 ghost use Rattle.page_codec.specs.Page.{salt_of};
-ghost use Rattle.sqlcipher_tool.specs.Answer.{first_of, Puts, PutsLine, IsAnswered, HasCauses};
-ghost use Rattle.pager.specs.File.{main_of};
+ghost use Rattle.sqlcipher_tool.specs.Answer.{first_answer, Puts, PutsLine, IsAnswered, HasCauses};
+ghost use Rattle.edge_model.specs.Files.{main_of};
 ghost use Rattle.sqlcipher_tool.specs.Probe.{first_fitting, fits_file, probe_causes, probe_answer};
-ghost use Rattle.sqlcipher_tool.specs.Stop.{stop_answer, outcome_answer, IsLate};
+ghost use Rattle.sqlcipher_tool.specs.Stop.{stop_answer, outcome_answer, IsLateStop};
 
 use crate::conclusion::conclude_outcome;
 use crate::opening::Stop;
@@ -39,7 +39,7 @@ pub fn probe<S: Sink, D: Disk>(secret: &Secret, out: &mut S, disk: &mut D) -> St
 fn probe_main<D: Disk>(disk: &mut D, secret: &Secret) -> Result<Text, Stop>
     ensures told { IsTrue D.tells → (result ≡ Err Stop.DiskFault) ⊎ (outcome_answer result ≡ Some (probe_answer secret.now (D.reads disk.old))) }
     ensures fed { IfErr result (λ stop. stop ≡ Stop.OutOfMemory → ⊥) }
-    ensures late { IfErr result IsLate }
+    ensures late { IfErr result IsLateStop }
     ensures cause { IfErr result (λ stop. stop ≡ Stop.DiskFault → Rose (D.faults disk.old) (D.faults disk.new)) }
     ensures later { D.faults disk.old ≤ D.faults disk.new }
     ensures only_read { IsTrue D.tells → OnlyRead D.reads D.images D.moment D.since disk.old disk.new }
@@ -53,11 +53,11 @@ fn probe_main<D: Disk>(disk: &mut D, secret: &Secret) -> Result<Text, Stop>
 
 // The length of Main, where there is no journal and Main has a byte.
 fn probed_length<D: Disk>(disk: &mut D) -> Result<u64, Stop>
-    ensures none { OnOk result (IsTrue D.tells → first_of (probe_causes (D.reads disk.old)) ≡ None) }
+    ensures none { OnOk result (IsTrue D.tells → first_answer (probe_causes (D.reads disk.old)) ≡ None) }
     ensures fed { IfErr result (λ stop. stop ≡ Stop.OutOfMemory → ⊥) }
-    ensures late { IfErr result IsLate }
+    ensures late { IfErr result IsLateStop }
     ensures told { IfOk result (λ len. IsTrue D.tells → len ≡ length (main_of (D.reads disk.old))) }
-    ensures stop { IfErr result (λ stop. IsTrue D.tells → (stop ≡ Stop.DiskFault) ⊎ (first_of (probe_causes (D.reads disk.old)) ≡ stop_answer stop)) }
+    ensures stop { IfErr result (λ stop. IsTrue D.tells → (stop ≡ Stop.DiskFault) ⊎ (first_answer (probe_causes (D.reads disk.old)) ≡ stop_answer stop)) }
     ensures cause { IfErr result (λ stop. stop ≡ Stop.DiskFault → Rose (D.faults disk.old) (D.faults disk.new)) }
     ensures later { D.faults disk.old ≤ D.faults disk.new }
     ensures only_read { IsTrue D.tells → OnlyRead D.reads D.images D.moment D.since disk.old disk.new }

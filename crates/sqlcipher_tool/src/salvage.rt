@@ -5,15 +5,15 @@ ghost use Rattle.edge_model.specs.Images.{From, LeavesOnly};
 ghost use Rattle.edge_model.specs.OnlyRead.{OnlyRead};
 ghost use Rattle.cipher_profile.specs.Profile.{IsListed};
 ghost use Rattle.page_codec.specs.Page.{keys_of};
-ghost use Rattle.pager.specs.File.{main_of};
-ghost use Rattle.rollback_journal.specs.Recovery.{Keeps};
-ghost use Rattle.sqlcipher_tool.specs.Answer.{first_of, HasCauses, PutsLine};
+ghost use Rattle.edge_model.specs.Files.{main_of};
+ghost use Rattle.rollback_journal.specs.Recovery.{KeepsRecovered};
+ghost use Rattle.sqlcipher_tool.specs.Answer.{first_answer, HasCauses, PutsLine};
 ghost use Rattle.sqlcipher_tool.specs.Behind.{HasOnlyRead, IsRecovered};
 ghost use Rattle.sqlcipher_tool.specs.Holding.{disk_run};
 ghost use Rattle.sqlcipher_tool.specs.Promises.{AnswersOne, IsUnrecovered};
 ghost use Rattle.sqlcipher_tool.specs.Recovered.{recovered_answers};
 ghost use Rattle.sqlcipher_tool.specs.Salvage.{salvage_answer, salvage_causes, salvaged_answer};
-ghost use Rattle.sqlcipher_tool.specs.Stop.{stop_answer, IsLate};
+ghost use Rattle.sqlcipher_tool.specs.Stop.{stop_answer, IsLateStop};
 ghost use Rattle.sqlcipher_tool.specs.Untouched.{HasNoFile, IsUnwritten};
 
 use crate::conclusion::{conclude, conclude_stop};
@@ -41,7 +41,7 @@ pub fn salvage_file<S: Sink, D: Disk>(
         → AnswersOne (recovered_answers profile (D.reads disk.old) (λ file. salvage_answer profile secret.now file ∷ [])) result S.tells (S.taken out.old) (S.taken out.new) }
     ensures line { IsTrue S.tells → PutsLine result (S.taken out.old) (S.taken out.new) }
     ensures causes { HasCauses result (D.faults disk.old) (D.faults disk.new) (S.faults out.old) (S.faults out.new) }
-    ensures keeps { IsTrue D.tells → LeavesOnly D.moment D.since disk.old disk.new (From (Keeps profile.page_size) (D.images disk.old)) }
+    ensures keeps { IsTrue D.tells → LeavesOnly D.moment D.since disk.old disk.new (From (KeepsRecovered profile.page_size) (D.images disk.old)) }
     ensures unrecovered { IsTrue D.tells → IsUnrecovered result → D.reads disk.new ≡ D.reads disk.old }
     ensures recovered { IsTrue D.tells → HasOnlyRead false result → IsRecovered profile (disk_run D.reads D.images D.moment D.since disk.old disk.new) }
     ensures untouched { IsTrue D.tells → HasNoFile profile (D.reads disk.old) → IsUnwritten (disk_run D.reads D.images D.moment D.since disk.old disk.new) }
@@ -75,10 +75,10 @@ fn salvage_main<S: Sink, D: Disk>(
 // The codec that the secret gives for Main, whether or not its key fits page 1, where nothing stands in the way.
 fn codec_to_salvage<D: Disk>(disk: &mut D, profile: Profile, secret: &Secret) -> Result<Codec, Stop>
     requires { IsListed profile }
-    ensures none { OnOk result (IsTrue D.tells → first_of (salvage_causes profile (main_of (D.reads disk.old))) ≡ None) }
+    ensures none { OnOk result (IsTrue D.tells → first_answer (salvage_causes profile (main_of (D.reads disk.old))) ≡ None) }
     ensures codec { IfOk result (λ codec. IsTrue D.tells → codec ≡ keys_of profile secret.now (main_of (D.reads disk.old))) }
-    ensures late { IfErr result IsLate }
-    ensures stop { IfErr result (λ stop. IsTrue D.tells → (stop ≡ Stop.DiskFault) ⊎ (first_of (salvage_causes profile (main_of (D.reads disk.old))) ≡ stop_answer stop)) }
+    ensures late { IfErr result IsLateStop }
+    ensures stop { IfErr result (λ stop. IsTrue D.tells → (stop ≡ Stop.DiskFault) ⊎ (first_answer (salvage_causes profile (main_of (D.reads disk.old))) ≡ stop_answer stop)) }
     ensures cause { IfErr result (λ stop. stop ≡ Stop.DiskFault → Rose (D.faults disk.old) (D.faults disk.new)) }
     ensures later { D.faults disk.old ≤ D.faults disk.new }
     ensures only_read { IsTrue D.tells → OnlyRead D.reads D.images D.moment D.since disk.old disk.new }

@@ -1,20 +1,19 @@
 // `stamp`: a field of the database header is set, in one transaction that changes page 1 alone.
 ghost use Rattle.std.specs.Prelude.{◌≡◌, ◌≢◌, ◌⊎◌, ◌≤◌, ◌==◌, ◌∷◌, [], ℕ, List, drop, length, true, Some, Ok, Err, IfErr, IsErr, OnOk, IsTrue, if◌then◌else◌};
-ghost use Rattle.disk_side.specs.OnlyFresh.{IsOld};
-ghost use Rattle.disk_side.specs.Published.{IsNew as IsAlone};
+ghost use Rattle.fresh_disk.specs.OnlyFresh.{IsOld};
+ghost use Rattle.fresh_disk.specs.Published.{IsAlone};
 ghost use Rattle.edge_model.specs.Causes.{Rose};
 ghost use Rattle.edge_model.specs.Images.{Each, From, LeavesOnly};
 ghost use Rattle.edge_model.specs.OnlyRead.{OnlyRead};
 ghost use Rattle.cipher_profile.specs.Profile.{IsListed, usable};
 ghost use Rattle.page_codec.specs.Page.{keys_of, salt_of};
 ghost use Rattle.pager.specs.Base.{base_of};
-ghost use Rattle.pager.specs.File.{main_of};
+ghost use Rattle.edge_model.specs.Files.{main_of};
 ghost use Rattle.pager.specs.Opening.{file_opened};
-ghost use Rattle.pager.specs.Pages.{is_number};
+ghost use Rattle.pager.specs.Pages.{is_page_number};
 ghost use Rattle.pager.specs.UnderWay.{IsReadyFor, IsRefusedAs, IsUnderWay, Start, is_touched, seen_pages};
-ghost use Rattle.rollback_journal.specs.Playing.{main_of as read_main};
-ghost use Rattle.transaction.specs.Database.{HoldsOld};
-ghost use Rattle.transaction.specs.Facts.{IsBase, SameFresh};
+ghost use Rattle.atomic_commit.specs.Database.{HoldsOld};
+ghost use Rattle.atomic_commit.specs.Facts.{IsBase, SameFresh};
 ghost use Rattle.sqlcipher_tool.specs.Answer.{Answer, IsFault};
 ghost use Rattle.sqlcipher_tool.specs.Behind.{IsRefusedChange};
 ghost use Rattle.sqlcipher_tool.specs.Change.{IsLateChange, IsStopOf, KeepsOrCommits, change_answer, change_status};
@@ -196,12 +195,12 @@ fn write_fields<D: Disk, E: Entropy>(
     requires ready { IsReadyFor txn.old.recorded txn.old.writer }
     requires under_way { IsTrue D.tells → IsUnderWay start txn.old.write txn.old.recorded txn.old.written txn.old.writer (D.reads txn.old.disk.now)
         (D.images txn.old.disk.now) E.tells (E.drawn txn.old.entropy.now) }
-    ensures stamped { OnOk result (IsTrue D.tells → (seen_pages txn.new.read txn.new.write (read_main (D.reads txn.new.disk.now)) txn.new.count txn.new.written txn.new.changed.held).page 1
+    ensures stamped { OnOk result (IsTrue D.tells → (seen_pages txn.new.read txn.new.write (main_of (D.reads txn.new.disk.now)) txn.new.count txn.new.written txn.new.changed.held).page 1
         ≡ with_field 92 change (with_field 28 pages (with_field 24 change (with_field (field_at field) value
-        ((seen_pages txn.old.read txn.old.write (read_main (D.reads txn.old.disk.now)) txn.old.count txn.old.written txn.old.changed.held).page 1))))) }
-    ensures touched { OnOk result ((m : ℕ) → is_number txn.old.count m ≡ true → is_touched txn.new.written txn.new.changed.held m
+        ((seen_pages txn.old.read txn.old.write (main_of (D.reads txn.old.disk.now)) txn.old.count txn.old.written txn.old.changed.held).page 1))))) }
+    ensures touched { OnOk result ((m : ℕ) → is_page_number txn.old.count m ≡ true → is_touched txn.new.written txn.new.changed.held m
         ≡ (if m == 1 then true else is_touched txn.old.written txn.old.changed.held m)) }
-    ensures refused { IfErr result (IsRefusedAs D.tells (seen_pages txn.old.read txn.old.write (read_main (D.reads txn.old.disk.now)) txn.old.count txn.old.written txn.old.changed.held)
+    ensures refused { IfErr result (IsRefusedAs D.tells (seen_pages txn.old.read txn.old.write (main_of (D.reads txn.old.disk.now)) txn.old.count txn.old.written txn.old.changed.held)
         1 (D.faults txn.old.disk.now) (D.faults txn.new.disk.now) (E.faults txn.old.entropy.now) (E.faults txn.new.entropy.now)) }
     ensures ready { OnOk result (IsReadyFor txn.new.recorded txn.new.writer) }
     ensures under_way { OnOk result (IsTrue D.tells → IsUnderWay start txn.new.write txn.new.recorded txn.new.written txn.new.writer (D.reads txn.new.disk.now)
@@ -232,12 +231,12 @@ fn write_number<D: Disk, E: Entropy>(
     requires ready { IsReadyFor txn.old.recorded txn.old.writer }
     requires under_way { IsTrue D.tells → IsUnderWay start txn.old.write txn.old.recorded txn.old.written txn.old.writer (D.reads txn.old.disk.now)
         (D.images txn.old.disk.now) E.tells (E.drawn txn.old.entropy.now) }
-    ensures written { OnOk result (IsTrue D.tells → (seen_pages txn.new.read txn.new.write (read_main (D.reads txn.new.disk.now)) txn.new.count txn.new.written txn.new.changed.held).page 1
-        ≡ with_field at number ((seen_pages txn.old.read txn.old.write (read_main (D.reads txn.old.disk.now)) txn.old.count txn.old.written txn.old.changed.held).page 1)) }
-    ensures touched { OnOk result ((m : ℕ) → is_number txn.old.count m ≡ true → is_touched txn.new.written txn.new.changed.held m
+    ensures written { OnOk result (IsTrue D.tells → (seen_pages txn.new.read txn.new.write (main_of (D.reads txn.new.disk.now)) txn.new.count txn.new.written txn.new.changed.held).page 1
+        ≡ with_field at number ((seen_pages txn.old.read txn.old.write (main_of (D.reads txn.old.disk.now)) txn.old.count txn.old.written txn.old.changed.held).page 1)) }
+    ensures touched { OnOk result ((m : ℕ) → is_page_number txn.old.count m ≡ true → is_touched txn.new.written txn.new.changed.held m
         ≡ (if m == 1 then true else is_touched txn.old.written txn.old.changed.held m)) }
-    ensures accepted { OnOk result (IsTrue D.tells → (seen_pages txn.new.read txn.new.write (read_main (D.reads txn.new.disk.now)) txn.new.count txn.new.written txn.new.changed.held).accepts 1 ≡ true) }
-    ensures refused { IfErr result (IsRefusedAs D.tells (seen_pages txn.old.read txn.old.write (read_main (D.reads txn.old.disk.now)) txn.old.count txn.old.written txn.old.changed.held)
+    ensures accepted { OnOk result (IsTrue D.tells → (seen_pages txn.new.read txn.new.write (main_of (D.reads txn.new.disk.now)) txn.new.count txn.new.written txn.new.changed.held).accepts 1 ≡ true) }
+    ensures refused { IfErr result (IsRefusedAs D.tells (seen_pages txn.old.read txn.old.write (main_of (D.reads txn.old.disk.now)) txn.old.count txn.old.written txn.old.changed.held)
         1 (D.faults txn.old.disk.now) (D.faults txn.new.disk.now) (E.faults txn.old.entropy.now) (E.faults txn.new.entropy.now)) }
     ensures ready { OnOk result (IsReadyFor txn.new.recorded txn.new.writer) }
     ensures under_way { OnOk result (IsTrue D.tells → IsUnderWay start txn.new.write txn.new.recorded txn.new.written txn.new.writer (D.reads txn.new.disk.now)

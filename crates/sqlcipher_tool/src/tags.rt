@@ -5,17 +5,18 @@ ghost use Rattle.edge_model.specs.Images.{From, LeavesOnly};
 ghost use Rattle.edge_model.specs.OnlyRead.{OnlyRead};
 ghost use Rattle.cipher_profile.specs.Profile.{IsListed};
 ghost use Rattle.page_codec.specs.Page.{keys_of};
-ghost use Rattle.rollback_journal.specs.Recovery.{Keeps};
+ghost use Rattle.rollback_journal.specs.Recovery.{KeepsRecovered};
 ghost use Rattle.sqlcipher_tool.specs.Behind.{HasOnlyRead, IsRecovered};
-ghost use Rattle.sqlcipher_tool.specs.Answer.{first_of, Puts, PutsLine, PutsPart, IsAnswered, HasCauses};
-ghost use Rattle.pager.specs.File.{main_of, whole_pages};
+ghost use Rattle.sqlcipher_tool.specs.Answer.{first_answer, Puts, PutsLine, PutsPart, IsAnswered, HasCauses};
+ghost use Rattle.pager.specs.File.{whole_pages};
 ghost use Rattle.sqlcipher_tool.specs.Holding.{disk_run};
 ghost use Rattle.sqlcipher_tool.specs.Promises.{IsUnrecovered};
 ghost use Rattle.sqlcipher_tool.specs.Recovered.{recovered_answer};
 ghost use Rattle.sqlcipher_tool.specs.Tags.{AreKnown, refused_pages, refused_unless, pages_answer, tags_causes, tags_answer};
-ghost use Rattle.sqlcipher_tool.specs.Stop.{stop_answer, IsLate};
+ghost use Rattle.sqlcipher_tool.specs.Stop.{stop_answer, IsLateStop};
 ghost use Rattle.sqlcipher_tool.specs.Text.{tag_lines};
 ghost use Rattle.sqlcipher_tool.specs.Untouched.{HasNoFile, IsUnwritten};
+ghost use Rattle.edge_model.specs.Files.{main_of};
 
 use crate::conclusion::{conclude, conclude_stop};
 use crate::opening::{Stop, count_whole_pages, fitting_codec, served_length};
@@ -64,7 +65,7 @@ pub fn tags<S: Sink, D: Disk>(
     ensures disk_text { IsTrue S.tells → IsTrue D.tells → result ≡ Status.DiskFault → PutsPart (recovered_answer profile (D.reads disk.old) (tags_answer profile secret.now)).begun (S.taken out.old) (S.taken out.new) }
     ensures memory_text { result ≡ Status.OutOfMemory → out.new ≡ out.old }
     ensures causes { HasCauses result (D.faults disk.old) (D.faults disk.new) (S.faults out.old) (S.faults out.new) }
-    ensures keeps { IsTrue D.tells → LeavesOnly D.moment D.since disk.old disk.new (From (Keeps profile.page_size) (D.images disk.old)) }
+    ensures keeps { IsTrue D.tells → LeavesOnly D.moment D.since disk.old disk.new (From (KeepsRecovered profile.page_size) (D.images disk.old)) }
     ensures unrecovered { IsTrue D.tells → IsUnrecovered result → D.reads disk.new ≡ D.reads disk.old }
     ensures recovered { IsTrue D.tells → HasOnlyRead false result → IsRecovered profile (disk_run D.reads D.images D.moment D.since disk.old disk.new) }
     ensures untouched { IsTrue D.tells → HasNoFile profile (D.reads disk.old) → IsUnwritten (disk_run D.reads D.images D.moment D.since disk.old disk.new) }
@@ -105,12 +106,12 @@ fn open_for_tags<D: Disk>(
     secret: &Secret,
 ) -> Result<(Codec, u32), Stop>
     requires { IsListed profile }
-    ensures none { OnOk result (IsTrue D.tells → first_of (tags_causes profile secret.now (main_of (D.reads disk.old))) ≡ None) }
+    ensures none { OnOk result (IsTrue D.tells → first_answer (tags_causes profile secret.now (main_of (D.reads disk.old))) ≡ None) }
     ensures codec { IfOk result (λ opened. IsTrue D.tells → opened.0 ≡ keys_of profile secret.now (main_of (D.reads disk.old))) }
     ensures pages { IfOk result (λ opened. IsTrue D.tells → opened.1 ≡ whole_pages profile (main_of (D.reads disk.old))) }
     ensures profile { IfOk result (λ opened. opened.0.profile ≡ profile) }
-    ensures late { IfErr result IsLate }
-    ensures stop { IfErr result (λ stop. IsTrue D.tells → (stop ≡ Stop.DiskFault) ⊎ (first_of (tags_causes profile secret.now (main_of (D.reads disk.old))) ≡ stop_answer stop)) }
+    ensures late { IfErr result IsLateStop }
+    ensures stop { IfErr result (λ stop. IsTrue D.tells → (stop ≡ Stop.DiskFault) ⊎ (first_answer (tags_causes profile secret.now (main_of (D.reads disk.old))) ≡ stop_answer stop)) }
     ensures cause { IfErr result (λ stop. stop ≡ Stop.DiskFault → Rose (D.faults disk.old) (D.faults disk.new)) }
     ensures later { D.faults disk.old ≤ D.faults disk.new }
     ensures only_read { IsTrue D.tells → OnlyRead D.reads D.images D.moment D.since disk.old disk.new }

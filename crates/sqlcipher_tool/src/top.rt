@@ -1,22 +1,22 @@
 // The top call.
-ghost use Rattle.pager.specs.File.{main_of};
+ghost use Rattle.edge_model.specs.Files.{main_of};
 ghost use Rattle.std.specs.Prelude.{◌≡◌, ◌⊎◌, ◌≤◌, ◌*◌, ◌∷◌, ℕ, List, [], drop, length, not, true, false, None, Some, Ok, Err, IsTrue, IsErr, IsErrOf};
 ghost use Rattle.cipher_profile.specs.KeyCauses.{UnlessFault};
 ghost use Rattle.edge_model.specs.Causes.{Rose};
 ghost use Rattle.edge_model.specs.Images.{From, LeavesOnly};
-ghost use Rattle.transaction.specs.Facts.{SameFresh};
+ghost use Rattle.atomic_commit.specs.Facts.{SameFresh};
 ghost use Rattle.cipher_profile.specs.Profile.{IsListed, is_plain};
 ghost use Rattle.cipher_profile.specs.declared.key_line.KeyError.{KeyError as KeyRefusal};
 ghost use Rattle.cipher_profile.specs.declared.keys.Secret.{Secret as Key};
-ghost use Rattle.sqlcipher_tool.specs.Answer.{IsEarly, Puts, PutsLine, HasDrawnCauses, is_defect};
+ghost use Rattle.sqlcipher_tool.specs.Answer.{IsEarly, Puts, PutsLine, HasDrawnCauses, is_defect_status};
 ghost use Rattle.sqlcipher_tool.specs.Behind.{HasOnlyRead, IsRecovered, LeavesRecovered};
 ghost use Rattle.sqlcipher_tool.specs.Change.{IsChangeBetween, change_answers, command_of, is_in_place};
-ghost use Rattle.sqlcipher_tool.specs.Crash.{Keeps, Changes, GaveKeys, HasOwnDraws, IsSafely};
+ghost use Rattle.sqlcipher_tool.specs.Crash.{Keeps, ChangesBy, GaveKeys, DrewOwn, IsSafely};
 ghost use Rattle.sqlcipher_tool.specs.Due.{due, key_answer, key_lines, rest_line, secret_line, word_refusal, asked_answers, keyed_answers, secret_answers};
 ghost use Rattle.sqlcipher_tool.specs.Holding.{disk_run};
 ghost use Rattle.sqlcipher_tool.specs.Promises.{AnswersOne, AreWordsThat, ComesLate, IsAnsweredEarly, IsUnrecovered, TakesAtMost, TakesLines, TellsKeys, is_in_the_way, WhereTaken, after_lines, asks_some, lines_read, takes_keys, two_secrets};
 ghost use Rattle.sqlcipher_tool.specs.Recovered.{recovered_answers};
-ghost use Rattle.sqlcipher_tool.specs.Renewal.{AreDrawn, from_to};
+ghost use Rattle.sqlcipher_tool.specs.Renewal.{AreDrawnBy, from_to};
 ghost use Rattle.sqlcipher_tool.specs.Servable.{CanBeServed, IsDoneOrStarved, NoneRose};
 ghost use Rattle.sqlcipher_tool.specs.Text.{usage_line};
 ghost use Rattle.sqlcipher_tool.specs.Untouched.{HasNoFile, IsUnwritten, LeavesAlone, recovers_by};
@@ -78,7 +78,7 @@ pub fn run<K: Source, S: Sink, E: Entropy, D: Disk>(
     // What is printed, where the input or the disk does not tell.
     ensures usage_text { IsTrue S.tells → form (texts words.now) ≡ None → Puts result usage_line (S.taken out.old) (S.taken out.new) }
     // before the line of a defect that `find` met, rows may stand
-    ensures line { IsTrue S.tells → (AreWordsThat finds (texts words.now) → is_defect result ≡ false) → PutsLine result (S.taken out.old) (S.taken out.new) }
+    ensures line { IsTrue S.tells → (AreWordsThat finds (texts words.now) → is_defect_status result ≡ false) → PutsLine result (S.taken out.old) (S.taken out.new) }
     ensures input_text { result ≡ Status.InputFault → out.new ≡ out.old }
 
     // What is taken and drawn, and that an answer which needs no disk makes no call of it.
@@ -95,7 +95,7 @@ pub fn run<K: Source, S: Sink, E: Entropy, D: Disk>(
     ensures undrawn { IsTrue D.tells → (command : Asked) → form (texts words.now) ≡ Some command → is_in_the_way command (D.reads disk.old) ≡ true
         → entropy.new ≡ entropy.old }
     ensures own_draws { IsTrue D.tells → IsTrue E.tells → result ≡ Status.Done → (command : Asked) → form (texts words.now) ≡ Some command
-        → HasOwnDraws command (GaveKeys K.tells (asked_keys command) (K.left input.old)) (main_of (D.reads disk.new)) (drop (length (E.drawn entropy.old)) (E.drawn entropy.new)) }
+        → DrewOwn command (GaveKeys K.tells (asked_keys command) (K.left input.old)) (main_of (D.reads disk.new)) (drop (length (E.drawn entropy.old)) (E.drawn entropy.new)) }
 
     // The disk, at every moment of the run and after every status.
     ensures unrecovered { IsTrue D.tells → IsUnrecovered result → D.reads disk.new ≡ D.reads disk.old }
@@ -108,7 +108,7 @@ pub fn run<K: Source, S: Sink, E: Entropy, D: Disk>(
     ensures keeps { IsTrue D.tells → (command : Asked) → form (texts words.now) ≡ Some command
         → Keeps command (disk_run D.reads D.images D.moment D.since disk.old disk.new) }
     ensures changes { IsTrue D.tells → (command : Asked) → form (texts words.now) ≡ Some command
-        → Changes result command (GaveKeys K.tells (asked_keys command) (K.left input.old)) E.tells (drop (length (E.drawn entropy.old)) (E.drawn entropy.new)) (disk_run D.reads D.images D.moment D.since disk.old disk.new) }
+        → ChangesBy result command (GaveKeys K.tells (asked_keys command) (K.left input.old)) E.tells (drop (length (E.drawn entropy.old)) (E.drawn entropy.new)) (disk_run D.reads D.images D.moment D.since disk.old disk.new) }
 {
     match parse_words(words) {
         None => conclude(out, &usage_line(), Status::Usage),
@@ -138,7 +138,7 @@ fn serve<K: Source, S: Sink, E: Entropy, D: Disk>(
     ensures entropy_fault { result ≡ Status.EntropyFault → Rose (E.faults entropy.old) (E.faults entropy.new) × (draws command.entry ≡ true) }
     ensures memory { result ≡ Status.OutOfMemory → (takes_memory command.entry ≡ true) × (word_refusal command.entry ≡ None)
         × (IsTrue K.tells → (secrets : List Key) × (key_lines (asked_keys command.entry) (K.left input.old) ≡ Ok secrets)) }
-    ensures line { IsTrue S.tells → (finds command.entry ≡ true → is_defect result ≡ false) → PutsLine result (S.taken out.old) (S.taken out.new) }
+    ensures line { IsTrue S.tells → (finds command.entry ≡ true → is_defect_status result ≡ false) → PutsLine result (S.taken out.old) (S.taken out.new) }
     ensures input_text { result ≡ Status.InputFault → out.new ≡ out.old }
     ensures refused_first { (refusal : Refused) → word_refusal command.entry ≡ Some refusal → (input.new ≡ input.old) × (disk.new ≡ disk.old) }
     ensures key_first { IsTrue K.tells → word_refusal command.entry ≡ None → IsErr (key_lines (asked_keys command.entry) (K.left input.old)) → disk.new ≡ disk.old }
@@ -149,14 +149,14 @@ fn serve<K: Source, S: Sink, E: Entropy, D: Disk>(
     ensures draws { draws command.entry ≡ false → entropy.new ≡ entropy.old }
     ensures undrawn { IsTrue D.tells → is_in_the_way command.entry (D.reads disk.old) ≡ true → entropy.new ≡ entropy.old }
     ensures own_draws { IsTrue D.tells → IsTrue E.tells → result ≡ Status.Done
-        → HasOwnDraws command.entry (GaveKeys K.tells (asked_keys command.entry) (K.left input.old)) (main_of (D.reads disk.new)) (drop (length (E.drawn entropy.old)) (E.drawn entropy.new)) }
+        → DrewOwn command.entry (GaveKeys K.tells (asked_keys command.entry) (K.left input.old)) (main_of (D.reads disk.new)) (drop (length (E.drawn entropy.old)) (E.drawn entropy.new)) }
     ensures unrecovered { IsTrue D.tells → IsUnrecovered result → D.reads disk.new ≡ D.reads disk.old }
     ensures recovered { IsTrue D.tells → LeavesRecovered result (alters command.entry) (recovers_by command.entry) (disk_run D.reads D.images D.moment D.since disk.old disk.new) }
     ensures untouched { IsTrue D.tells → LeavesAlone (recovers_by command.entry) (disk_run D.reads D.images D.moment D.since disk.old disk.new) }
     ensures fresh_gone { IsTrue D.tells → result ≡ Status.Done → writes_beside command.entry ≡ true → (D.reads disk.new).fresh ≡ None }
     ensures keeps { IsTrue D.tells → Keeps command.entry (disk_run D.reads D.images D.moment D.since disk.old disk.new) }
     ensures changes { IsTrue D.tells
-        → Changes result command.entry (GaveKeys K.tells (asked_keys command.entry) (K.left input.old)) E.tells (drop (length (E.drawn entropy.old)) (E.drawn entropy.new)) (disk_run D.reads D.images D.moment D.since disk.old disk.new) }
+        → ChangesBy result command.entry (GaveKeys K.tells (asked_keys command.entry) (K.left input.old)) E.tells (drop (length (E.drawn entropy.old)) (E.drawn entropy.new)) (disk_run D.reads D.images D.moment D.since disk.old disk.new) }
     ensures input_later { K.faults input.old ≤ K.faults input.new }
     ensures output_later { S.faults out.old ≤ S.faults out.new }
     ensures disk_later { D.faults disk.old ≤ D.faults disk.new }
@@ -207,7 +207,7 @@ fn serve_keyed<K: Source, S: Sink, E: Entropy, D: Disk>(
     ensures entropy_fault { result ≡ Status.EntropyFault → Rose (E.faults entropy.old) (E.faults entropy.new) × (draws command.entry ≡ true) }
     ensures memory { result ≡ Status.OutOfMemory → takes_memory command.entry ≡ true }
     ensures memory_keys { result ≡ Status.OutOfMemory → IsTrue K.tells → (secrets : List Key) × (key_lines (asked_keys command.entry) (K.left input.old) ≡ Ok secrets) }
-    ensures line { IsTrue S.tells → (finds command.entry ≡ true → is_defect result ≡ false) → PutsLine result (S.taken out.old) (S.taken out.new) }
+    ensures line { IsTrue S.tells → (finds command.entry ≡ true → is_defect_status result ≡ false) → PutsLine result (S.taken out.old) (S.taken out.new) }
     ensures input_text { result ≡ Status.InputFault → out.new ≡ out.old }
     ensures key_first { IsTrue K.tells → IsErr (key_lines (asked_keys command.entry) (K.left input.old)) → disk.new ≡ disk.old }
     ensures early_first { IsEarly result → disk.new ≡ disk.old }
@@ -217,14 +217,14 @@ fn serve_keyed<K: Source, S: Sink, E: Entropy, D: Disk>(
     ensures draws { draws command.entry ≡ false → entropy.new ≡ entropy.old }
     ensures undrawn { IsTrue D.tells → is_in_the_way command.entry (D.reads disk.old) ≡ true → entropy.new ≡ entropy.old }
     ensures own_draws { IsTrue D.tells → IsTrue E.tells → result ≡ Status.Done
-        → HasOwnDraws command.entry (GaveKeys K.tells (asked_keys command.entry) (K.left input.old)) (main_of (D.reads disk.new)) (drop (length (E.drawn entropy.old)) (E.drawn entropy.new)) }
+        → DrewOwn command.entry (GaveKeys K.tells (asked_keys command.entry) (K.left input.old)) (main_of (D.reads disk.new)) (drop (length (E.drawn entropy.old)) (E.drawn entropy.new)) }
     ensures unrecovered { IsTrue D.tells → IsUnrecovered result → D.reads disk.new ≡ D.reads disk.old }
     ensures recovered { IsTrue D.tells → LeavesRecovered result (alters command.entry) (recovers_by command.entry) (disk_run D.reads D.images D.moment D.since disk.old disk.new) }
     ensures untouched { IsTrue D.tells → LeavesAlone (recovers_by command.entry) (disk_run D.reads D.images D.moment D.since disk.old disk.new) }
     ensures fresh_gone { IsTrue D.tells → result ≡ Status.Done → writes_beside command.entry ≡ true → (D.reads disk.new).fresh ≡ None }
     ensures keeps { IsTrue D.tells → Keeps command.entry (disk_run D.reads D.images D.moment D.since disk.old disk.new) }
     ensures changes { IsTrue D.tells
-        → Changes result command.entry (GaveKeys K.tells (asked_keys command.entry) (K.left input.old)) E.tells (drop (length (E.drawn entropy.old)) (E.drawn entropy.new)) (disk_run D.reads D.images D.moment D.since disk.old disk.new) }
+        → ChangesBy result command.entry (GaveKeys K.tells (asked_keys command.entry) (K.left input.old)) E.tells (drop (length (E.drawn entropy.old)) (E.drawn entropy.new)) (disk_run D.reads D.images D.moment D.since disk.old disk.new) }
     ensures entropy_later { E.faults entropy.old ≤ E.faults entropy.new }
     ensures input_later { K.faults input.old ≤ K.faults input.new }
     ensures output_later { S.faults out.old ≤ S.faults out.new }
@@ -251,20 +251,20 @@ fn serve_with_secret<S: Sink, E: Entropy, D: Disk>(
     requires keyed { length (asked_keys command) ≡ 1 }
     ensures answer { IsTrue D.tells
         → AnswersOne (secret_answers command.entry (secret.now ∷ []) (D.reads disk.old) (D.reads disk.new)) result S.tells (S.taken out.old) (S.taken out.new) }
-    ensures line { IsTrue S.tells → (finds command.entry ≡ true → is_defect result ≡ false) → PutsLine result (S.taken out.old) (S.taken out.new) }
+    ensures line { IsTrue S.tells → (finds command.entry ≡ true → is_defect_status result ≡ false) → PutsLine result (S.taken out.old) (S.taken out.new) }
     ensures memory { result ≡ Status.OutOfMemory → takes_memory command.entry ≡ true }
     ensures causes { HasDrawnCauses result (draws command.entry) (D.faults disk.old) (D.faults disk.new) (S.faults out.old) (S.faults out.new) (E.faults entropy.old) (E.faults entropy.new) }
     ensures draws { draws command.entry ≡ false → entropy.new ≡ entropy.old }
     ensures undrawn { IsTrue D.tells → is_in_the_way command.entry (D.reads disk.old) ≡ true → entropy.new ≡ entropy.old }
     ensures own_draws { IsTrue D.tells → IsTrue E.tells → result ≡ Status.Done
-        → HasOwnDraws command.entry (λ secrets. secrets ≡ secret.now ∷ []) (main_of (D.reads disk.new)) (drop (length (E.drawn entropy.old)) (E.drawn entropy.new)) }
+        → DrewOwn command.entry (λ secrets. secrets ≡ secret.now ∷ []) (main_of (D.reads disk.new)) (drop (length (E.drawn entropy.old)) (E.drawn entropy.new)) }
     ensures unrecovered { IsTrue D.tells → IsUnrecovered result → D.reads disk.new ≡ D.reads disk.old }
     ensures recovered { IsTrue D.tells → LeavesRecovered result (alters command.entry) (recovers_by command.entry) (disk_run D.reads D.images D.moment D.since disk.old disk.new) }
     ensures untouched { IsTrue D.tells → LeavesAlone (recovers_by command.entry) (disk_run D.reads D.images D.moment D.since disk.old disk.new) }
     ensures fresh_gone { IsTrue D.tells → result ≡ Status.Done → writes_beside command.entry ≡ true → (D.reads disk.new).fresh ≡ None }
     ensures keeps { IsTrue D.tells → Keeps command.entry (disk_run D.reads D.images D.moment D.since disk.old disk.new) }
     ensures changes { IsTrue D.tells
-        → Changes result command.entry (λ secrets. secrets ≡ secret.now ∷ []) E.tells (drop (length (E.drawn entropy.old)) (E.drawn entropy.new)) (disk_run D.reads D.images D.moment D.since disk.old disk.new) }
+        → ChangesBy result command.entry (λ secrets. secrets ≡ secret.now ∷ []) E.tells (drop (length (E.drawn entropy.old)) (E.drawn entropy.new)) (disk_run D.reads D.images D.moment D.since disk.old disk.new) }
 {
     if command.draws() {
         carry_out(alloc, command, secret, out, entropy, disk)
@@ -287,19 +287,19 @@ fn carry_out<S: Sink, E: Entropy, D: Disk>(
     requires keyed { length (asked_keys command) ≡ 1 }
     ensures answer { IsTrue D.tells
         → AnswersOne (secret_answers command.entry (secret.now ∷ []) (D.reads disk.old) (D.reads disk.new)) result S.tells (S.taken out.old) (S.taken out.new) }
-    ensures line { IsTrue S.tells → (finds command.entry ≡ true → is_defect result ≡ false) → PutsLine result (S.taken out.old) (S.taken out.new) }
+    ensures line { IsTrue S.tells → (finds command.entry ≡ true → is_defect_status result ≡ false) → PutsLine result (S.taken out.old) (S.taken out.new) }
     ensures memory { result ≡ Status.OutOfMemory → takes_memory command.entry ≡ true }
     ensures causes { HasDrawnCauses result (alters command.entry) (D.faults disk.old) (D.faults disk.new) (S.faults out.old) (S.faults out.new) (E.faults entropy.old) (E.faults entropy.new) }
     ensures undrawn { IsTrue D.tells → is_in_the_way command.entry (D.reads disk.old) ≡ true → entropy.new ≡ entropy.old }
     ensures own_draws { IsTrue D.tells → IsTrue E.tells → result ≡ Status.Done
-        → HasOwnDraws command.entry (λ secrets. secrets ≡ secret.now ∷ []) (main_of (D.reads disk.new)) (drop (length (E.drawn entropy.old)) (E.drawn entropy.new)) }
+        → DrewOwn command.entry (λ secrets. secrets ≡ secret.now ∷ []) (main_of (D.reads disk.new)) (drop (length (E.drawn entropy.old)) (E.drawn entropy.new)) }
     ensures unrecovered { IsTrue D.tells → IsUnrecovered result → D.reads disk.new ≡ D.reads disk.old }
     ensures recovered { IsTrue D.tells → LeavesRecovered result (alters command.entry) (recovers_by command.entry) (disk_run D.reads D.images D.moment D.since disk.old disk.new) }
     ensures untouched { IsTrue D.tells → LeavesAlone (recovers_by command.entry) (disk_run D.reads D.images D.moment D.since disk.old disk.new) }
     ensures fresh_gone { IsTrue D.tells → result ≡ Status.Done → writes_beside command.entry ≡ true → (D.reads disk.new).fresh ≡ None }
     ensures keeps { IsTrue D.tells → Keeps command.entry (disk_run D.reads D.images D.moment D.since disk.old disk.new) }
     ensures changes { IsTrue D.tells
-        → Changes result command.entry (λ secrets. secrets ≡ secret.now ∷ []) E.tells (drop (length (E.drawn entropy.old)) (E.drawn entropy.new)) (disk_run D.reads D.images D.moment D.since disk.old disk.new) }
+        → ChangesBy result command.entry (λ secrets. secrets ≡ secret.now ∷ []) E.tells (drop (length (E.drawn entropy.old)) (E.drawn entropy.new)) (disk_run D.reads D.images D.moment D.since disk.old disk.new) }
 {
     match command {
         Command::Tags(profile) => tags(alloc, profile, secret, out, disk),
@@ -370,7 +370,7 @@ fn serve_two_keys<K: Source, S: Sink, E: Entropy, D: Disk>(
     ensures takes_none { takes_keys (command_of change old new) ≡ false → input.new ≡ input.old }
     ensures draws { draws (command_of change old new) ≡ false → entropy.new ≡ entropy.old }
     ensures own_draws { IsTrue D.tells → IsTrue E.tells → result ≡ Status.Done
-        → HasOwnDraws (command_of change old new) (GaveKeys K.tells (asked_keys (command_of change old new)) (K.left input.old)) (main_of (D.reads disk.new)) (drop (length (E.drawn entropy.old)) (E.drawn entropy.new)) }
+        → DrewOwn (command_of change old new) (GaveKeys K.tells (asked_keys (command_of change old new)) (K.left input.old)) (main_of (D.reads disk.new)) (drop (length (E.drawn entropy.old)) (E.drawn entropy.new)) }
     ensures unrecovered { IsTrue D.tells → IsUnrecovered result → D.reads disk.new ≡ D.reads disk.old }
     ensures recovered { IsTrue D.tells
         → LeavesRecovered result (alters (command_of change old new)) (recovers_by (command_of change old new)) (disk_run D.reads D.images D.moment D.since disk.old disk.new) }
@@ -378,7 +378,7 @@ fn serve_two_keys<K: Source, S: Sink, E: Entropy, D: Disk>(
     ensures fresh_gone { IsTrue D.tells → result ≡ Status.Done → writes_beside (command_of change old new) ≡ true → (D.reads disk.new).fresh ≡ None }
     ensures keeps { IsTrue D.tells → Keeps (command_of change old new) (disk_run D.reads D.images D.moment D.since disk.old disk.new) }
     ensures changes { IsTrue D.tells
-        → Changes result (command_of change old new) (GaveKeys K.tells (asked_keys (command_of change old new)) (K.left input.old)) E.tells (drop (length (E.drawn entropy.old)) (E.drawn entropy.new)) (disk_run D.reads D.images D.moment D.since disk.old disk.new) }
+        → ChangesBy result (command_of change old new) (GaveKeys K.tells (asked_keys (command_of change old new)) (K.left input.old)) E.tells (drop (length (E.drawn entropy.old)) (E.drawn entropy.new)) (disk_run D.reads D.images D.moment D.since disk.old disk.new) }
     ensures entropy_later { E.faults entropy.old ≤ E.faults entropy.new }
     ensures input_later { K.faults input.old ≤ K.faults input.new }
     ensures output_later { S.faults out.old ≤ S.faults out.new }
@@ -420,7 +420,7 @@ fn change_with_secrets<S: Sink, E: Entropy, D: Disk>(
     ensures fresh { IsTrue D.tells → is_in_place change ≡ true → LeavesOnly D.moment D.since disk.old disk.new (From SameFresh (D.images disk.old)) }
     ensures fresh_gone { IsTrue D.tells → result ≡ Status.Done → is_in_place change ≡ false → (D.reads disk.new).fresh ≡ None }
     ensures own_draws { IsTrue D.tells → IsTrue E.tells → result ≡ Status.Done
-        → AreDrawn (command_of change old new) (from_to old first.now new second.now)
+        → AreDrawnBy (command_of change old new) (from_to old first.now new second.now)
         (main_of (D.reads disk.new)) (drop (length (E.drawn entropy.old)) (E.drawn entropy.new)) }
     ensures unrecovered { IsTrue D.tells → IsUnrecovered result → D.reads disk.new ≡ D.reads disk.old }
     ensures recovered { IsTrue D.tells → HasOnlyRead true result → IsRecovered old (disk_run D.reads D.images D.moment D.since disk.old disk.new) }

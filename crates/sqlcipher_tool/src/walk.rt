@@ -10,7 +10,7 @@ ghost use Rattle.btree_model.specs.Parts.{parts};
 ghost use Rattle.btree_walk.specs.Causes.{is_failure};
 ghost use Rattle.migrate_job.specs.Stops.{IsWalkStop};
 ghost use Rattle.pager.specs.Causes.{MayRefuse, is_fault};
-ghost use Rattle.pager.specs.File.{main_of};
+ghost use Rattle.edge_model.specs.Files.{main_of};
 ghost use Rattle.pager.specs.Held.{pins_of};
 ghost use Rattle.pager.specs.Pages.{opened_pages};
 ghost use Rattle.pager.specs.Reads.{DiskRead, Untouched};

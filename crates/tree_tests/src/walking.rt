@@ -1,6 +1,6 @@
 // Walks over pages made by hand from the tables of sections 1.6 and 1.7, and over a file of the real product.
 ghost use Rattle.std.specs.Prelude.{◌≡◌, length};
-ghost use Rattle.btree_walk.specs.Cursor.{IsReady};
+ghost use Rattle.btree_walk.specs.Cursor.{IsCursorReady};
 
 use crate::real_pages::PAGES;
 use btree_page::Family;
@@ -64,8 +64,8 @@ fn gives<S: PageSource>(
 ) -> Result<bool, Fail>
 where
     S::Refusal: Drop,
-    requires { IsReady (S.plain source.old).count (S.pins source.old) seen.old cursor.old }
-    ensures { IsReady (S.plain source.new).count (S.pins source.new) seen.new cursor.new }
+    requires { IsCursorReady (S.plain source.old).count (S.pins source.old) seen.old cursor.old }
+    ensures { IsCursorReady (S.plain source.new).count (S.pins source.new) seen.new cursor.new }
 {
     for row in rows {
         let payload = built(alloc, &row.payload)?;
@@ -90,8 +90,8 @@ where
 fn end_of<S: PageSource>(cursor: &mut Cursor, source: &mut S, seen: &mut Seen) -> Option<End>
 where
     S::Refusal: Drop,
-    requires { IsReady (S.plain source.old).count (S.pins source.old) seen.old cursor.old }
-    ensures { IsReady (S.plain source.new).count (S.pins source.new) seen.new cursor.new }
+    requires { IsCursorReady (S.plain source.old).count (S.pins source.old) seen.old cursor.old }
+    ensures { IsCursorReady (S.plain source.new).count (S.pins source.new) seen.new cursor.new }
 {
     match cursor.advance(source, seen) {
         Ok(true) => None,
@@ -112,7 +112,7 @@ fn gives_all<S: PageSource>(
 ) -> Result<bool, Fail>
 where
     S::Refusal: Drop,
-    requires { IsReady (S.plain source.old).count (S.pins source.old) seen.old cursor.old }
+    requires { IsCursorReady (S.plain source.old).count (S.pins source.old) seen.old cursor.old }
 {
     if !gives(alloc, cursor, source, seen, rows)? {
         return Ok(false);

@@ -8,7 +8,7 @@
 
 ghost use Rattle.std.specs.Prelude.{◌≡◌, ◌≤◌, ◌<◌, ◌+◌, length, IfSome};
 ghost use Rattle.db_format.specs.Source.{no_pins};
-ghost use Rattle.btree_walk.specs.Cursor.{IsReady};
+ghost use Rattle.btree_walk.specs.Cursor.{IsCursorReady};
 
 use btree_walk::Cursor;
 use db_format::{MemPages, PageSource, Seen};
@@ -27,7 +27,7 @@ fn number(words: &Vec<String>, at: usize, otherwise: u64) -> u64 {
 fn walk<S: PageSource>(cursor: &mut Cursor, source: &mut S, seen: &mut Seen) -> Option<u64>
 where
     S::Refusal: Drop,
-    requires { IsReady (S.plain source.old).count (S.pins source.old) seen.old cursor.old }
+    requires { IsCursorReady (S.plain source.old).count (S.pins source.old) seen.old cursor.old }
     ensures pins { IfSome result (λ sum. S.pins source.new ≡ no_pins) }
     ensures reads { S.only_read source.old source.new }
 {

@@ -1,6 +1,6 @@
 // Three images of a disk in memory, by going through its calls again.
 ghost use Rattle.std.specs.Prelude.{◌≡◌, ◌+◌, ◌-◌, map, take, length, replicate, ◌++◌, OnOk, IfOk};
-ghost use Rattle.edge_model.specs.Files.{Files, file_at, put_at, with_bytes, written, spliced, empty_file, created, removed, renamed};
+ghost use Rattle.edge_model.specs.Files.{Files, file_at, put_at, with_file_bytes, written, spliced, empty_file, created, removed, renamed};
 ghost use Rattle.edge_model.specs.Log.{after, file_of};
 ghost use Rattle.edge_model.specs.Picks.{as_read, as_synced, bare_step, lost_step, torn_step, torn_write};
 ghost use Rattle.edge_model.specs.Image.{numbered_file, image_files};
@@ -41,7 +41,7 @@ fn copy_file(alloc: Global, file: &Option<Numbered>) -> Result<Option<Numbered>,
 }
 
 fn write_numbered(slot: &mut Option<Numbered>, at: u64, bytes: &[u8]) -> Result<(), OutOfMemory>
-    ensures { OnOk result (numbered_file slot.new ≡ with_bytes (written at bytes.now) (numbered_file slot.old)) }
+    ensures { OnOk result (numbered_file slot.new ≡ with_file_bytes (written at bytes.now) (numbered_file slot.old)) }
 {
     match slot {
         None => Ok(()),
@@ -90,7 +90,7 @@ fn tear(file: &mut Vec<u8>, at: u64, bytes: &[u8]) -> Result<(), OutOfMemory>
 }
 
 fn tear_numbered(slot: &mut Option<Numbered>, at: u64, bytes: &[u8]) -> Result<(), OutOfMemory>
-    ensures { OnOk result (numbered_file slot.new ≡ with_bytes (torn_write at bytes.now) (numbered_file slot.old)) }
+    ensures { OnOk result (numbered_file slot.new ≡ with_file_bytes (torn_write at bytes.now) (numbered_file slot.old)) }
 {
     match slot {
         None => Ok(()),
@@ -100,7 +100,7 @@ fn tear_numbered(slot: &mut Option<Numbered>, at: u64, bytes: &[u8]) -> Result<(
 
 /// A write that leaves 255 - b for each byte b.
 pub fn tear_image(image: &mut Image, role: Role, at: u64, bytes: &[u8]) -> Result<(), OutOfMemory>
-    ensures { OnOk result (image_files image.new ≡ put_at (image_files image.old) role (with_bytes (torn_write at bytes.now) (file_at (image_files image.old) role))) }
+    ensures { OnOk result (image_files image.new ≡ put_at (image_files image.old) role (with_file_bytes (torn_write at bytes.now) (file_at (image_files image.old) role))) }
 {
     match role {
         Role::Main => tear_numbered(&mut image.main, at, bytes),
@@ -110,7 +110,7 @@ pub fn tear_image(image: &mut Image, role: Role, at: u64, bytes: &[u8]) -> Resul
 }
 
 fn cut_numbered(slot: &mut Option<Numbered>, len: u64)
-    ensures { numbered_file slot.new ≡ with_bytes (take len) (numbered_file slot.old) }
+    ensures { numbered_file slot.new ≡ with_file_bytes (take len) (numbered_file slot.old) }
 {
     if let Some(file) = slot {
         file.bytes.truncate(len as usize);
@@ -137,7 +137,7 @@ fn read_into(
 
 /// A write to the role's file.
 pub fn write_image(image: &mut Image, role: Role, at: u64, bytes: &[u8]) -> Result<(), OutOfMemory>
-    ensures { OnOk result (image_files image.new ≡ put_at (image_files image.old) role (with_bytes (written at bytes.now) (file_at (image_files image.old) role))) }
+    ensures { OnOk result (image_files image.new ≡ put_at (image_files image.old) role (with_file_bytes (written at bytes.now) (file_at (image_files image.old) role))) }
 {
     match role {
         Role::Main => write_numbered(&mut image.main, at, bytes),
@@ -148,7 +148,7 @@ pub fn write_image(image: &mut Image, role: Role, at: u64, bytes: &[u8]) -> Resu
 
 /// A cut of the role's file.
 pub fn cut_image(image: &mut Image, role: Role, len: u64)
-    ensures { image_files image.new ≡ put_at (image_files image.old) role (with_bytes (take len) (file_at (image_files image.old) role)) }
+    ensures { image_files image.new ≡ put_at (image_files image.old) role (with_file_bytes (take len) (file_at (image_files image.old) role)) }
 {
     match role {
         Role::Main => cut_numbered(&mut image.main, len),

@@ -2,7 +2,7 @@
 ghost use Rattle.std.specs.Prelude.{◌≡◌, ◌++◌, ◌+◌, ◌≤◌, ◌-◌, [], length, take, max, Some, None, IsErr, IsErrOf, IfOk, OnOk, OnErr};
 ghost use Rattle.std.specs.Option.{option_map};
 ghost use Rattle.edge_model.specs.Files.{written, spliced, filled_to};
-ghost use Rattle.edge_model.specs.Log.{shown, showing, shown_at, put_shown, change_bytes};
+ghost use Rattle.edge_model.specs.Log.{items_of, showing, shown_at, put_shown, change_bytes};
 
 use super::contents::Contents;
 use crate::Role;
@@ -50,10 +50,10 @@ pub fn write_file(file: &mut Vec<u8>, at: u64, bytes: &[u8]) -> Result<(), Refus
 }
 
 fn write_slot(slot: &mut Option<Vec<u8>>, at: u64, bytes: &[u8]) -> Result<(), Refusal>
-    ensures ok { OnOk result (shown slot.new ≡ change_bytes (written at bytes.now) (shown slot.old)) }
-    ensures err { OnErr result (shown slot.new ≡ shown slot.old) }
-    ensures absent { shown slot.old ≡ None → IsErr result }
-    ensures refusal { IsErrOf result Refusal.Absent → shown slot.old ≡ None }
+    ensures ok { OnOk result (items_of slot.new ≡ change_bytes (written at bytes.now) (items_of slot.old)) }
+    ensures err { OnErr result (items_of slot.new ≡ items_of slot.old) }
+    ensures absent { items_of slot.old ≡ None → IsErr result }
+    ensures refusal { IsErrOf result Refusal.Absent → items_of slot.old ≡ None }
 {
     match slot {
         Some(file) => write_file(file, at, bytes),
@@ -76,7 +76,7 @@ pub fn write_role(now: &mut Contents, role: Role, at: u64, bytes: &[u8]) -> Resu
 }
 
 fn cut_slot(slot: &mut Option<Vec<u8>>, len: u64)
-    ensures { shown slot.new ≡ change_bytes (take len) (shown slot.old) }
+    ensures { items_of slot.new ≡ change_bytes (take len) (items_of slot.old) }
 {
     if let Some(file) = slot {
         file.truncate(len as usize);
@@ -95,7 +95,7 @@ pub fn cut_role(now: &mut Contents, role: Role, len: u64)
 }
 
 fn slice_of(slot: &Option<Vec<u8>>) -> Option<&[u8]>
-    ensures { option_map (λ s. s.now) result ≡ shown slot.now }
+    ensures { option_map (λ s. s.now) result ≡ items_of slot.now }
 {
     match slot {
         Some(file) => Some(file.as_slice()),
@@ -116,7 +116,7 @@ pub fn file_in(now: &Contents, role: Role) -> Option<&[u8]>
 
 /// Puts a file, or none, into the role.
 pub fn set_role(now: &mut Contents, role: Role, file: Option<Vec<u8>>)
-    ensures { showing now.new ≡ put_shown (showing now.old) role (shown file) }
+    ensures { showing now.new ≡ put_shown (showing now.old) role (items_of file) }
 {
     match role {
         Role::Main => now.main = file,

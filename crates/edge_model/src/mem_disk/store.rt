@@ -1,8 +1,8 @@
 // A disk in memory without its faults: the files at the start, the calls that were done, and what is read now.
 ghost use Rattle.std.specs.Prelude.{◌≡◌, ◌≤◌, ◌++◌, ◌∷◌, [], length, take, Some, None, IsErr, IsErrOf, IfOk, OnOk, OnErr};
 ghost use Rattle.std.specs.Option.{option_map};
-ghost use Rattle.edge_model.specs.Files.{Files, bytes_of, nothing, read_from};
-ghost use Rattle.edge_model.specs.Log.{shown, showing, shown_at, change_bytes, files_of, reads_after, newest_first};
+ghost use Rattle.edge_model.specs.Files.{Files, bytes_of, no_files, read_from};
+ghost use Rattle.edge_model.specs.Log.{items_of, showing, shown_at, change_bytes, files_of, reads_after, newest_first};
 
 use super::contents::{Call, Contents};
 use super::slots::{cut_role, file_in, rename_in, set_role, write_role};
@@ -17,9 +17,9 @@ pub struct Store {
     pub start: Contents,
     pub current: Contents,
     pub calls: Vec<Call>,
-    ghost main_is: { bytes_of (reads_after (files_of start) (newest_first calls.items)).main ≡ shown current.main },
-    ghost journal_is: { bytes_of (reads_after (files_of start) (newest_first calls.items)).journal ≡ shown current.journal },
-    ghost fresh_is: { bytes_of (reads_after (files_of start) (newest_first calls.items)).fresh ≡ shown current.fresh },
+    ghost main_is: { bytes_of (reads_after (files_of start) (newest_first calls.items)).main ≡ items_of current.main },
+    ghost journal_is: { bytes_of (reads_after (files_of start) (newest_first calls.items)).journal ≡ items_of current.journal },
+    ghost fresh_is: { bytes_of (reads_after (files_of start) (newest_first calls.items)).fresh ≡ items_of current.fresh },
 }
 
 fn note(calls: &mut Vec<Call>, call: Call) -> Result<(), Refusal>
@@ -48,7 +48,7 @@ fn copy_from(file: &[u8], at: u64, buf: &mut [u8]) -> usize
 }
 
 fn copy(alloc: Global, bytes: Option<&[u8]>) -> Result<Option<Vec<u8>>, OutOfMemory>
-    ensures { IfOk result (λ copy. shown copy ≡ option_map (λ s. s.now) bytes.entry) }
+    ensures { IfOk result (λ copy. items_of copy ≡ option_map (λ s. s.now) bytes.entry) }
 {
     match bytes {
         None => Ok(None),
@@ -65,9 +65,9 @@ fn contents(
     journal: Option<&[u8]>,
     fresh: Option<&[u8]>,
 ) -> Result<Contents, OutOfMemory>
-    ensures main { IfOk result (λ contents. shown contents.main ≡ option_map (λ s. s.now) main.entry) }
-    ensures journal { IfOk result (λ contents. shown contents.journal ≡ option_map (λ s. s.now) journal.entry) }
-    ensures fresh { IfOk result (λ contents. shown contents.fresh ≡ option_map (λ s. s.now) fresh.entry) }
+    ensures main { IfOk result (λ contents. items_of contents.main ≡ option_map (λ s. s.now) main.entry) }
+    ensures journal { IfOk result (λ contents. items_of contents.journal ≡ option_map (λ s. s.now) journal.entry) }
+    ensures fresh { IfOk result (λ contents. items_of contents.fresh ≡ option_map (λ s. s.now) fresh.entry) }
 {
     let main = copy(alloc, main)?;
     let journal = copy(alloc, journal)?;
@@ -82,7 +82,7 @@ fn contents(
 impl Store {
     /// No role has a file.
     pub fn new(alloc: Global) -> Store
-        ensures files { files_of result.start ≡ nothing }
+        ensures files { files_of result.start ≡ no_files }
         ensures calls { result.calls.items ≡ [] }
     {
         Store {
@@ -108,9 +108,9 @@ impl Store {
         journal: Option<&[u8]>,
         fresh: Option<&[u8]>,
     ) -> Result<Store, OutOfMemory>
-        ensures main { IfOk result (λ store. shown store.start.main ≡ option_map (λ s. s.now) main.entry) }
-        ensures journal { IfOk result (λ store. shown store.start.journal ≡ option_map (λ s. s.now) journal.entry) }
-        ensures fresh { IfOk result (λ store. shown store.start.fresh ≡ option_map (λ s. s.now) fresh.entry) }
+        ensures main { IfOk result (λ store. items_of store.start.main ≡ option_map (λ s. s.now) main.entry) }
+        ensures journal { IfOk result (λ store. items_of store.start.journal ≡ option_map (λ s. s.now) journal.entry) }
+        ensures fresh { IfOk result (λ store. items_of store.start.fresh ≡ option_map (λ s. s.now) fresh.entry) }
         ensures calls { IfOk result (λ store. store.calls.items ≡ []) }
     {
         let start = contents(alloc, main, journal, fresh)?;

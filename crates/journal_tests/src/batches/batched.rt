@@ -5,11 +5,11 @@ ghost use Rattle.rollback_journal.specs.Writing.{at_first};
 
 use super::whole::{change_in_batches, undo_batch};
 use crate::files::{disk_with, each_recovers, plan_faults, runs_of};
+use atomic_commit::{Changes, DrawFailed, PageMarks, PageNumbers};
 use edge_model::{MemDisk, SilentDisk};
 use rollback_journal::JournalWriter;
 use std::alloc::Global;
 use std::test::Fail;
-use transaction::{Changes, DrawFailed, PageMarks, PageNumbers};
 
 /// Two pages, each of so many bytes of one value.
 #[derive(Drop)]

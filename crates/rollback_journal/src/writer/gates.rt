@@ -1,11 +1,10 @@
 // The gates of a journal. The gate of a segment is the first byte of its header: 0 while it is closed, d9 once it is open.
 ghost use Rattle.std.specs.Prelude.{◌≡◌, ◌≢◌, ◌⊎◌, ◌∷◌, [], ◌+◌, ◌-◌, ◌*◌, ◌<◌, ◌≤◌, length, take, IsTrue, OnOk, MatchBool};
 ghost use Rattle.edge_model.specs.Causes.{HasCause};
-ghost use Rattle.edge_model.specs.Files.{bytes_of, with_bytes, written};
+ghost use Rattle.edge_model.specs.Files.{bytes_of, with_file_bytes, written, contents};
 ghost use Rattle.edge_model.specs.Images.{Each, From, LeavesOnly};
-ghost use Rattle.rollback_journal.specs.Playing.{contents};
 ghost use Rattle.rollback_journal.specs.Plays.{PlaysNone, SameOthers, PlaysAsBefore, PlaysAsBeforeOrAll, PlaysAsBeforeOrNone};
-ghost use Rattle.rollback_journal.specs.Writing.{with_stage, with_segment, all_records, Stands, sector_of, IsHeaded};
+ghost use Rattle.rollback_journal.specs.Writing.{with_stage, with_segment, all_records, WriterStands, sector_of, IsJournalHeaded};
 
 use super::JournalWriter;
 use crate::put::put;
@@ -22,10 +21,10 @@ impl JournalWriter {
     /// Opens the present gate. Each image then has the segment whole behind it.
     pub fn open_gate<D: Disk>(&mut self, disk: &mut D) -> Result<(), Failed>
         requires stage { (self.old.stage ≡ Stage.Filling) × (0 < self.old.count) }
-        requires stands { IsTrue D.tells → Stands self.old (D.reads disk.old) (D.images disk.old) }
+        requires stands { IsTrue D.tells → WriterStands self.old (D.reads disk.old) (D.images disk.old) }
         ensures made { OnOk result (self.new ≡ with_stage Stage.Opened self.old) }
         ensures sizes { (self.new.page_size ≡ self.old.page_size) × (self.new.initial ≡ self.old.initial) }
-        ensures stands { OnOk result (IsTrue D.tells → Stands self.new (D.reads disk.new) (D.images disk.new)) }
+        ensures stands { OnOk result (IsTrue D.tells → WriterStands self.new (D.reads disk.new) (D.images disk.new)) }
         ensures records { OnOk result (IsTrue D.tells → all_records self.new (contents (D.reads disk.new).journal)
             ≡ all_records self.old (contents (D.reads disk.old).journal)) }
         ensures others { IsTrue D.tells → SameOthers (D.reads disk.old) (D.reads disk.new) }
@@ -44,10 +43,10 @@ impl JournalWriter {
     /// Begins a further segment at the next multiple of 512, with its gate closed.
     pub fn next_segment<D: Disk>(&mut self, disk: &mut D) -> Result<(), Failed>
         requires stage { (self.old.stage ≡ Stage.Opened) × (0 < self.old.count) }
-        requires stands { IsTrue D.tells → Stands self.old (D.reads disk.old) (D.images disk.old) }
+        requires stands { IsTrue D.tells → WriterStands self.old (D.reads disk.old) (D.images disk.old) }
         ensures made { OnOk result (self.new ≡ with_segment self.old) }
         ensures sizes { (self.new.page_size ≡ self.old.page_size) × (self.new.initial ≡ self.old.initial) }
-        ensures stands { OnOk result (IsTrue D.tells → Stands self.new (D.reads disk.new) (D.images disk.new)) }
+        ensures stands { OnOk result (IsTrue D.tells → WriterStands self.new (D.reads disk.new) (D.images disk.new)) }
         ensures records { OnOk result (IsTrue D.tells → all_records self.new (contents (D.reads disk.new).journal)
             ≡ all_records self.old (contents (D.reads disk.old).journal)) }
         ensures others { IsTrue D.tells → SameOthers (D.reads disk.old) (D.reads disk.new) }
@@ -69,13 +68,13 @@ impl JournalWriter {
     /// byte 0 is a synced 0 already, and nothing is written.
     pub fn close_gate<D: Disk>(&mut self, disk: &mut D) -> Result<(), Failed>
         requires stage { (self.old.stage ≡ Stage.Filling) ⊎ (self.old.stage ≡ Stage.Opened) }
-        requires stands { IsTrue D.tells → Stands self.old (D.reads disk.old) (D.images disk.old) }
+        requires stands { IsTrue D.tells → WriterStands self.old (D.reads disk.old) (D.images disk.old) }
         ensures made { OnOk result (self.new ≡ with_stage Stage.Closed self.old) }
         ensures sizes { (self.new.page_size ≡ self.old.page_size) × (self.new.initial ≡ self.old.initial) }
-        ensures stands { OnOk result (IsTrue D.tells → Stands self.new (D.reads disk.new) (D.images disk.new)) }
+        ensures stands { OnOk result (IsTrue D.tells → WriterStands self.new (D.reads disk.new) (D.images disk.new)) }
         ensures cold { OnOk result (IsTrue D.tells → Each (D.images disk.new) (λ c. PlaysNone (bytes_of c.journal))) }
         ensures one_byte { OnOk result (IsTrue D.tells → ((0 < self.old.at) ⊎ (self.old.stage ≡ Stage.Opened)) →
-            (D.reads disk.new).journal ≡ with_bytes (written 0 (0 ∷ [])) (D.reads disk.old).journal) }
+            (D.reads disk.new).journal ≡ with_file_bytes (written 0 (0 ∷ [])) (D.reads disk.old).journal) }
         ensures untouched { (self.old.at ≡ 0) × (self.old.stage ≡ Stage.Filling) → disk.new ≡ disk.old }
         ensures others { IsTrue D.tells → SameOthers (D.reads disk.old) (D.reads disk.new) }
         ensures any_moment { IsTrue D.tells → LeavesOnly D.moment D.since disk.old disk.new
@@ -120,9 +119,9 @@ impl JournalWriter {
     /// Writes the first sector but its first byte, and syncs it.
     fn put_head<D: Disk>(&self, disk: &mut D) -> Result<(), Failed>
         requires stage { (self.now.stage ≡ Stage.Filling) × (0 < self.now.count) }
-        requires stands { IsTrue D.tells → Stands self.now (D.reads disk.old) (D.images disk.old) }
-        ensures stands { OnOk result (IsTrue D.tells → Stands self.now (D.reads disk.new) (D.images disk.new)) }
-        ensures headed { OnOk result (IsTrue D.tells → IsHeaded self.now (contents (D.reads disk.new).journal)) }
+        requires stands { IsTrue D.tells → WriterStands self.now (D.reads disk.old) (D.images disk.old) }
+        ensures stands { OnOk result (IsTrue D.tells → WriterStands self.now (D.reads disk.new) (D.images disk.new)) }
+        ensures headed { OnOk result (IsTrue D.tells → IsJournalHeaded self.now (contents (D.reads disk.new).journal)) }
         ensures whole { OnOk result (IsTrue D.tells →
             Each (D.images disk.new) (λ c. c.journal ≡ (D.reads disk.new).journal)) }
         ensures records { OnOk result (IsTrue D.tells → all_records self.now (contents (D.reads disk.new).journal)
@@ -139,11 +138,11 @@ impl JournalWriter {
     /// Writes the first byte of the header, and syncs it.
     fn put_gate<D: Disk>(&self, disk: &mut D) -> Result<(), Failed>
         requires stage { (self.now.stage ≡ Stage.Filling) × (0 < self.now.count) }
-        requires stands { IsTrue D.tells → Stands self.now (D.reads disk.old) (D.images disk.old) }
-        requires headed { IsTrue D.tells → IsHeaded self.now (contents (D.reads disk.old).journal) }
+        requires stands { IsTrue D.tells → WriterStands self.now (D.reads disk.old) (D.images disk.old) }
+        requires headed { IsTrue D.tells → IsJournalHeaded self.now (contents (D.reads disk.old).journal) }
         requires whole { IsTrue D.tells → Each (D.images disk.old) (λ c. c.journal ≡ (D.reads disk.old).journal) }
         ensures stands { OnOk result (IsTrue D.tells →
-            Stands (with_stage Stage.Opened self.now) (D.reads disk.new) (D.images disk.new)) }
+            WriterStands (with_stage Stage.Opened self.now) (D.reads disk.new) (D.images disk.new)) }
         ensures records { OnOk result (IsTrue D.tells → all_records self.now (contents (D.reads disk.new).journal)
             ≡ all_records self.now (contents (D.reads disk.old).journal)) }
         ensures others { IsTrue D.tells → SameOthers (D.reads disk.old) (D.reads disk.new) }

@@ -3,10 +3,10 @@ ghost use Rattle.std.specs.Prelude.{◌≡◌, ◌⊎◌, ◌-◌, ◌*◌, ◌<
 ghost use Rattle.edge_model.specs.Causes.{HasCause};
 ghost use Rattle.edge_model.specs.Images.{Each, From, LeavesOnly};
 ghost use Rattle.rollback_journal.specs.Laying.{laid};
-ghost use Rattle.rollback_journal.specs.Recovery.{Keeps, IsHeld};
-ghost use Rattle.rollback_journal.specs.Playing.{contents};
+ghost use Rattle.rollback_journal.specs.Recovery.{KeepsRecovered, IsHeld};
+ghost use Rattle.edge_model.specs.Files.{contents};
 ghost use Rattle.rollback_journal.specs.Plays.{Plays};
-ghost use Rattle.rollback_journal.specs.Writing.{safe_records, Stands};
+ghost use Rattle.rollback_journal.specs.Writing.{safe_records, WriterStands};
 ghost use Rattle.rollback_journal.specs.declared.stage.Stage.{Stage};
 
 use super::JournalWriter;
@@ -18,7 +18,7 @@ impl JournalWriter {
     /// stays as it is.
     pub fn lay_back<D: Disk>(&mut self, disk: &mut D) -> Result<(), Failed>
         requires stage { (self.old.stage ≡ Stage.Filling) ⊎ (self.old.stage ≡ Stage.Opened) }
-        requires stands { IsTrue D.tells → Stands self.old (D.reads disk.old) (D.images disk.old) }
+        requires stands { IsTrue D.tells → WriterStands self.old (D.reads disk.old) (D.images disk.old) }
         requires pages { IsTrue D.tells →
             Each (D.images disk.old) (λ c. self.old.initial * self.old.page_size ≤ length (contents c.main)) }
         ensures same { self.new ≡ self.old }
@@ -27,9 +27,9 @@ impl JournalWriter {
             ≡ laid self.old.page_size (safe_records self.old (contents (D.reads disk.old).journal)) (contents (D.reads disk.old).main)) }
         ensures journal { OnOk result (IsTrue D.tells → (D.reads disk.new).journal ≡ (D.reads disk.old).journal) }
         ensures settled { OnOk result (IsTrue D.tells → Each (D.images disk.new) (λ c. c.main ≡ (D.reads disk.new).main)) }
-        ensures stands { OnOk result (IsTrue D.tells → Stands self.old (D.reads disk.new) (D.images disk.new)) }
+        ensures stands { OnOk result (IsTrue D.tells → WriterStands self.old (D.reads disk.new) (D.images disk.new)) }
         ensures any_moment { IsTrue D.tells →
-            LeavesOnly D.moment D.since disk.old disk.new (From (Keeps self.old.page_size) (D.images disk.old)) }
+            LeavesOnly D.moment D.since disk.old disk.new (From (KeepsRecovered self.old.page_size) (D.images disk.old)) }
         ensures cause { HasCause (D.faults disk.old) (D.faults disk.new) result }
     {
         let begun = self.is_begun();
@@ -48,7 +48,7 @@ impl JournalWriter {
     fn play_back<D: Disk>(&mut self, disk: &mut D) -> Result<(), Failed>
         requires begun { (0 < self.old.at) ⊎ (self.old.stage ≡ Stage.Opened) }
         requires stage { (self.old.stage ≡ Stage.Filling) ⊎ (self.old.stage ≡ Stage.Opened) }
-        requires stands { IsTrue D.tells → Stands self.old (D.reads disk.old) (D.images disk.old) }
+        requires stands { IsTrue D.tells → WriterStands self.old (D.reads disk.old) (D.images disk.old) }
         requires pages { IsTrue D.tells →
             Each (D.images disk.old) (λ c. self.old.initial * self.old.page_size ≤ length (contents c.main)) }
         requires held { IsTrue D.tells → Each (D.images disk.old) (IsHeld (D.reads disk.old)) }
@@ -59,7 +59,7 @@ impl JournalWriter {
         ensures journal { OnOk result (IsTrue D.tells → (D.reads disk.new).journal ≡ (D.reads disk.old).journal) }
         ensures held { OnOk result (IsTrue D.tells → Each (D.images disk.new) (IsHeld (D.reads disk.new))) }
         ensures any_moment { IsTrue D.tells →
-            LeavesOnly D.moment D.since disk.old disk.new (From (Keeps self.old.page_size) (D.images disk.old)) }
+            LeavesOnly D.moment D.since disk.old disk.new (From (KeepsRecovered self.old.page_size) (D.images disk.old)) }
         ensures cause { HasCause (D.faults disk.old) (D.faults disk.new) result }
     {
         let Some(len) = disk.length(Role::Journal)? else {

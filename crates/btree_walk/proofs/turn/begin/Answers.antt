@@ -8,7 +8,7 @@ use Rattle.btree_model.specs.Tree.{tree_walk}
 use Rattle.btree_walk.specs.declared.error.WalkError.TheVariants.{Source}
 use Rattle.btree_walk.specs.Causes.{IsAmong, IsMarked}
 use Rattle.btree_walk.specs.Cursor.{walked_family}
-use Rattle.btree_walk.specs.Turn.{IsInside, IsNode, IsOpened}
+use Rattle.btree_walk.specs.Turn.{IsInside, IsNode, IsNodeOpened}
 use Rattle.btree_walk.proofs.CauseLemmas.{given_later}
 use Rattle.btree_walk.proofs.PathLemmas.{number_is_page}
 use Rattle.btree_walk.proofs.TurnLemmas.{start_marked, start_on, start_shut, start_stop}
@@ -46,8 +46,8 @@ returns-in-Err-open_page-clause-on g c told taken given at =
     (start_shut (g.S.PageSource.plain c.args.source.now) family c.args.cursor.now.root (marked c.args.seen.now) g.S.PageSource.refuses c.in-Err-open_page.error
     (c.mark.ensures.fresh ∙ ap not c.if-not-mark.false)
     (number_is_page (g.S.PageSource.plain c.args.source.now) c.args.cursor.now.root c.requires.ready.low c.requires.ready.high)
-    (subst (λ f. IsOpened g.S.PageSource.refuses (g.S.PageSource.plain c.args.source.now) f c.args.cursor.now.root (Err c.in-Err-open_page.error)) (c.in-Ok.ensures.value told)
-    (subst (λ p. IsOpened g.S.PageSource.refuses p c.in-Ok.family c.args.cursor.now.root (Err c.in-Err-open_page.error)) same (c.in-Err-open_page.ensures.opened told))))
+    (subst (λ f. IsNodeOpened g.S.PageSource.refuses (g.S.PageSource.plain c.args.source.now) f c.args.cursor.now.root (Err c.in-Err-open_page.error)) (c.in-Ok.ensures.value told)
+    (subst (λ p. IsNodeOpened g.S.PageSource.refuses p c.in-Ok.family c.args.cursor.now.root (Err c.in-Err-open_page.error)) same (c.in-Err-open_page.ensures.opened told))))
 
 pub returns-in-Ok-open_page-clause-on : goal.returns-in-Ok-open_page-clause-on
 returns-in-Ok-open_page-clause-on g c told taken given at =

@@ -2,7 +2,7 @@ use Rattle.std.proofs.Common.{◌≡◌, ◌≤◌, List, IsTrue}
 use Rattle.db_format.specs.Pages.{Test}
 use Rattle.db_format.specs.Seen.{marked}
 use Rattle.btree_model.specs.Finding.{Row}
-use Rattle.btree_walk.specs.Cursor.{IsReady, IsSameWalk, IsWalking}
+use Rattle.btree_walk.specs.Cursor.{IsCursorReady, IsSameWalk, IsWalking}
 use Rattle.btree_walk.specs.Turn.{work}
 use Rattle.btree_walk.specs.Marks.{KeepsMarks}
 use Rattle.btree_walk.proofs.turn.walk_on.Given as goal
@@ -10,7 +10,7 @@ use Rattle.btree_walk.proofs.turn.walk_on.Given as goal
 abbrev pub invariant-loop-cursor : goal.invariant-loop-cursor
 invariant-loop-cursor g l =
     record {
-      ready : IsReady (g.S.PageSource.plain l.initial.source).count (g.S.PageSource.pins l.source) l.seen l.cursor;
+      ready : IsCursorReady (g.S.PageSource.plain l.initial.source).count (g.S.PageSource.pins l.source) l.seen l.cursor;
       same : IsSameWalk l.initial.cursor l.cursor;
       reads : g.S.PageSource.only_read l.initial.source l.source;
       kept : KeepsMarks (marked l.initial.seen) (marked l.seen);

@@ -6,7 +6,7 @@ use Rattle.btree_page.specs.declared.kind.Kind.{Kind}
 use Rattle.btree_page.specs.Kind.{family_of, is_interior}
 use Rattle.btree_page.specs.Step.{child, steps}
 use Rattle.load_model.specs.Open.{at_height}
-use Rattle.load_model.specs.Stands.{Stands}
+use Rattle.load_model.specs.Stands.{OpenPagesStand}
 use Rattle.page_build.specs.Written.{right_child}
 use Rattle.bulk_load.specs.declared.level.Level.{Level}
 use Rattle.bulk_load.specs.Close.{HasCells}
@@ -35,11 +35,11 @@ returns-in_default-clause-tree g t c start well own covers todo todos h last pus
     let same : level.page.kind ≡ here = c.in_ok-drain.ensures.kind in
     let d : IsDrained mid level c.drain.new.above.items old.usable kind h (at_height h (steps [] (right_child here c.args.below))) last pushed =
     c.in_ok-drain.ensures.drained start well own (covers_before _ own _ _ _ c.put_root.ensures.keeps.count covers) todo todos h (at_height h (steps [] (right_child here c.args.below))) last pushed up hold holds st in
-    let ready : Stands mid (family_of kind) last (at_height h (steps d.cells (right_child here c.args.below))) pushed =
+    let ready : OpenPagesStand mid (family_of kind) last (at_height h (steps d.cells (right_child here c.args.below))) pushed =
     last_page mid c.drain.new.above.items old.usable kind here d.cells d.rest.todos h c.args.below last pushed c.in_default.ensures.0 d.rest.hold d.rest.stands in
     c.put_root.ensures.tree start (c.in_ok-drain.ensures.follows.told start well) own (covers_behind _ own _ _ _ c.in_ok-drain.ensures.keeps.count covers) d.cells h last pushed (omega arith) (ap up_kind same ∙ up)
     (subst (λ u. HasCells level.page u d.cells) (sym c.in_ok-drain.ensures.keeps.size) d.has)
-    (subst (λ k. Stands mid (family_of kind) last (at_height h (steps d.cells (right_child k c.args.below))) pushed) (sym same) ready)
+    (subst (λ k. OpenPagesStand mid (family_of kind) last (at_height h (steps d.cells (right_child k c.args.below))) pushed) (sym same) ready)
 
 pub returns-in_default-clause-follows : goal.returns-in_default-clause-follows
 returns-in_default-clause-follows g t c =
@@ -66,7 +66,7 @@ returns-clause-tree g t c start well own covers todo todos h last pushed low up 
     let d : IsDrained mid level c.drain.new.above.items old.usable kind h (at_height h (steps [] (right_child here c.args.below))) last pushed =
     c.in_ok-drain.ensures.drained start well own (covers_before _ own _ _ _ c.in-Ok.ensures.keeps.count first) todo todos h (at_height h (steps [] (right_child here c.args.below))) last pushed up hold holds st in
     let told = c.in_ok-drain.ensures.follows.told start well in
-    let closed : Stands new (family_of kind) last (opened (suc h) d.rest.todos ++ (record { height = suc h; leads = child m } ∷ [])) pushed =
+    let closed : OpenPagesStand new (family_of kind) last (opened (suc h) d.rest.todos ++ (record { height = suc h; leads = child m } ∷ [])) pushed =
     end_is mid new level.page here kind old.usable c.args.below m d.cells (opened (suc h) d.rest.todos) h last pushed (c.in-Ok.ensures.closed start told own (covers_behind _ own _ _ _ c.in_ok-drain.ensures.keeps.count first))
     c.in_ok-drain.ensures.kind up c.in_ok-drain.ensures.keeps.size d.has d.rest.stands in
     let n : IsNextLevel new c.in-Some.next c.take_lowest.new.levels.items old.usable kind (suc h) m last pushed =

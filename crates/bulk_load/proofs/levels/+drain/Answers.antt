@@ -1,6 +1,6 @@
 use Rattle.std.proofs.Common.{rules, ◌≡◌, ◌≤◌, ◌+◌, ◌*◌, inl, inr, [], length, ℕ, arith, suc, false, List, ◌∷◌, ap, sym, subst, ◌∙◌, ◌++◌}
 use Rattle.load_model.specs.Open.{at_height}
-use Rattle.load_model.specs.Stands.{Stands}
+use Rattle.load_model.specs.Stands.{OpenPagesStand}
 use Rattle.btree_page.specs.Kind.{family_of}
 use Rattle.bulk_load.specs.declared.pair.Pair.{Pair}
 use Rattle.bulk_load.specs.declared.level.Level.{Level}
@@ -34,7 +34,7 @@ returns-in-Ok-false-clause-drained g t c start well own covers todo todos h back
     let next : IsNext mid c.settle.new.page c.settle.new.pair rest old.usable here h (opened (suc h) todos) back last pushed c.in-Ok-false.field-0 =
     next_is old mid c.args.level.now.page c.settle.new.page c.args.level.now.waiting.items rest c.in-Some.first c.settle.new.pair c.in-Ok-false.field-0 hold.cells hold.between todo h (opened (suc h) todos) back last pushed
     (c.in-Ok-false.ensures.settled start well own (covers_before _ own _ _ _ c.drain-in-Ok-false.ensures.keeps.count covers)) c.in-Some.ensures hold.has hold.pairs hold.is
-    (subst (λ f. Stands old f last (opened (suc h) todos ++ (at_height h todo ++ back)) pushed) (ap family_of (sym up) ∙ family_up here) st)
+    (subst (λ f. OpenPagesStand old f last (opened (suc h) todos ++ (at_height h todo ++ back)) pushed) (ap family_of (sym up) ∙ family_up here) st)
     in
     drain_false mid (only own (g.P.PageOut.pages c.drain-in-Ok-false.new.out)) level c.drain-in-Ok-false.new.level c.args.above.now.items c.drain-in-Ok-false.new.above.items c.settle.new.pair old.usable c.args.kind here c.drain-in-Ok-false.result
     todos h back last pushed c.in-Ok-false.field-0 (c.drain-in-Ok-false.ensures.drained start (c.in-Ok-false.ensures.follows.told start well) own (covers_behind _ own _ _ _ c.in-Ok-false.ensures.keeps.count covers)) c.in-Ok-false.ensures.keeps.size c.in-Ok-false.ensures.shape.kind up above c.in-Ok-false.field-0-test next
@@ -53,7 +53,7 @@ returns-in_ok-climb-in-Ok-true-clause-drained g t c start well own covers todo t
     let next : IsNext mid c.settle.new.page c.settle.new.pair rest old.usable here h (opened (suc h) todos) back last pushed c.in-Ok-true.field-0 =
     next_is old mid c.args.level.now.page c.settle.new.page c.args.level.now.waiting.items rest c.in-Some.first c.settle.new.pair c.in-Ok-true.field-0 hold.cells hold.between todo h (opened (suc h) todos) back last pushed
     (c.in-Ok-true.ensures.settled start well own (covers_before _ own _ _ _ c.in_ok-climb-in-Ok-true.ensures.keeps.count first)) c.in-Some.ensures hold.has hold.pairs hold.is
-    (subst (λ f. Stands old f last (opened (suc h) todos ++ (at_height h todo ++ back)) pushed) (ap family_of (sym up) ∙ family_up here) st)
+    (subst (λ f. OpenPagesStand old f last (opened (suc h) todos ++ (at_height h todo ++ back)) pushed) (ap family_of (sym up) ∙ family_up here) st)
     in
     drain_true mid (only own (g.P.PageOut.pages c.climb.new.out)) (only own (g.P.PageOut.pages c.drain.new.out)) level c.drain.new.level c.args.above.now.items c.climb.new.levels.items c.drain.new.above.items c.settle.new.pair old.usable c.args.kind here c.drain.result
     todos h back last pushed c.in-Ok-true.field-0 (c.in_ok-climb-in-Ok-true.ensures.climbed start (c.in-Ok-true.ensures.follows.told start well) own (covers_behind _ own _ _ _ c.in-Ok-true.ensures.keeps.count first))

@@ -4,9 +4,9 @@ use Rattle.db_format.specs.Pages.{Pages}
 use Rattle.btree_page.specs.Kind.{family_of}
 use Rattle.btree_page.specs.Step.{steps}
 use Rattle.load_model.specs.Open.{at_height}
-use Rattle.load_model.specs.Stands.{Stands}
+use Rattle.load_model.specs.Stands.{OpenPagesStand}
 use Rattle.page_build.specs.Draft.{room_of, with_cell}
-use Rattle.page_build.specs.Written.{right_child, IsWritten}
+use Rattle.page_build.specs.Written.{right_child, IsCellWritten}
 use Rattle.bulk_load.specs.Close.{HasCells}
 use Rattle.bulk_load.specs.Settle.{two, cell_on, skip_of}
 use Rattle.bulk_load.specs.Own.{only}
@@ -26,13 +26,13 @@ returns-then-has_room-clause-settled g c start well own covers cells s h front b
     let bytes : List ℕ = c.deref.result.now in
     let is_skip : skip ≡ skip_of kind = c.skipped-skip.ensures.value ∙ ap skip_of c.kind.ensures in
     let all : take (length bytes - skip) (drop skip bytes) ≡ drop skip items = between_to_end bytes skip (length bytes) (omega arith) ∙ ap (drop skip) c.deref.ensures.value in
-    let one : IsWritten kind out.usable (drop skip items) (cell_on kind n s) =
-    subst (λ k. IsWritten kind out.usable (drop k items) (cell_on kind n s)) (sym is_skip)
-    (subst (λ l. IsWritten kind out.usable (drop (skip_of kind) l) (cell_on kind n s)) (sym pair.names) (pair.here n))
+    let one : IsCellWritten kind out.usable (drop skip items) (cell_on kind n s) =
+    subst (λ k. IsCellWritten kind out.usable (drop k items) (cell_on kind n s)) (sym is_skip)
+    (subst (λ l. IsCellWritten kind out.usable (drop (skip_of kind) l) (cell_on kind n s)) (sym pair.names) (pair.here n))
     in (
       subst (λ d. HasCells d out.usable (cells ++ cell_on kind n s ∷ [])) (sym (c.add.ensures ∙ ap (with_cell c.args.page.now) all))
           (cells_more c.args.page.now out.usable cells (drop skip items) (cell_on kind n s) has one),
-      subst (λ l. Stands out (family_of kind) last l pushed) (on_page kind cells n h s front back pair.may) st,
+      subst (λ l. OpenPagesStand out (family_of kind) last l pushed) (on_page kind cells n h s front back pair.may) st,
     )
 
 pub returns-clause-settled : goal.returns-clause-settled
@@ -42,13 +42,13 @@ returns-clause-settled g c start well own covers cells s h front back last pushe
     let n : ℕ = c.args.pair.now.child in
     let new : Pages = only own (g.P.PageOut.pages c.close.new.out) in
     let m : ℕ = c.in_ok-m.m in
-    let ready : Stands old (family_of kind) last (front ++ (at_height h (steps cells (right_child kind n)) ++ (record { height = h; leads = s } ∷ back))) pushed =
-    subst (λ l. Stands old (family_of kind) last l pushed) (as_last kind cells n h s front back) st
+    let ready : OpenPagesStand old (family_of kind) last (front ++ (at_height h (steps cells (right_child kind n)) ++ (record { height = h; leads = s } ∷ back))) pushed =
+    subst (λ l. OpenPagesStand old (family_of kind) last l pushed) (as_last kind cells n h s front back) st
     in (
       subst (λ d. HasCells d old.usable []) (sym c.clear.ensures)
           (cells_none c.close.new.page old.usable (ap (λ d. d.usable) c.in_ok-m.ensures.same ∙ c.requires.size)),
       pair_up kind old.usable s c.args.pair.now c.name.new.pair m pair c.name.ensures.cell c.name.ensures.child,
-      subst (λ k. Stands new (family_of kind) last (front ++ (two (suc h) k s ++ back)) pushed) (sym c.name.ensures.child)
+      subst (λ k. OpenPagesStand new (family_of kind) last (front ++ (two (suc h) k s ++ back)) pushed) (sym c.name.ensures.child)
           (closed_then new (family_of kind) last front back pushed h m s (may_between kind s pair.may)
           (c.in_ok-m.ensures.closed start well own covers cells h front (record { height = h; leads = s } ∷ back) last pushed has ready)),
     )

@@ -5,7 +5,7 @@ use Rattle.btree_page.specs.Kind.{family_of, is_interior}
 use Rattle.btree_page.specs.Page.{Node}
 use Rattle.btree_page.specs.Step.{child, steps}
 use Rattle.load_model.specs.Open.{at_height}
-use Rattle.load_model.specs.Stands.{Stands}
+use Rattle.load_model.specs.Stands.{OpenPagesStand}
 use Rattle.load_model.proofs.RootLemmas.{lone_root, lone_whole, root_tree, root_whole}
 use Rattle.page_build.specs.Draft.{as_first}
 use Rattle.page_build.specs.Written.{right_child}
@@ -31,8 +31,8 @@ returns-in-Ok-clause-tree g c start well own covers cells h last pushed low up h
     subst (λ k. IsRoot old new 1 (record { kind = k; cells = cells; right = right_child k c.args.right })) (ap (λ d. d.kind) moved)
     (c.in-Ok.ensures.root start well own covers cells (subst (λ d. HasCells d old.usable cells) (sym moved) first)) in
     let least : h ≤ 19 = omega arith in
-    let ready : Stands old (family_of page.kind) last (at_height h (steps cells (right_child page.kind c.args.right))) pushed =
-    subst (λ f. Stands old f last (at_height h (steps cells (right_child page.kind c.args.right))) pushed) (sym fam) st in
+    let ready : OpenPagesStand old (family_of page.kind) last (at_height h (steps cells (right_child page.kind c.args.right))) pushed =
+    subst (λ f. OpenPagesStand old f last (at_height h (steps cells (right_child page.kind c.args.right))) pushed) (sym fam) st in
     subst (λ f. HasTree new f 1 pushed) fam
     (record {
       lists = root_tree old new (family_of page.kind) last pushed h 1 one root.put root.reads least ready;
@@ -50,7 +50,7 @@ returns-in-Ok-put_first-clause-tree g c start well own covers cells h last pushe
     let first = c.in-Ok-new.first in
     let inner : is_interior kind ≡ true = subst (λ k. is_interior k ≡ true) up (up_interior page.kind) in
     let told = c.in-Ok-close.ensures.follows.told start well in
-    let closed : Stands mid (family_of kind) last (record { height = suc h; leads = child m } ∷ []) pushed =
+    let closed : OpenPagesStand mid (family_of kind) last (record { height = suc h; leads = child m } ∷ []) pushed =
     closed_tree old mid page kind old.usable c.args.right m cells h last pushed (c.in-Ok-close.ensures.closed start well own (covers_before _ own _ _ _ c.in-Ok-put_first.ensures.keeps.count covers)) up has low st in
     let is_kind : first.kind ≡ kind = ap (λ d. d.kind) c.in-Ok-new.ensures in
     let none : first.cells ≡ [] = ap (λ d. d.cells) c.in-Ok-new.ensures in

@@ -1,6 +1,6 @@
 use Rattle.std.proofs.Common.{◌≡◌, ◌≤◌, ℕ, List, ◌+◌, ◌*◌, ap, ◌∙◌, length, arith, refl}
 use Rattle.aes_lanes.specs.Blocks.{block_in}
-use Rattle.cbc_mode.specs.Halves.{bytes_of}
+use Rattle.cbc_mode.specs.Halves.{block_bytes}
 use Rattle.cbc_mode.proofs.ColumnFacts.{column_more, column_none, filled_more, filled_none, in_records}
 use Rattle.cbc_mode.proofs.LoopFacts.{alone}
 use Rattle.cbc_mode.proofs.side.put_column.Goals as goal
@@ -13,7 +13,7 @@ rows-init c = (
 
 pub rows-preserved : goal.rows-preserved
 rows-preserved c =
-    let given : List ℕ = bytes_of c.at-block.result in
+    let given : List ℕ = block_bytes c.at-block.result in
     let is : given ≡ block_in c.args.blocks.now c.rows.i =
     c.at-block.ensures ∙ alone c.block_of-bytes.result (ap length c.block_of-bytes.ensures) ∙ c.block_of-bytes.ensures in
     let within : 16 * (c.args.stride * c.rows.i + c.args.j) + 16 ≤ length c.rows.records = omega

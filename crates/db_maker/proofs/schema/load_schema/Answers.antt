@@ -5,7 +5,7 @@ use Rattle.btree_model.specs.Content.{Entry}
 use Rattle.btree_page.specs.declared.kind.Family.{Family}
 use Rattle.bulk_load.specs.Few.{TookFew, load_pages}
 use Rattle.bulk_load.specs.Loader.{family_of_loader}
-use Rattle.bulk_load.specs.Out.{Follows, Keeps, is_load_refusal}
+use Rattle.bulk_load.specs.Out.{Follows, KeepsPages, is_load_refusal}
 use Rattle.bulk_load.proofs.FewLemmas.{asked_all, asked_as}
 use Rattle.db_maker.proofs.SchemaLaws.{err_to, schema_few, took_at}
 use Rattle.btree_page.specs.declared.kind.Family.TheVariants.{Table}
@@ -141,7 +141,7 @@ returns-in_err-finish-clause-keeps g c =
     let pushed = c.in_ok-push_schema.ensures in
     let at_one : c.push_schema.new.loader.at_one ≡ true = pushed.at_one ∙ c.in_ok-loader.ensures.at_one in
     keeps_after p.pages p.limit p.faults p.well true c.args.out.now c.push_schema.new.out c.finish.new.out pushed.follows
-    (subst (λ first. Keeps p.pages p.limit p.faults p.well first c.push_schema.new.out c.finish.new.out) at_one c.finish.ensures.keeps)
+    (subst (λ first. KeepsPages p.pages p.limit p.faults p.well first c.push_schema.new.out c.finish.new.out) at_one c.finish.ensures.keeps)
 
 pub returns-clause-keeps : goal.returns-clause-keeps
 returns-clause-keeps g c =
@@ -149,7 +149,7 @@ returns-clause-keeps g c =
     let pushed = c.in_ok-push_schema.ensures in
     let at_one : c.push_schema.new.loader.at_one ≡ true = pushed.at_one ∙ c.in_ok-loader.ensures.at_one in
     keeps_after p.pages p.limit p.faults p.well true c.args.out.now c.push_schema.new.out c.finish.new.out pushed.follows
-    (subst (λ first. Keeps p.pages p.limit p.faults p.well first c.push_schema.new.out c.finish.new.out) at_one c.in_ok-finish.ensures.keeps)
+    (subst (λ first. KeepsPages p.pages p.limit p.faults p.well first c.push_schema.new.out c.finish.new.out) at_one c.in_ok-finish.ensures.keeps)
 
 pub returns-clause-follows : goal.returns-clause-follows
 returns-clause-follows g c =

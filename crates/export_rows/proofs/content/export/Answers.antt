@@ -13,10 +13,10 @@ use Rattle.btree_walk.specs.declared.error.WalkError.TheVariants.{Defect, Source
 use Rattle.schema_map.specs.Parts.{IsEarliest}
 use Rattle.schema_map.specs.Schema.{schema_row}
 use Rattle.schema_map.specs.declared.schema.SchemaRow.{SchemaRow}
-use Rattle.export_rows.specs.Causes.{IfWalk, IsLate}
+use Rattle.export_rows.specs.Causes.{IfWalk, IsLateWalk}
 use Rattle.export_rows.specs.Lines.{database_line, end_line, kept_of}
 use Rattle.export_rows.specs.Report.{entry_count, export_report}
-use Rattle.export_rows.specs.Schema.{IsSchemaOf, row_count, rows_text}
+use Rattle.export_rows.specs.Schema.{IsSchemaOf, row_count, schema_rows_text}
 use Rattle.schema_map.specs.Alone.{schema_rows}
 use Rattle.export_rows.specs.declared.error.ExportError.{ExportError}
 use Rattle.export_rows.specs.declared.error.ExportError.TheVariants.{Walk, OutputFault}
@@ -29,18 +29,18 @@ use Rattle.export_rows.proofs.content.export.Goals as goal
 
 -- the lines that are put are the report on the content
 report_is : (pages : Pages) (header : Header) (rows : List SchemaRow) → header ≡ header_fields (pages.page 1) → IsSchemaOf pages rows
-    → database_line (kept_of header) ++ rows_text pages rows ++ end_line ≡ export_report (content pages)
+    → database_line (kept_of header) ++ schema_rows_text pages rows ++ end_line ≡ export_report (content pages)
 report_is pages header rows fields schema =
-    ap (λ (h : Header). database_line (kept_of h) ++ rows_text pages rows ++ end_line) fields
+    ap (λ (h : Header). database_line (kept_of h) ++ schema_rows_text pages rows ++ end_line) fields
     ∙ ap (λ (l : List ℕ). database_line (content pages).kept ++ l ++ end_line)
-    (ap (rows_text pages) schema.are ∙ text_of_content pages (schema_rows pages))
+    (ap (schema_rows_text pages) schema.are ∙ text_of_content pages (schema_rows pages))
 
 count_is : (pages : Pages) (rows : List SchemaRow) → IsSchemaOf pages rows → sum_by (row_count pages) rows ≡ entry_count (content pages)
 count_is pages rows schema = ap (sum_by (row_count pages)) schema.are ∙ count_of_content pages (schema_rows pages)
 
 -- what stops after the check is a stop of the earliest part too
 earliest : {R A : Type 0} (refuses : Pages → ℕ → R → Type 0) (before middle : Pages) (tells : Type 0) (result : Result A (ExportError R)) → (tells → middle ≡ before)
-    → IfErr result (IfWalk (λ error. tells → IsLate refuses middle error)) → IfErr result (IfWalk (λ error. tells → IsEarliest refuses before (parts before) error))
+    → IfErr result (IfWalk (λ error. tells → IsLateWalk refuses middle error)) → IfErr result (IfWalk (λ error. tells → IsEarliest refuses before (parts before) error))
 earliest refuses before middle tells (Ok value) same late = tt
 earliest refuses before middle tells (Err (Walk (Defect d))) same late = λ told. absurd (late told)
 earliest refuses before middle tells (Err (Walk (Source refusal))) same late = λ told.
@@ -79,7 +79,7 @@ returns-clause-text g c = on_ok_weaker c.put_content.result (λ done told t.
     let same : g.S.PageSource.plain c.census.new.source ≡ pages = g.met.S.PageSource.same_pages c.args.source.now c.census.new.source c.in-Ok.ensures.reads told in
     let schema : IsSchemaOf pages c.rows.result.now = schema_of pages c.in-Ok.census.schema c.rows.result.now c.in-Ok.census.entries (c.in-Ok.ensures.found told).sound (c.in-Ok.ensures.found told).schema
     (c.in-Ok.ensures.found told).rows (search rules) c.rows.ensures in
-    done told t ∙ ap (λ (p : Pages). g.K.Sink.taken c.args.out.now ++ (database_line (kept_of c.args.header.now) ++ rows_text p c.rows.result.now ++ end_line)) same
+    done told t ∙ ap (λ (p : Pages). g.K.Sink.taken c.args.out.now ++ (database_line (kept_of c.args.header.now) ++ schema_rows_text p c.rows.result.now ++ end_line)) same
     ∙ ap (λ (l : List ℕ). g.K.Sink.taken c.args.out.now ++ l) (report_is pages c.args.header.now c.rows.result.now (c.requires.header told) schema)) c.put_content.ensures.text
 
 pub returns-clause-part : goal.returns-clause-part
@@ -88,7 +88,7 @@ returns-clause-part g c = on_err_weaker c.put_content.result (λ part told t.
     let same : g.S.PageSource.plain c.census.new.source ≡ pages = g.met.S.PageSource.same_pages c.args.source.now c.census.new.source c.in-Ok.ensures.reads told in
     let schema : IsSchemaOf pages c.rows.result.now = schema_of pages c.in-Ok.census.schema c.rows.result.now c.in-Ok.census.entries (c.in-Ok.ensures.found told).sound (c.in-Ok.ensures.found told).schema
     (c.in-Ok.ensures.found told).rows (search rules) c.rows.ensures in
-    restated_part (ap (λ (p : Pages). database_line (kept_of c.args.header.now) ++ rows_text p c.rows.result.now ++ end_line) same
+    restated_part (ap (λ (p : Pages). database_line (kept_of c.args.header.now) ++ schema_rows_text p c.rows.result.now ++ end_line) same
     ∙ report_is pages c.args.header.now c.rows.result.now (c.requires.header told) schema) (part told t)) c.put_content.ensures.part
 
 pub returns-clause-count : goal.returns-clause-count

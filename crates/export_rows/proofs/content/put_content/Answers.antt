@@ -2,7 +2,7 @@ use Rattle.std.proofs.Common.{◌≡◌, ◌++◌, List, [], ℕ, sym, ap, subst
 use Rattle.std.proofs.lemmas.List.{append-nil}
 use Rattle.export_rows.specs.Lines.{database_line, end_line, kept_of}
 use Rattle.row_text.specs.Out.{Moves, MovesPart}
-use Rattle.export_rows.specs.Schema.{rows_text}
+use Rattle.export_rows.specs.Schema.{schema_rows_text}
 use Rattle.row_text.proofs.Moving.{cut, restated_part, then, then_part}
 use Rattle.export_rows.proofs.content.put_content.Goals as goal
 
@@ -21,7 +21,7 @@ all_put {text} {before} {after} {left} none moved =
 pub returns-in-Err-clause-part : goal.returns-in-Err-clause-part
 returns-in-Err-clause-part g c told t =
     let database = database_line (kept_of c.args.header.now) in
-    let rows = rows_text (g.S.PageSource.plain c.args.source.now) c.args.rows.now in
+    let rows = schema_rows_text (g.S.PageSource.plain c.args.source.now) c.args.rows.now in
     part_from_empty c.requires.empty (cut end_line (cut rows (c.in-Err.ensures.part t)))
 
 pub returns-in-Err-put_items-clause-part : goal.returns-in-Err-put_items-clause-part
@@ -34,11 +34,11 @@ returns-in-Err-put_end-clause-part g c told t =
 
 pub returns-in-Err-flush-clause-part : goal.returns-in-Err-flush-clause-part
 returns-in-Err-flush-clause-part g c told t =
-    restated_part (append-nil (database_line (kept_of c.args.header.now) ++ rows_text (g.S.PageSource.plain c.args.source.now) c.args.rows.now ++ end_line))
+    restated_part (append-nil (database_line (kept_of c.args.header.now) ++ schema_rows_text (g.S.PageSource.plain c.args.source.now) c.args.rows.now ++ end_line))
     (then_part (then (then (from_empty c.requires.empty (c.in-Ok.ensures.done t)) (c.in-Ok-put_items.ensures.text told t)) (c.in-Ok-put_end.ensures.done t)) (c.in-Err-flush.ensures.part t))
 
 pub returns-in-Ok-flush-clause-text : goal.returns-in-Ok-flush-clause-text
 returns-in-Ok-flush-clause-text g c told t =
     let moved = then (then (then (from_empty c.requires.empty (c.in-Ok.ensures.done t)) (c.in-Ok-put_items.ensures.text told t)) (c.in-Ok-put_end.ensures.done t)) (c.in-Ok-flush.ensures.done t) in
     all_put c.in-Ok-flush.ensures.empty moved
-    ∙ ap (λ (l : List ℕ). g.K.Sink.taken c.args.out.now ++ l) (append-nil (database_line (kept_of c.args.header.now) ++ rows_text (g.S.PageSource.plain c.args.source.now) c.args.rows.now ++ end_line))
+    ∙ ap (λ (l : List ℕ). g.K.Sink.taken c.args.out.now ++ l) (append-nil (database_line (kept_of c.args.header.now) ++ schema_rows_text (g.S.PageSource.plain c.args.source.now) c.args.rows.now ++ end_line))

@@ -9,7 +9,7 @@ use Rattle.schema_map.specs.Root.{number_of}
 use Rattle.export_rows.specs.Report.{item_at, item_count, item_text}
 use Rattle.export_rows.specs.Schema.{row_count}
 use Rattle.btree_walk.proofs.CauseLemmas.{rose_later}
-use Rattle.export_rows.specs.Causes.{is_defect}
+use Rattle.export_rows.specs.Causes.{is_export_defect}
 use Rattle.export_rows.proofs.Handing.{fault_checked, given_checked, late_checked, none_checked, output_checked, walk_fault_later, walk_given_later}
 use Rattle.row_text.proofs.Moving.{restated, restated_part}
 use Rattle.export_rows.proofs.SchemaText.{IsKeptRow, count_fits, kept_at, walk_late, written_count, written_failed, written_on, written_stopped}
@@ -43,7 +43,7 @@ returns-in-Err-clause-part g c told =
     (g.K.Sink.taken c.put_item.new.out) (λ t. restated_part (ap item_text named) (c.in-Err.ensures.part told t))
 
 pub returns-in-Err-clause-no_defect : goal.returns-in-Err-clause-no_defect
-returns-in-Err-clause-no_defect g c = ap is_defect c.after_check.ensures ∙ none_checked c.in-Err.error
+returns-in-Err-clause-no_defect g c = ap is_export_defect c.after_check.ensures ∙ none_checked c.in-Err.error
 
 pub returns-in-Err-clause-causes : goal.returns-in-Err-clause-causes
 returns-in-Err-clause-causes g c =

@@ -8,7 +8,7 @@ use Rattle.btree_model.specs.Finding.{Row, entries, faults}
 use Rattle.btree_model.specs.Records.{tree_part}
 use Rattle.btree_model.specs.Tree.{root_family, tree_walk}
 use Rattle.btree_walk.specs.Causes.{IsAmong}
-use Rattle.btree_walk.specs.Cursor.{IsAt, IsAdvanced, IsNext, IsEnd, row_of, walked}
+use Rattle.btree_walk.specs.Cursor.{IsCursorAt, IsAdvanced, IsNext, IsEnd, row_of, walked}
 use Rattle.btree_walk.specs.Turn.{work}
 use Rattle.btree_walk.proofs.CauseLemmas.{given_later}
 use Rattle.btree_walk.proofs.CursorLemmas.{ready_made}
@@ -56,8 +56,8 @@ returns-in-Err-advance-clause-causes g c told =
     let pages : Pages = g.S.PageSource.plain c.args.source.now in
     let same : g.S.PageSource.plain c.entries.source ≡ pages = g.met.S.PageSource.same_pages c.args.source.now c.entries.source c.entries.invariant.read told in
     let so = c.entries.invariant.on told in
-    let at : IsAt (g.S.PageSource.plain c.entries.source) nothing so.given c.entries.cursor (marked c.entries.seen) =
-    subst (λ p. IsAt p nothing so.given c.entries.cursor (marked c.entries.seen)) (sym same) so.at in
+    let at : IsCursorAt (g.S.PageSource.plain c.entries.source) nothing so.given c.entries.cursor (marked c.entries.seen) =
+    subst (λ p. IsCursorAt p nothing so.given c.entries.cursor (marked c.entries.seen)) (sym same) so.at in
     let stopped : IsAmong g.S.PageSource.refuses pages (walked pages nothing c.advance.new.self) c.in-Err-advance.error =
     subst (λ p. IsAmong g.S.PageSource.refuses p (walked p nothing c.advance.new.self) c.in-Err-advance.error) same (c.in-Err-advance.ensures.on told nothing so.given at) in
     among_joined g.S.PageSource.refuses pages (tree_walk pages (root_family c.args.root (pages.page c.args.root)) nothing c.args.root) _ c.in-Err-advance.error
@@ -79,8 +79,8 @@ returns-in-Err-read-clause-causes g c told =
     let pages : Pages = g.S.PageSource.plain c.args.source.now in
     let same : g.S.PageSource.plain c.entries.source ≡ pages = g.met.S.PageSource.same_pages c.args.source.now c.entries.source c.entries.invariant.read told in
     let so = c.entries.invariant.on told in
-    let at : IsAt (g.S.PageSource.plain c.entries.source) nothing so.given c.entries.cursor (marked c.entries.seen) =
-    subst (λ p. IsAt p nothing so.given c.entries.cursor (marked c.entries.seen)) (sym same) so.at in
+    let at : IsCursorAt (g.S.PageSource.plain c.entries.source) nothing so.given c.entries.cursor (marked c.entries.seen) =
+    subst (λ p. IsCursorAt p nothing so.given c.entries.cursor (marked c.entries.seen)) (sym same) so.at in
     let next : IsNext pages nothing so.given c.advance.new.self (marked c.advance.new.seen) (row_of c.advance.new.self) =
     subst (λ p. IsNext p nothing so.given c.advance.new.self (marked c.advance.new.seen) (row_of c.advance.new.self)) same
     (subst (λ m. IsAdvanced g.S.PageSource.refuses (g.S.PageSource.plain c.entries.source) nothing so.given c.advance.new.self (marked c.advance.new.seen) (Ok m)) c.in-Ok-true.field-0-test
@@ -96,8 +96,8 @@ returns-in-Err-put_entry-clause-part g c told =
     let pages : Pages = g.S.PageSource.plain c.args.source.now in
     let same : g.S.PageSource.plain c.entries.source ≡ pages = g.met.S.PageSource.same_pages c.args.source.now c.entries.source c.entries.invariant.read told in
     let so = c.entries.invariant.on told in
-    let at : IsAt (g.S.PageSource.plain c.entries.source) nothing so.given c.entries.cursor (marked c.entries.seen) =
-    subst (λ p. IsAt p nothing so.given c.entries.cursor (marked c.entries.seen)) (sym same) so.at in
+    let at : IsCursorAt (g.S.PageSource.plain c.entries.source) nothing so.given c.entries.cursor (marked c.entries.seen) =
+    subst (λ p. IsCursorAt p nothing so.given c.entries.cursor (marked c.entries.seen)) (sym same) so.at in
     let next : IsNext pages nothing so.given c.advance.new.self (marked c.advance.new.seen) (row_of c.advance.new.self) =
     subst (λ p. IsNext p nothing so.given c.advance.new.self (marked c.advance.new.seen) (row_of c.advance.new.self)) same
     (subst (λ m. IsAdvanced g.S.PageSource.refuses (g.S.PageSource.plain c.entries.source) nothing so.given c.advance.new.self (marked c.advance.new.seen) (Ok m)) c.in-Ok-true.field-0-test
@@ -130,8 +130,8 @@ entries-preserved g c =
           let pages : Pages = g.S.PageSource.plain c.args.source.now in
           let same : g.S.PageSource.plain c.entries.source ≡ pages = g.met.S.PageSource.same_pages c.args.source.now c.entries.source c.entries.invariant.read told in
           let so = c.entries.invariant.on told in
-          let at : IsAt (g.S.PageSource.plain c.entries.source) nothing so.given c.entries.cursor (marked c.entries.seen) =
-          subst (λ p. IsAt p nothing so.given c.entries.cursor (marked c.entries.seen)) (sym same) so.at in
+          let at : IsCursorAt (g.S.PageSource.plain c.entries.source) nothing so.given c.entries.cursor (marked c.entries.seen) =
+          subst (λ p. IsCursorAt p nothing so.given c.entries.cursor (marked c.entries.seen)) (sym same) so.at in
           let next : IsNext pages nothing so.given c.advance.new.self (marked c.advance.new.seen) (row_of c.advance.new.self) =
           subst (λ p. IsNext p nothing so.given c.advance.new.self (marked c.advance.new.seen) (row_of c.advance.new.self)) same
           (subst (λ m. IsAdvanced g.S.PageSource.refuses (g.S.PageSource.plain c.entries.source) nothing so.given c.advance.new.self (marked c.advance.new.seen) (Ok m)) c.in-Ok-true.field-0-test
@@ -150,8 +150,8 @@ returns-in-Ok-false-clause-text g c told =
     let pages : Pages = g.S.PageSource.plain c.args.source.now in
     let same : g.S.PageSource.plain c.entries.source ≡ pages = g.met.S.PageSource.same_pages c.args.source.now c.entries.source c.entries.invariant.read told in
     let so = c.entries.invariant.on told in
-    let at : IsAt (g.S.PageSource.plain c.entries.source) nothing so.given c.entries.cursor (marked c.entries.seen) =
-    subst (λ p. IsAt p nothing so.given c.entries.cursor (marked c.entries.seen)) (sym same) so.at in
+    let at : IsCursorAt (g.S.PageSource.plain c.entries.source) nothing so.given c.entries.cursor (marked c.entries.seen) =
+    subst (λ p. IsCursorAt p nothing so.given c.entries.cursor (marked c.entries.seen)) (sym same) so.at in
     let end : IsEnd pages nothing so.given c.advance.new.self (marked c.advance.new.seen) =
     subst (λ p. IsEnd p nothing so.given c.advance.new.self (marked c.advance.new.seen)) same
     (subst (λ m. IsAdvanced g.S.PageSource.refuses (g.S.PageSource.plain c.entries.source) nothing so.given c.advance.new.self (marked c.advance.new.seen) (Ok m)) c.in-Ok-false.field-0-test
@@ -164,8 +164,8 @@ returns-in-Ok-false-clause-count g c told =
     let pages : Pages = g.S.PageSource.plain c.args.source.now in
     let same : g.S.PageSource.plain c.entries.source ≡ pages = g.met.S.PageSource.same_pages c.args.source.now c.entries.source c.entries.invariant.read told in
     let so = c.entries.invariant.on told in
-    let at : IsAt (g.S.PageSource.plain c.entries.source) nothing so.given c.entries.cursor (marked c.entries.seen) =
-    subst (λ p. IsAt p nothing so.given c.entries.cursor (marked c.entries.seen)) (sym same) so.at in
+    let at : IsCursorAt (g.S.PageSource.plain c.entries.source) nothing so.given c.entries.cursor (marked c.entries.seen) =
+    subst (λ p. IsCursorAt p nothing so.given c.entries.cursor (marked c.entries.seen)) (sym same) so.at in
     let end : IsEnd pages nothing so.given c.advance.new.self (marked c.advance.new.seen) =
     subst (λ p. IsEnd p nothing so.given c.advance.new.self (marked c.advance.new.seen)) same
     (subst (λ m. IsAdvanced g.S.PageSource.refuses (g.S.PageSource.plain c.entries.source) nothing so.given c.advance.new.self (marked c.advance.new.seen) (Ok m)) c.in-Ok-false.field-0-test

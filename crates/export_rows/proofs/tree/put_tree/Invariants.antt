@@ -1,7 +1,7 @@
 use Rattle.std.proofs.Common.{◌≡◌, ◌+◌, ◌^◌, ◌≤◌, None}
 use Rattle.std.specs.Prelude.{IsTrue}
 use Rattle.db_format.specs.Seen.{marked}
-use Rattle.btree_walk.specs.Cursor.{IsReady}
+use Rattle.btree_walk.specs.Cursor.{IsCursorReady}
 use Rattle.btree_walk.specs.Turn.{work}
 use Rattle.export_rows.proofs.TreeText.{IsSoFar}
 use Rattle.export_rows.proofs.tree.put_tree.Given as goal
@@ -10,7 +10,7 @@ use Rattle.export_rows.proofs.tree.put_tree.Given as goal
 abbrev pub invariant-entries : goal.invariant-entries
 invariant-entries g l =
     record {
-      ready : IsReady (g.S.PageSource.plain l.source).count (g.S.PageSource.pins l.source) l.seen l.cursor;
+      ready : IsCursorReady (g.S.PageSource.plain l.source).count (g.S.PageSource.pins l.source) l.seen l.cursor;
       read : g.S.PageSource.only_read l.fn.source l.source;
       root : l.cursor.root ≡ l.fn.root;
       asked : l.cursor.asked ≡ None;

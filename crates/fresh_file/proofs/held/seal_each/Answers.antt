@@ -1,6 +1,6 @@
 use Rattle.std.proofs.Common.{◌≡◌, ◌∙◌, ◌≤◌, ◌<◌, ◌+◌, ◌-◌, ◌*◌, ℕ, List, length, take, drop, slice_index, ap, subst, arith}
 use Rattle.cipher_profile.specs.declared.profile.Profile.{Profile}
-use Rattle.page_codec.specs.Pages.{page_at}
+use Rattle.page_codec.specs.Pages.{nth_page}
 use Rattle.page_codec.proofs.PageFacts.{ends_by, pages_more}
 use Rattle.fresh_file.specs.Held.{IsSealedAs}
 use Rattle.fresh_file.proofs.held.seal_each.Goals as goal
@@ -18,9 +18,9 @@ sealing-preserved c =
     let within : size * k + size ≤ length c.sealing.stored = omega
     (arith, ends_by size k (length numbers) less, c.sealing.invariant.length_kept, c.requires.size, c.requires.room) in
     let whole : size * k + size - size * k ≡ size = omega arith in
-    let part : take (c.profile.result.now.page_size * k + c.profile.result.now.page_size - c.profile.result.now.page_size * k) (drop (c.profile.result.now.page_size * k) room) ≡ page_at size room k =
+    let part : take (c.profile.result.now.page_size * k + c.profile.result.now.page_size - c.profile.result.now.page_size * k) (drop (c.profile.result.now.page_size * k) room) ≡ nth_page size room k =
     ap (λ (s : ℕ). take (s * k + s - s * k) (drop (s * k) room)) inner ∙ ap (λ (n : ℕ). take n (drop (size * k) room)) whole in
-    let sealed : IsSealedAs keys (slice_index numbers k) (page_at size room k) c.seal_one.new.stored =
+    let sealed : IsSealedAs keys (slice_index numbers k) (nth_page size room k) c.seal_one.new.stored =
     subst (λ (l : List ℕ). IsSealedAs keys (slice_index numbers k) l c.seal_one.new.stored) part c.seal_one.ensures.sealed in
-    rw inner (pages_more (λ (i : ℕ) (l : List ℕ). IsSealedAs keys (slice_index numbers i) (page_at size room i) l) size old c.sealing.stored c.seal_one.new.stored k c.sealing.invariant within
+    rw inner (pages_more (λ (i : ℕ) (l : List ℕ). IsSealedAs keys (slice_index numbers i) (nth_page size room i) l) size old c.sealing.stored c.seal_one.new.stored k c.sealing.invariant within
     (c.seal_one.ensures.size) sealed)

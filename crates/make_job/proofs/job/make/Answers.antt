@@ -1,11 +1,10 @@
 use Rattle.std.proofs.Common.{rules, length, drop, ap, sym, subst, ◌∙◌}
 use Rattle.cipher_profile.specs.Profile.{is_plain}
-use Rattle.edge_model.specs.Files.{Files}
+use Rattle.edge_model.specs.Files.{Files, main_of}
 use Rattle.page_codec.specs.Page.{FileKeys}
-use Rattle.pager.specs.File.{main_of}
 use Rattle.fresh_file.specs.Draws.{HasOwnDraws}
 use Rattle.fresh_file.proofs.DrawLaws.{drawn_with, keys_are, salt_is, told_as}
-use Rattle.fresh_file.proofs.RunLaws.{either_then, err_then, old_then, read_leaves, takes_then}
+use Rattle.fresh_disk.proofs.RunLaws.{either_then, err_then, old_then, read_leaves, takes_then}
 use Rattle.make_job.specs.Made.{IsMadeUnder}
 use Rattle.make_job.proofs.job.make.Goals as goal
 

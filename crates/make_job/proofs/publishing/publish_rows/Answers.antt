@@ -1,6 +1,6 @@
 use Rattle.std.proofs.Common.{inr, ℕ, IsTrue, List, length, sym, subst}
 use Rattle.fresh_file.specs.Draws.{AreOwnDraws}
-use Rattle.fresh_file.proofs.PlaceLaws.{drawn_beside, takes_place, main_is, may_take}
+use Rattle.fresh_disk.proofs.PlaceLaws.{drawn_beside, takes_place, main_is, may_take}
 use Rattle.make_job.proofs.MadeLaws.{no_journal}
 use Rattle.make_job.specs.Written.{IsMadeWith}
 use Rattle.make_job.proofs.publishing.publish_rows.Goals as goal

@@ -1,5 +1,5 @@
 use Rattle.std.proofs.Common.{rules}
-use Rattle.fresh_file.proofs.PlaceLaws.{beside}
+use Rattle.fresh_disk.proofs.PlaceLaws.{beside}
 use Rattle.make_job.specs.Written.{IsMadeWith}
 use Rattle.make_job.proofs.publishing.write_beside.Goals as goal
 

@@ -2,7 +2,7 @@ use Rattle.std.proofs.Common.{◌≤◌, ◌+◌, ◌^◌, Err, arith, rules, ap
 use Rattle.std.proofs.Math.Path.{subst₂}
 use Rattle.bulk_load.proofs.CauseLemmas.{in_order}
 use Rattle.fresh_file.specs.declared.state.FreshState.{FreshState}
-use Rattle.fresh_file.specs.State.{IsWellAs, pages_of}
+use Rattle.fresh_file.specs.State.{IsWellAs, fresh_pages}
 use Rattle.make_job.proofs.writing.fill_state.Goals as goal
 
 pub fill-requires : goal.fill-requires
@@ -33,7 +33,7 @@ returns-in-Ok-clause-well g c start was =
 pub load_error-requires-clause-in_order : goal.load_error-requires-clause-in_order
 load_error-requires-clause-in_order g c is =
     let side = g.T.Side in
-    in_order (λ s. pages_of s.state.now (side.fresh s.side.now)) (λ s. s.state.now.limit) (λ s. record { disk = side.disk_faults s.side.now; entropy = side.draw_faults s.side.now })
+    in_order (λ s. fresh_pages s.state.now (side.fresh s.side.now)) (λ s. s.state.now.limit) (λ s. record { disk = side.disk_faults s.side.now; entropy = side.draw_faults s.side.now })
     c.out-out.result c.fill.new.out c.in-Err.error c.in-Err.ensures.cause is
 
 -- so deep a tree has more pages than a file may have

@@ -1,7 +1,7 @@
 use Rattle.std.proofs.Common.{subst, sym}
 use Rattle.migrate_job.specs.Stops.{IsFoundEarly}
 use Rattle.migrate_job.proofs.CheckedLaws.{found_early}
-use Rattle.pager.specs.File.{main_of}
+use Rattle.edge_model.specs.Files.{main_of}
 use Rattle.pager.specs.Pages.{opened_pages}
 use Rattle.migrate_job.proofs.WalkStops.{given_stop}
 use Rattle.migrate_job.proofs.checking.check_database.Goals as goal

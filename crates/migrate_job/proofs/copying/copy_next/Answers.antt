@@ -1,7 +1,7 @@
 use Rattle.std.proofs.Common.{◌≡◌, ◌≤◌, ◌+◌, ◌++◌, ◌∷◌, ℕ, [], map, true, false, Ok, arith, ap, sym, subst, ◌∙◌}
 use Rattle.db_format.specs.Pages.{Pages}
 use Rattle.db_format.specs.Seen.{marked}
-use Rattle.edge_model.specs.Files.{bytes_of}
+use Rattle.edge_model.specs.Files.{bytes_of, main_of}
 use Rattle.btree_model.specs.Content.{entry_of}
 use Rattle.btree_model.specs.Finding.{Row, entries}
 use Rattle.btree_walk.specs.Cursor.{IsAdvanced, IsNext, row_of, walked, walked_family}
@@ -12,10 +12,9 @@ use Rattle.migrate_job.proofs.FewLaws.{asks_one, few_at, few_before, walk_asks}
 use Rattle.bulk_load.specs.Loader.{Loaded, family_of_loader, is_for}
 use Rattle.bulk_load.specs.Own.{Covers, only}
 use Rattle.bulk_load.proofs.PutLemmas.{follows_all, keeps_after}
-use Rattle.fresh_file.specs.State.{pages_of}
+use Rattle.fresh_file.specs.State.{fresh_pages}
 use Rattle.pager.specs.Beside.{beside_joins, read_beside}
 use Rattle.pager.specs.Causes.{MayRefuse}
-use Rattle.pager.specs.File.{main_of}
 use Rattle.pager.specs.Pages.{opened_pages}
 use Rattle.migrate_job.specs.Copying.{IsTargetWell, asked_by, beside_main, target_faults, target_limit, target_pages}
 use Rattle.migrate_job.proofs.FamilyLaws.{given_is_for}
@@ -30,11 +29,11 @@ pub returns-in-Ok-clause-pushed : goal.returns-in-Ok-clause-pushed
 returns-in-Ok-clause-pushed g c start was own covers pushed loaded =
     let read = c.in-Ok-true.ensures.reads in
     let same = fresh_read read.0 was.told in
-    let to = pages_of c.push_entry.new.fresh (bytes_of (g.D.Disk.reads c.push_entry.new.side.disk.now).fresh) in
+    let to = fresh_pages c.push_entry.new.fresh (bytes_of (g.D.Disk.reads c.push_entry.new.side.disk.now).fresh) in
     subst (λ (row : Row). Loaded (only own to) c.push_entry.new.loader (pushed ++ entry_of row ∷ [])) c.entry-entry.ensures
     (c.in-Ok.ensures.pushed start (well_read g.E.Entropy.tells g.E.Entropy.drawn read.0 read.1 c.args.fresh.now start was) own
-    (moved_one (λ file. Covers false own (pages_of c.args.fresh.now file) to) (bytes_of (g.D.Disk.reads c.args.pager.now.disk.now).fresh) (bytes_of (g.D.Disk.reads c.advance.new.source.disk.now).fresh) same covers) pushed
-    (moved_one (λ file. Loaded (only own (pages_of c.args.fresh.now file)) c.args.loader.now pushed) (bytes_of (g.D.Disk.reads c.args.pager.now.disk.now).fresh) (bytes_of (g.D.Disk.reads c.advance.new.source.disk.now).fresh) same loaded))
+    (moved_one (λ file. Covers false own (fresh_pages c.args.fresh.now file) to) (bytes_of (g.D.Disk.reads c.args.pager.now.disk.now).fresh) (bytes_of (g.D.Disk.reads c.advance.new.source.disk.now).fresh) same covers) pushed
+    (moved_one (λ file. Loaded (only own (fresh_pages c.args.fresh.now file)) c.args.loader.now pushed) (bytes_of (g.D.Disk.reads c.args.pager.now.disk.now).fresh) (bytes_of (g.D.Disk.reads c.advance.new.source.disk.now).fresh) same loaded))
 
 pub returns-in-Ok-clause-keeps : goal.returns-in-Ok-clause-keeps
 returns-in-Ok-clause-keeps g c =

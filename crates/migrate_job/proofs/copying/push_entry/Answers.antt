@@ -8,7 +8,7 @@ use Rattle.bulk_load.specs.Loader.{Loaded, family_of_loader, is_late}
 use Rattle.bulk_load.proofs.FewLemmas.{few_late}
 use Rattle.cipher_profile.specs.Profile.{usable}
 use Rattle.bulk_load.specs.Own.{Covers, only}
-use Rattle.fresh_file.specs.State.{IsWellAs, pages_of}
+use Rattle.fresh_file.specs.State.{IsWellAs, fresh_pages}
 use Rattle.fresh_file.specs.declared.state.FreshState.{FreshState}
 use Rattle.migrate_job.specs.Copying.{FollowsTarget, KeepsTarget}
 use Rattle.migrate_job.proofs.TargetLaws.{disk_of, entropy_of, follows_along, keeps_along, limit_of, moved, moved_one}
@@ -23,13 +23,13 @@ returns-in-Ok-clause-pushed g c start was own =
     let entry : Entry = record { rowid = c.args.rowid; payload = c.args.payload.now } in
     let well = moved (λ state t. IsWellAs state start side.tells side.draws_tell (side.fresh t) (side.drawn t)) _ out.state.now _ out.side.now same.0 same.1 was in
     moved
-    (λ state t. Covers false own (pages_of c.args.fresh.now (side.fresh c.args.side.now)) (pages_of state (side.fresh t)) → (pushed : List Entry)
-    → Loaded (only own (pages_of c.args.fresh.now (side.fresh c.args.side.now))) c.args.loader.now pushed
-    → Loaded (only own (pages_of state (side.fresh t))) c.push.new.self (pushed ++ entry ∷ []))
+    (λ state t. Covers false own (fresh_pages c.args.fresh.now (side.fresh c.args.side.now)) (fresh_pages state (side.fresh t)) → (pushed : List Entry)
+    → Loaded (only own (fresh_pages c.args.fresh.now (side.fresh c.args.side.now))) c.args.loader.now pushed
+    → Loaded (only own (fresh_pages state (side.fresh t))) c.push.new.self (pushed ++ entry ∷ []))
     to.state.now c.fresh-1.given.0 to.side.now c.side-1.given.0 (search rules) (search rules)
     (λ covered pushed loaded. c.in-Ok.ensures.loaded start well own
-    (moved (λ state t. Covers false own (pages_of state (side.fresh t)) (pages_of to.state.now (side.fresh to.side.now))) _ out.state.now _ out.side.now same.0 same.1 covered) pushed
-    (moved (λ state t. Loaded (only own (pages_of state (side.fresh t))) c.args.loader.now pushed) _ out.state.now _ out.side.now same.0 same.1 loaded))
+    (moved (λ state t. Covers false own (fresh_pages state (side.fresh t)) (fresh_pages to.state.now (side.fresh to.side.now))) _ out.state.now _ out.side.now same.0 same.1 covered) pushed
+    (moved (λ state t. Loaded (only own (fresh_pages state (side.fresh t))) c.args.loader.now pushed) _ out.state.now _ out.side.now same.0 same.1 loaded))
 
 pub returns-in-Ok-clause-keeps : goal.returns-in-Ok-clause-keeps
 returns-in-Ok-clause-keeps g c =

@@ -3,7 +3,7 @@ use Rattle.std.specs.Prelude.{◌⊎◌}
 use Rattle.std.specs.List.{All}
 use Rattle.std.proofs.lemmas.Result.{on_ok_weaker}
 use Rattle.db_format.specs.Pages.{Pages}
-use Rattle.edge_model.specs.Files.{bytes_of}
+use Rattle.edge_model.specs.Files.{bytes_of, main_of}
 use Rattle.btree_model.specs.Content.{content}
 use Rattle.btree_page.specs.declared.kind.Family.TheVariants.{Table}
 use Rattle.bulk_load.specs.Found.{HasTree, HoldsItems, IsTightBehind}
@@ -13,9 +13,8 @@ use Rattle.bulk_load.proofs.PutLemmas.{all_put_then, on_ok_both, still_free}
 use Rattle.bulk_load.proofs.TakenLemmas.{of_schema, took_after}
 use Rattle.bulk_load.specs.Few.{load_pages}
 use Rattle.cipher_profile.specs.Profile.{usable}
-use Rattle.fresh_file.specs.State.{pages_of}
+use Rattle.fresh_file.specs.State.{fresh_pages}
 use Rattle.pager.specs.Beside.{beside_joins}
-use Rattle.pager.specs.File.{main_of}
 use Rattle.pager.specs.Pages.{opened_pages}
 use Rattle.schema_map.specs.declared.schema.SchemaRow.{SchemaRow}
 use Rattle.migrate_job.specs.Copied.{AreCopied, AreRenamed, HasLongRow, IsSoundRow, new_entries, trees_most}
@@ -53,9 +52,9 @@ pub returns-in-Ok-clause-copied : goal.returns-in-Ok-clause-copied
 returns-in-Ok-clause-copied g c start was sound is =
     let d = g.D.Disk in
     let before : Pages = opened_pages c.args.pager.now.codec (main_of (d.reads c.args.pager.now.disk.now)) c.args.pager.now.count in
-    let first : Pages = pages_of c.args.state.now (bytes_of (d.reads c.args.pager.now.disk.now).fresh) in
-    let middle : Pages = pages_of c.copy_trees.new.state (bytes_of (d.reads c.copy_trees.new.pager.disk.now).fresh) in
-    let last : Pages = pages_of c.load_schema.new.state (bytes_of (d.reads c.load_schema.new.side.disk.now).fresh) in
+    let first : Pages = fresh_pages c.args.state.now (bytes_of (d.reads c.args.pager.now.disk.now).fresh) in
+    let middle : Pages = fresh_pages c.copy_trees.new.state (bytes_of (d.reads c.copy_trees.new.pager.disk.now).fresh) in
+    let last : Pages = fresh_pages c.load_schema.new.state (bytes_of (d.reads c.load_schema.new.side.disk.now).fresh) in
     let rows : List SchemaRow = c.rows-rows.result.now in
     let roots : List ℕ = c.in-Ok.roots.items in
     let schema = c.rows-rows.ensures ∙ is in
@@ -80,9 +79,9 @@ pub returns-in-Ok-clause-tight : goal.returns-in-Ok-clause-tight
 returns-in-Ok-clause-tight g c start was sound is =
     let d = g.D.Disk in
     let before : Pages = opened_pages c.args.pager.now.codec (main_of (d.reads c.args.pager.now.disk.now)) c.args.pager.now.count in
-    let first : Pages = pages_of c.args.state.now (bytes_of (d.reads c.args.pager.now.disk.now).fresh) in
-    let middle : Pages = pages_of c.copy_trees.new.state (bytes_of (d.reads c.copy_trees.new.pager.disk.now).fresh) in
-    let last : Pages = pages_of c.load_schema.new.state (bytes_of (d.reads c.load_schema.new.side.disk.now).fresh) in
+    let first : Pages = fresh_pages c.args.state.now (bytes_of (d.reads c.args.pager.now.disk.now).fresh) in
+    let middle : Pages = fresh_pages c.copy_trees.new.state (bytes_of (d.reads c.copy_trees.new.pager.disk.now).fresh) in
+    let last : Pages = fresh_pages c.load_schema.new.state (bytes_of (d.reads c.load_schema.new.side.disk.now).fresh) in
     let rows : List SchemaRow = c.rows-rows.result.now in
     let roots : List ℕ = c.in-Ok.roots.items in
     let schema = c.rows-rows.ensures ∙ is in
@@ -106,7 +105,7 @@ returns-in-Ok-clause-tight g c start was sound is =
 
 pub returns-in-Ok-clause-whole : goal.returns-in-Ok-clause-whole
 returns-in-Ok-clause-whole g c =
-    let middle : Pages = pages_of c.copy_trees.new.state (bytes_of (g.D.Disk.reads c.copy_trees.new.pager.disk.now).fresh) in
+    let middle : Pages = fresh_pages c.copy_trees.new.state (bytes_of (g.D.Disk.reads c.copy_trees.new.pager.disk.now).fresh) in
     let there : middle ≡ middle = refl in
     on_ok_weaker c.load_schema.result (λ follows. all_put_then c.in-Ok.ensures.follows follows there c.requires.none.0) c.load_schema.ensures.follows
 
@@ -125,7 +124,7 @@ returns-in-Ok-clause-few g c start was listed most sound is limit stopped =
     let state = c.args.state.now in
     let mid = c.copy_trees.new.state in
     let before : Pages = opened_pages c.args.pager.now.codec (main_of (d.reads c.args.pager.now.disk.now)) c.args.pager.now.count in
-    let middle : Pages = pages_of mid (bytes_of (d.reads c.copy_trees.new.pager.disk.now).fresh) in
+    let middle : Pages = fresh_pages mid (bytes_of (d.reads c.copy_trees.new.pager.disk.now).fresh) in
     let rows : List SchemaRow = c.rows-rows.result.now in
     let roots : List ℕ = c.in-Ok.roots.items in
     let size : ℕ = usable state.codec.profile in

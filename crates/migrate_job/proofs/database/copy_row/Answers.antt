@@ -1,14 +1,13 @@
 use Rattle.std.proofs.Common.{◌≡◌, ◌≤◌, ◌+◌, ℕ, arith, subst}
 use Rattle.std.proofs.lemmas.Result.{IfErr-weaker, IfOk-weaker}
 use Rattle.db_format.specs.Pages.{Pages}
-use Rattle.edge_model.specs.Files.{bytes_of}
+use Rattle.edge_model.specs.Files.{bytes_of, main_of}
 use Rattle.btree_model.specs.Tree.{root_family}
 use Rattle.bulk_load.specs.Few.{load_pages}
 use Rattle.bulk_load.specs.Own.{between}
 use Rattle.bulk_load.proofs.TakenLemmas.{took}
 use Rattle.cipher_profile.specs.Profile.{usable}
-use Rattle.fresh_file.specs.State.{pages_of}
-use Rattle.pager.specs.File.{main_of}
+use Rattle.fresh_file.specs.State.{fresh_pages}
 use Rattle.pager.specs.Pages.{opened_pages}
 use Rattle.migrate_job.specs.Copied.{old_entries}
 use Rattle.migrate_job.proofs.AskedLaws.{most_there}
@@ -19,8 +18,8 @@ pub returns-clause-tree : goal.returns-clause-tree
 returns-clause-tree g c start well =
     let d = g.D.Disk in
     let before = opened_pages c.args.pager.now.codec (main_of (d.reads c.args.pager.now.disk.now)) c.args.pager.now.count in
-    let old = pages_of c.args.state.now (bytes_of (d.reads c.args.pager.now.disk.now).fresh) in
-    let new = pages_of c.copy_tree.new.state (bytes_of (d.reads c.copy_tree.new.pager.disk.now).fresh) in
+    let old = fresh_pages c.args.state.now (bytes_of (d.reads c.args.pager.now.disk.now).fresh) in
+    let new = fresh_pages c.copy_tree.new.state (bytes_of (d.reads c.copy_tree.new.pager.disk.now).fresh) in
     let some : c.args.root ≡ 0 → ⊥ = λ none. grind (arith, none, c.if-root-eq0.false) in
     IfOk-weaker c.copy_tree.result _ _ (λ root has. copied_tree before new old.count new.count c.args.root root some has)
     (c.copy_tree.ensures.tree start well (between old.count new.count) (took old new c.copy_tree.ensures.keeps.free))

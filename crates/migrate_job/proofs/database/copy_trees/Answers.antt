@@ -2,12 +2,11 @@ use Rattle.std.proofs.Common.{rules, ◌≡◌, ◌≤◌, ◌+◌, ◌++◌, �
 use Rattle.std.specs.Prelude.{slice_index_or}
 use Rattle.std.proofs.lemmas.List.{take_all, take_more}
 use Rattle.db_format.specs.Pages.{Pages}
-use Rattle.edge_model.specs.Files.{bytes_of}
+use Rattle.edge_model.specs.Files.{bytes_of, main_of}
 use Rattle.bulk_load.proofs.PutLemmas.{follows_all, keeps_after}
 use Rattle.cipher_profile.specs.Profile.{usable}
-use Rattle.fresh_file.specs.State.{pages_of}
+use Rattle.fresh_file.specs.State.{fresh_pages}
 use Rattle.pager.specs.Beside.{beside_joins}
-use Rattle.pager.specs.File.{main_of}
 use Rattle.pager.specs.Pages.{opened_pages}
 use Rattle.schema_map.specs.declared.schema.SchemaRow.{SchemaRow}
 use Rattle.migrate_job.specs.Copied.{AreCopied, IsCopiedTree, IsRooted, IsSoundRow, tree_most, trees_most}
@@ -104,8 +103,8 @@ returns-clause-trees g c start was =
     let d = g.D.Disk in
     let n : ℕ = c.loop-i.i in
     let before : Pages = opened_pages c.args.pager.now.codec (main_of (d.reads c.args.pager.now.disk.now)) c.args.pager.now.count in
-    let first : Pages = pages_of c.args.state.now (bytes_of (d.reads c.args.pager.now.disk.now).fresh) in
-    let last : Pages = pages_of c.loop-i.state (bytes_of (d.reads c.loop-i.pager.disk.now).fresh) in
+    let first : Pages = fresh_pages c.args.state.now (bytes_of (d.reads c.args.pager.now.disk.now).fresh) in
+    let last : Pages = fresh_pages c.loop-i.state (bytes_of (d.reads c.loop-i.pager.disk.now).fresh) in
     let whole : n ≡ length c.args.rows.now = omega (arith, c.loop-i-test.false, c.loop-i.auto.i-end) in
     let all : take n c.args.rows.now ≡ c.args.rows.now = take_all n c.args.rows.now (omega (arith, whole)) in
     subst (λ rows. AreCopied before last first.count last.count rows c.loop-i.roots.items) all (c.loop-i.invariant.trees start was)

@@ -1,15 +1,14 @@
 use Rattle.std.proofs.Common.{◌≡◌, inl, inr, ◌∙◌, ℕ, IsTrue, List, length, drop, ap, subst, sym}
-use Rattle.disk_side.specs.OnlyFresh.{IsFreshSynced}
-use Rattle.disk_side.specs.Place.{LeavesOld}
-use Rattle.disk_side.specs.Published.{IsOldOrPublished, IsPublished}
-use Rattle.edge_model.specs.Files.{bytes_of, renamed}
+use Rattle.fresh_disk.specs.OnlyFresh.{IsFreshSynced}
+use Rattle.fresh_disk.specs.Place.{LeavesOld}
+use Rattle.fresh_disk.specs.Published.{IsOldOrPublished, IsPublished}
+use Rattle.edge_model.specs.Files.{bytes_of, renamed, main_of}
 use Rattle.edge_model.specs.Images.{Each, LeavesOnly}
 use Rattle.fresh_file.specs.Draws.{HasOwnDraws}
-use Rattle.fresh_file.proofs.PlaceLaws.{drawn_beside, main_is, may_take, takes_place}
+use Rattle.fresh_disk.proofs.PlaceLaws.{drawn_beside, main_is, may_take, takes_place}
 use Rattle.migrate_job.specs.Migrated.{IsMigrated}
 use Rattle.migrate_job.proofs.BesideLaws.{left_beside}
 use Rattle.page_codec.specs.Page.{keys_of}
-use Rattle.pager.specs.File.{main_of}
 use Rattle.pager.specs.Pages.{opened_pages}
 use Rattle.migrate_job.proofs.job.migrate.Goals as goal
 

@@ -5,16 +5,15 @@ use Rattle.btree_model.specs.Finding.{entries}
 use Rattle.btree_model.specs.Parts.{is_database}
 use Rattle.btree_walk.proofs.CauseLemmas.{rose_later}
 use Rattle.db_format.specs.Header.{header_fields}
-use Rattle.edge_model.specs.Files.{Files}
+use Rattle.edge_model.specs.Files.{Files, main_of}
 use Rattle.fresh_file.specs.Draws.{HasOwnDraws}
 use Rattle.migrate_job.specs.Migrated.{IsMigrated}
-use Rattle.migrate_job.specs.Stops.{IsShown}
+use Rattle.migrate_job.specs.Stops.{IsMigrateShown}
 use Rattle.migrate_job.proofs.CheckedLaws.{found_shown}
 use Rattle.migrate_job.proofs.BesideLaws.{beside_as, migrated_as, pages_beside}
 use Rattle.pager.proofs.UnderWayLemmas.{ok_map}
 use Rattle.page_codec.specs.Page.{keys_of}
 use Rattle.pager.specs.Beside.{beside_joins, read_beside}
-use Rattle.pager.specs.File.{main_of}
 use Rattle.pager.specs.Pages.{opened_pages}
 use Rattle.schema_map.specs.Census.{schema_after}
 use Rattle.schema_map.specs.Schema.{schema_row}
@@ -89,7 +88,7 @@ returns-clause-shown g c =
     IfErr-weaker c.write_beside.result _ _ (λ e shown told.
     let same : now ≡ pages = pages_beside p.codec q.codec (d.reads p.disk.now) (d.reads q.disk.now) p.count q.count checked.file.0
     (ap (λ (f : Files). f.main) (checked.disk.only_read told).stays) checked.file.2 in
-    subst (λ x. IsShown c.args.profile x e) same (shown told).1)
+    subst (λ x. IsMigrateShown c.args.profile x e) same (shown told).1)
     c.write_beside.ensures.shown
 
 pub returns-clause-early : goal.returns-clause-early

@@ -5,16 +5,15 @@ use Rattle.btree_model.specs.Finding.{entries}
 use Rattle.btree_model.specs.Parts.{is_database}
 use Rattle.btree_walk.proofs.CauseLemmas.{rose_later}
 use Rattle.db_format.specs.Header.{header_fields}
-use Rattle.edge_model.specs.Files.{bytes_of}
+use Rattle.edge_model.specs.Files.{bytes_of, main_of}
 use Rattle.fresh_file.proofs.DrawLaws.{told_as}
-use Rattle.fresh_file.proofs.PlaceLaws.{beside}
-use Rattle.fresh_file.specs.Beside.{IsSalted}
+use Rattle.fresh_disk.proofs.PlaceLaws.{beside}
+use Rattle.fresh_file.specs.Salted.{IsSalted}
 use Rattle.fresh_file.specs.State.{most_pages}
 use Rattle.migrate_job.specs.Migrated.{IsMigrated, IsMigratedUnder}
-use Rattle.migrate_job.specs.Stops.{IsShown}
+use Rattle.migrate_job.specs.Stops.{IsMigrateShown}
 use Rattle.migrate_job.proofs.BesideLaws.{beside_as, migrated_as, ok_both, own_as, pages_beside, written_salt}
 use Rattle.pager.specs.Beside.{beside_joins}
-use Rattle.pager.specs.File.{main_of}
 use Rattle.pager.specs.Pages.{opened_pages}
 use Rattle.schema_map.specs.Census.{schema_after}
 use Rattle.schema_map.specs.Schema.{schema_row}
@@ -92,7 +91,7 @@ returns-clause-shown g c =
     let now = opened_pages q.codec (main_of (d.reads q.disk.now)) q.count in
     IfErr-weaker c.write_database.result _ _ (λ e shown told.
     let same : now ≡ pages = pages_beside p.codec q.codec (d.reads p.disk.now) (d.reads q.disk.now) p.count q.count drew.file.0 (drew.beside.only_fresh told).main drew.file.2 in
-    ((shown told).0, subst (λ x. IsShown c.args.profile x e) same (subst (λ k. IsShown k.profile now e) c.new-codec.ensures (shown told).1)))
+    ((shown told).0, subst (λ x. IsMigrateShown c.args.profile x e) same (subst (λ k. IsMigrateShown k.profile now e) c.new-codec.ensures (shown told).1)))
     c.write_database.ensures.shown
 
 pub returns-clause-limit : goal.returns-clause-limit

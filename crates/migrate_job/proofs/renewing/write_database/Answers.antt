@@ -6,13 +6,12 @@ use Rattle.btree_model.specs.Parts.{is_database}
 use Rattle.btree_walk.proofs.CauseLemmas.{rose_later}
 use Rattle.bulk_load.specs.Found.{HoldsItems}
 use Rattle.cipher_profile.specs.Profile.{IsListed}
-use Rattle.edge_model.specs.Files.{bytes_of}
-use Rattle.fresh_file.specs.State.{most_pages, pages_of}
+use Rattle.edge_model.specs.Files.{bytes_of, main_of}
+use Rattle.fresh_file.specs.State.{most_pages, fresh_pages}
 use Rattle.migrate_job.proofs.BesideLaws.{few_as, late_shown, pages_beside}
 use Rattle.migrate_job.proofs.MigratedLaws.{drawn_for, sized_as, written}
 use Rattle.page_codec.specs.Page.{FileKeys}
 use Rattle.pager.specs.Beside.{beside_joins}
-use Rattle.pager.specs.File.{main_of}
 use Rattle.pager.specs.Pages.{opened_pages}
 use Rattle.schema_map.specs.Census.{schema_after}
 use Rattle.schema_map.specs.Schema.{schema_row}
@@ -68,7 +67,7 @@ returns-in-Ok-finish-clause-written g c told =
     written c.args.codec p.header c.new_header-header.result pages state start g.E.Entropy.tells (bytes_of (d.reads r.disk.now).fresh) _ _ (subst (λ x. IsListed x) c.profile.ensures.value c.profile.ensures.listed)
     (copy.same.0 ∙ c.in-Ok.ensures.codec) (copy.same.1 ∙ c.in-Ok.ensures.limit) (search rules) (c.in-Ok-finish.ensures.file start (copy.well start well))
     c.finish.ensures.reads_back (c.requires.header told) (c.requires.sound told)
-    (subst (λ x. HoldsItems (pages_of state (bytes_of (d.reads r.disk.now).fresh)) (content x).rows) same (copy.copied start well sound schema)) (copy.tight start well sound schema)
+    (subst (λ x. HoldsItems (fresh_pages state (bytes_of (d.reads r.disk.now).fresh)) (content x).rows) same (copy.copied start well sound schema)) (copy.tight start well sound schema)
 
 pub returns-in-Ok-finish-clause-size : goal.returns-in-Ok-finish-clause-size
 returns-in-Ok-finish-clause-size g c told =

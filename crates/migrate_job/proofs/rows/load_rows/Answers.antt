@@ -5,7 +5,7 @@ use Rattle.btree_model.specs.Content.{Entry}
 use Rattle.bulk_load.specs.Depth.{IsShallow}
 use Rattle.bulk_load.specs.Few.{TookFew, load_pages}
 use Rattle.bulk_load.specs.Found.{HasTree}
-use Rattle.bulk_load.specs.Out.{Follows, Keeps}
+use Rattle.bulk_load.specs.Out.{Follows, KeepsPages}
 use Rattle.bulk_load.specs.Loader.{family_of_loader}
 use Rattle.bulk_load.specs.Own.{Covers, only}
 use Rattle.bulk_load.proofs.PutLemmas.{covers_before, covers_behind, follows_all, keeps_after}
@@ -43,7 +43,7 @@ returns-in-Err-finish-clause-keeps g c =
     let pushed = c.in_ok-push_rows.ensures in
     let at_one : c.push_rows.new.loader.at_one ≡ true = pushed.at_one ∙ c.in-Ok.ensures.at_one in
     keeps_after p.pages p.limit p.faults p.well true c.args.out.now c.push_rows.new.out c.finish.new.out pushed.follows
-    (subst (λ first. Keeps p.pages p.limit p.faults p.well first c.push_rows.new.out c.finish.new.out) at_one c.in-Err-finish.ensures.keeps)
+    (subst (λ first. KeepsPages p.pages p.limit p.faults p.well first c.push_rows.new.out c.finish.new.out) at_one c.in-Err-finish.ensures.keeps)
 
 pub returns-in-Err-finish-clause-asked : goal.returns-in-Err-finish-clause-asked
 returns-in-Err-finish-clause-asked g c limit is =

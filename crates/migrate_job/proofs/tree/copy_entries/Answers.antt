@@ -1,11 +1,11 @@
 use Rattle.std.proofs.Common.{◌≡◌, ◌≤◌, ◌+◌, ◌++◌, ◌∷◌, ℕ, [], false, map, Ok, ap, refl, sym, subst, ◌∙◌}
 use Rattle.db_format.specs.Pages.{Pages}
 use Rattle.db_format.specs.Seen.{marked}
-use Rattle.edge_model.specs.Files.{bytes_of}
+use Rattle.edge_model.specs.Files.{bytes_of, main_of}
 use Rattle.cipher_profile.specs.Profile.{usable}
 use Rattle.btree_model.specs.Content.{entry_of}
 use Rattle.btree_model.specs.Finding.{Row, entries, is_sound}
-use Rattle.btree_walk.specs.Cursor.{IsAdvanced, IsAt, IsEnd, IsNext, row_of, walked, walked_family}
+use Rattle.btree_walk.specs.Cursor.{IsAdvanced, IsCursorAt, IsEnd, IsNext, row_of, walked, walked_family}
 use Rattle.btree_walk.proofs.CursorLemmas.{walked_same}
 use Rattle.bulk_load.specs.Depth.{IsShallow}
 use Rattle.bulk_load.specs.Few.{TookFew, load_pages}
@@ -14,10 +14,9 @@ use Rattle.std.proofs.lemmas.List.{append_assoc}
 use Rattle.migrate_job.proofs.TargetLaws.{moved}
 use Rattle.bulk_load.specs.Own.{only}
 use Rattle.bulk_load.proofs.PutLemmas.{covers_before, covers_behind, follows_all, follows_same, keeps_after}
-use Rattle.fresh_file.specs.State.{pages_of}
+use Rattle.fresh_file.specs.State.{fresh_pages}
 use Rattle.pager.specs.Beside.{beside_joins, beside_stays}
 use Rattle.pager.specs.Causes.{MayRefuse}
-use Rattle.pager.specs.File.{main_of}
 use Rattle.pager.specs.Pages.{opened_pages}
 use Rattle.migrate_job.specs.declared.error.MigrateError.TheVariants.{DiskFault, EntropyFault, TooManyPages}
 use Rattle.migrate_job.specs.Copying.{IsOfWalk, IsTargetWell, asked_by, beside_main, pushed_then, target_faults, target_limit, target_pages}
@@ -81,14 +80,14 @@ entries-preserved g c =
           let next : IsNext before taken so.given to.cursor (marked to.seen) row =
           subst (λ p. IsNext p taken so.given to.cursor (marked to.seen) row) same
           (subst (λ m. IsAdvanced (MayRefuse d.tells) now taken so.given to.cursor (marked to.seen) (Ok m)) c.in-Ok-true.field-0-test
-          (n.advanced told taken so.given (subst (λ p. IsAt p taken so.given c.entries.cursor (marked c.entries.seen)) (sym same) so.at))) in
+          (n.advanced told taken so.given (subst (λ p. IsCursorAt p taken so.given c.entries.cursor (marked c.entries.seen)) (sym same) so.at))) in
           record {
             given = so.given ++ row ∷ [];
             at = next.at;
             loaded = λ start was own covers loaded.
-                let old : Pages = pages_of c.args.state.now (bytes_of (d.reads first.disk.now).fresh) in
-                let mid : Pages = pages_of c.entries.state (bytes_of (d.reads pager.disk.now).fresh) in
-                let new : Pages = pages_of to.fresh (bytes_of (d.reads to.pager.disk.now).fresh) in
+                let old : Pages = fresh_pages c.args.state.now (bytes_of (d.reads first.disk.now).fresh) in
+                let mid : Pages = fresh_pages c.entries.state (bytes_of (d.reads pager.disk.now).fresh) in
+                let new : Pages = fresh_pages to.fresh (bytes_of (d.reads to.pager.disk.now).fresh) in
                 subst (λ l. Loaded (only own new) to.loader l) (entries_then so.given row)
                 (subst (λ m. Loaded (only own new) to.loader (pushed_then (map entry_of so.given) row m)) c.in-Ok-true.field-0-test
                 (n.pushed start (i.follows.told start was) own (covers_behind false own old mid new i.follows.keeps.count covers) (map entry_of so.given)
@@ -109,7 +108,7 @@ entries-preserved g c =
           let next : IsNext before taken so.given to.cursor (marked to.seen) row =
           subst (λ p. IsNext p taken so.given to.cursor (marked to.seen) row) same
           (subst (λ m. IsAdvanced (MayRefuse d.tells) now taken so.given to.cursor (marked to.seen) (Ok m)) c.in-Ok-true.field-0-test
-          (n.advanced told taken so.given (subst (λ p. IsAt p taken so.given c.entries.cursor (marked c.entries.seen)) (sym same) so.at))) in
+          (n.advanced told taken so.given (subst (λ p. IsCursorAt p taken so.given c.entries.cursor (marked c.entries.seen)) (sym same) so.at))) in
           record {
             given = so.given ++ row ∷ [];
             more = next.more;
@@ -142,11 +141,11 @@ returns-in-Ok-false-clause-loaded g c start was own covers taken given at loaded
     let end : IsEnd before taken so.given to.cursor (marked to.seen) =
     subst (λ p. IsEnd p taken so.given to.cursor (marked to.seen)) same
     (subst (λ m. IsAdvanced (MayRefuse d.tells) now taken so.given to.cursor (marked to.seen) (Ok m)) c.in-Ok-false.field-0-test
-    (n.advanced was.told taken so.given (subst (λ p. IsAt p taken so.given c.entries.cursor (marked c.entries.seen)) (sym same) so.at))) in
+    (n.advanced was.told taken so.given (subst (λ p. IsCursorAt p taken so.given c.entries.cursor (marked c.entries.seen)) (sym same) so.at))) in
     let walk = walked_same before taken c.args.cursor.now to.cursor (record { root = n.same_tree.root ∙ i.same_tree.root; asked = n.same_tree.asked ∙ i.same_tree.asked }) in
-    let old : Pages = pages_of c.args.state.now (bytes_of (d.reads first.disk.now).fresh) in
-    let mid : Pages = pages_of c.entries.state (bytes_of (d.reads pager.disk.now).fresh) in
-    let new : Pages = pages_of to.fresh (bytes_of (d.reads to.pager.disk.now).fresh) in
+    let old : Pages = fresh_pages c.args.state.now (bytes_of (d.reads first.disk.now).fresh) in
+    let mid : Pages = fresh_pages c.entries.state (bytes_of (d.reads pager.disk.now).fresh) in
+    let new : Pages = fresh_pages to.fresh (bytes_of (d.reads to.pager.disk.now).fresh) in
     subst (λ rows. Loaded (only own new) to.loader (map entry_of rows)) (sym end.whole ∙ ap entries walk)
     (subst (λ m. Loaded (only own new) to.loader (pushed_then (map entry_of so.given) row m)) c.in-Ok-false.field-0-test
     (n.pushed start (i.follows.told start was) own (covers_behind false own old mid new i.follows.keeps.count covers) (map entry_of so.given)
@@ -167,7 +166,7 @@ returns-in-Ok-false-clause-sound g c told taken given at =
     let end : IsEnd before taken so.given to.cursor (marked to.seen) =
     subst (λ p. IsEnd p taken so.given to.cursor (marked to.seen)) same
     (subst (λ m. IsAdvanced (MayRefuse d.tells) now taken so.given to.cursor (marked to.seen) (Ok m)) c.in-Ok-false.field-0-test
-    (n.advanced told taken so.given (subst (λ p. IsAt p taken so.given c.entries.cursor (marked c.entries.seen)) (sym same) so.at))) in
+    (n.advanced told taken so.given (subst (λ p. IsCursorAt p taken so.given c.entries.cursor (marked c.entries.seen)) (sym same) so.at))) in
     let walk = walked_same before taken c.args.cursor.now to.cursor (record { root = n.same_tree.root ∙ i.same_tree.root; asked = n.same_tree.asked ∙ i.same_tree.asked }) in
     ap is_sound (sym walk) ∙ end.sound
 
@@ -202,7 +201,7 @@ returns-in-Err-clause-of_walk g c told taken given at family =
     let cursor = c.args.cursor.now in
     subst (λ l. IsOfWalk l c.in-Err.error) (walked_same before taken cursor c.entries.cursor i.same_tree)
     (subst (λ p. IsOfWalk (walked p taken c.entries.cursor) c.in-Err.error) same
-    (c.in-Err.ensures.of_walk told taken so.given (subst (λ p. IsAt p taken so.given c.entries.cursor (marked c.entries.seen)) (sym same) so.at)
+    (c.in-Err.ensures.of_walk told taken so.given (subst (λ p. IsCursorAt p taken so.given c.entries.cursor (marked c.entries.seen)) (sym same) so.at)
     (i.family ∙ family ∙ sym (family_same before cursor c.entries.cursor i.same_tree) ∙ ap (λ p. walked_family p c.entries.cursor) (sym same))))
 
 pub returns-in-Err-clause-limit : goal.returns-in-Err-clause-limit
@@ -250,7 +249,7 @@ returns-in-Ok-false-clause-took g c told taken given more at order from few =
     let end : IsEnd before taken so.given to.cursor (marked to.seen) =
     subst (λ p. IsEnd p taken so.given to.cursor (marked to.seen)) same
     (subst (λ m. IsAdvanced (MayRefuse d.tells) now taken so.given to.cursor (marked to.seen) (Ok m)) c.in-Ok-false.field-0-test
-    (n.advanced told taken so.given (subst (λ p. IsAt p taken so.given c.entries.cursor (marked c.entries.seen)) (sym same) so.at))) in
+    (n.advanced told taken so.given (subst (λ p. IsCursorAt p taken so.given c.entries.cursor (marked c.entries.seen)) (sym same) so.at))) in
     let walk = walked_same before taken c.args.cursor.now to.cursor (record { root = n.same_tree.root ∙ i.same_tree.root; asked = n.same_tree.asked ∙ i.same_tree.asked }) in
     subst (λ rows. TookFew family size from (map entry_of rows) (to.fresh.taken + 1) to.loader) (sym end.whole ∙ ap entries walk)
     (subst (λ m. TookFew family size from (pushed_then (map entry_of so.given) row m) (to.fresh.taken + 1) to.loader) c.in-Ok-false.field-0-test
@@ -278,7 +277,7 @@ returns-in-Err-clause-few g c told taken given more at order from few =
     (subst (λ p. to.fresh.taken + 1 + asked_by c.in-Err.error ≤ from + load_pages family size (map entry_of (entries (walked p taken c.entries.cursor)))) same
     (moved (λ f u. to.fresh.taken + 1 + asked_by c.in-Err.error ≤ from + load_pages f u (map entry_of (entries (walked now taken c.entries.cursor))))
     (family_of_loader c.entries.loader) family (usable c.entries.state.codec.profile) size (sym i.family) (sym same_size)
-    (c.in-Err.ensures.few told taken so.given so.more (subst (λ p. IsAt p taken so.given c.entries.cursor (marked c.entries.seen)) (sym same) so.at)
+    (c.in-Err.ensures.few told taken so.given so.more (subst (λ p. IsCursorAt p taken so.given c.entries.cursor (marked c.entries.seen)) (sym same) so.at)
     (ap (λ p. entries (walked p taken c.entries.cursor)) same ∙ so.order) from
     (moved (λ f u. TookFew f u from (map entry_of so.given) (c.entries.state.taken + 1) c.entries.loader)
     family (family_of_loader c.entries.loader) size (usable c.entries.state.codec.profile) i.family same_size so.took))))

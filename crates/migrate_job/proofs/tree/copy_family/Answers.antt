@@ -2,11 +2,11 @@ use Rattle.std.proofs.Common.{◌≡◌, ◌≤◌, ◌+◌, ℕ, arith, refl, t
 use Rattle.std.specs.Prelude.{IsTrue}
 use Rattle.db_format.specs.Pages.{Pages, nothing}
 use Rattle.db_format.specs.Seen.{marked}
-use Rattle.edge_model.specs.Files.{bytes_of}
+use Rattle.edge_model.specs.Files.{bytes_of, main_of}
 use Rattle.btree_model.specs.Content.{Entry, entry_of}
 use Rattle.btree_model.specs.Finding.{entries, is_sound}
 use Rattle.btree_model.specs.Tree.{tree_walk}
-use Rattle.btree_walk.specs.Cursor.{IsAt, walked}
+use Rattle.btree_walk.specs.Cursor.{IsCursorAt, walked}
 use Rattle.btree_walk.proofs.CursorLemmas.{at_made, ready_made}
 use Rattle.bulk_load.specs.Depth.{IsShallow}
 use Rattle.bulk_load.specs.Few.{TookFew, load_pages}
@@ -18,9 +18,8 @@ use Rattle.migrate_job.proofs.FewLaws.{if_err_told}
 use Rattle.bulk_load.specs.Found.{HasTree}
 use Rattle.bulk_load.specs.Own.{only}
 use Rattle.bulk_load.proofs.PutLemmas.{covers_before, covers_behind, follows_all, keeps_after}
-use Rattle.fresh_file.specs.State.{pages_of}
+use Rattle.fresh_file.specs.State.{fresh_pages}
 use Rattle.pager.specs.Beside.{beside_joins}
-use Rattle.pager.specs.File.{main_of}
 use Rattle.pager.specs.Held.{pins_of}
 use Rattle.pager.specs.Pages.{opened_pages}
 use Rattle.migrate_job.specs.Copying.{IsOfWalk, IsTargetWell, asked_by, beside_main, target_faults, target_limit, target_pages}
@@ -38,8 +37,8 @@ returns-in-Err-copy_entries-clause-cause g c told =
     let before : Pages = opened_pages c.args.pager.now.codec (main_of (g.D.Disk.reads c.args.pager.now.disk.now)) c.args.pager.now.count in
     let cursor = c.in-Ok-of_family.cursor in
     let made = c.in-Ok-of_family.ensures in
-    let at : IsAt before nothing [] cursor (marked c.in-Ok.seen) =
-    subst (λ m. IsAt before nothing [] cursor m) (sym c.in-Ok.ensures.none) (at_made c.args.root (Some c.args.family) cursor made before nothing) in
+    let at : IsCursorAt before nothing [] cursor (marked c.in-Ok.seen) =
+    subst (λ m. IsCursorAt before nothing [] cursor m) (sym c.in-Ok.ensures.none) (at_made c.args.root (Some c.args.family) cursor made before nothing) in
     subst (λ l. IsOfWalk l c.in-Err-copy_entries.error) (walked_of before nothing cursor c.args.root c.args.family made.root_is made.asked_is)
     (c.in-Err-copy_entries.ensures.of_walk told nothing [] at (c.in-Ok-new_loader.ensures.family ∙ sym (family_of_asked before cursor c.args.family made.asked_is)))
 
@@ -52,11 +51,11 @@ returns-clause-tree g c start was own covers =
     let made = c.in-Ok-of_family.ensures in
     let copied = c.in-Ok-copy_entries.ensures in
     let finished = c.finish_tree.ensures in
-    let at : IsAt before nothing [] cursor (marked c.in-Ok.seen) =
-    subst (λ m. IsAt before nothing [] cursor m) (sym c.in-Ok.ensures.none) (at_made c.args.root (Some c.args.family) cursor made before nothing) in
-    let old : Pages = pages_of c.args.state.now (bytes_of (d.reads pager.disk.now).fresh) in
-    let mid : Pages = pages_of c.copy_entries.new.state (bytes_of (d.reads c.copy_entries.new.pager.disk.now).fresh) in
-    let new : Pages = pages_of c.finish_tree.new.state (bytes_of (d.reads c.finish_tree.new.side.disk.now).fresh) in
+    let at : IsCursorAt before nothing [] cursor (marked c.in-Ok.seen) =
+    subst (λ m. IsCursorAt before nothing [] cursor m) (sym c.in-Ok.ensures.none) (at_made c.args.root (Some c.args.family) cursor made before nothing) in
+    let old : Pages = fresh_pages c.args.state.now (bytes_of (d.reads pager.disk.now).fresh) in
+    let mid : Pages = fresh_pages c.copy_entries.new.state (bytes_of (d.reads c.copy_entries.new.pager.disk.now).fresh) in
+    let new : Pages = fresh_pages c.finish_tree.new.state (bytes_of (d.reads c.finish_tree.new.side.disk.now).fresh) in
     let loaded : Loaded (only own mid) c.copy_entries.new.loader (map entry_of (entries (walked before nothing cursor))) =
     copied.loaded start was own (covers_before false own old mid new finished.keeps.count covers.covers) nothing [] at
     (c.in-Ok-new_loader.ensures.empty (only own old) (sym c.usable.ensures.value) covers.none) in
@@ -72,8 +71,8 @@ returns-clause-sound g c =
     let before : Pages = opened_pages pager.codec (main_of (g.D.Disk.reads pager.disk.now)) pager.count in
     let cursor = c.in-Ok-of_family.cursor in
     let made = c.in-Ok-of_family.ensures in
-    let at : IsAt before nothing [] cursor (marked c.in-Ok.seen) =
-    subst (λ m. IsAt before nothing [] cursor m) (sym c.in-Ok.ensures.none) (at_made c.args.root (Some c.args.family) cursor made before nothing) in
+    let at : IsCursorAt before nothing [] cursor (marked c.in-Ok.seen) =
+    subst (λ m. IsCursorAt before nothing [] cursor m) (sym c.in-Ok.ensures.none) (at_made c.args.root (Some c.args.family) cursor made before nothing) in
     on_ok c.finish_tree.result (IsTrue g.D.Disk.tells → is_sound (tree_walk before c.args.family nothing c.args.root) ≡ true)
     (λ told. ap is_sound (sym (walked_of before nothing cursor c.args.root c.args.family made.root_is made.asked_is)) ∙ c.in-Ok-copy_entries.ensures.sound told nothing [] at)
 
@@ -118,8 +117,8 @@ returns-in-Err-copy_entries-clause-few g c told =
     let before : Pages = opened_pages pager.codec (main_of (g.D.Disk.reads pager.disk.now)) pager.count in
     let cursor = c.in-Ok-of_family.cursor in
     let made = c.in-Ok-of_family.ensures in
-    let at : IsAt before nothing [] cursor (marked c.in-Ok.seen) =
-    subst (λ m. IsAt before nothing [] cursor m) (sym c.in-Ok.ensures.none) (at_made c.args.root (Some c.args.family) cursor made before nothing) in
+    let at : IsCursorAt before nothing [] cursor (marked c.in-Ok.seen) =
+    subst (λ m. IsCursorAt before nothing [] cursor m) (sym c.in-Ok.ensures.none) (at_made c.args.root (Some c.args.family) cursor made before nothing) in
     let loader = c.in-Ok-new_loader.loader in
     let size : ℕ = usable c.args.state.now.codec.profile in
     let from : ℕ = c.args.state.now.taken + 1 in
@@ -141,8 +140,8 @@ returns-in-Err-copy_entries-clause-asked g c told =
     let before : Pages = opened_pages pager.codec (main_of (g.D.Disk.reads pager.disk.now)) pager.count in
     let cursor = c.in-Ok-of_family.cursor in
     let made = c.in-Ok-of_family.ensures in
-    let at : IsAt before nothing [] cursor (marked c.in-Ok.seen) =
-    subst (λ m. IsAt before nothing [] cursor m) (sym c.in-Ok.ensures.none) (at_made c.args.root (Some c.args.family) cursor made before nothing) in
+    let at : IsCursorAt before nothing [] cursor (marked c.in-Ok.seen) =
+    subst (λ m. IsCursorAt before nothing [] cursor m) (sym c.in-Ok.ensures.none) (at_made c.args.root (Some c.args.family) cursor made before nothing) in
     let loader = c.in-Ok-new_loader.loader in
     let size : ℕ = usable c.args.state.now.codec.profile in
     let from : ℕ = c.args.state.now.taken + 1 in
@@ -164,8 +163,8 @@ returns-clause-few g c told =
     let before : Pages = opened_pages pager.codec (main_of (g.D.Disk.reads pager.disk.now)) pager.count in
     let cursor = c.in-Ok-of_family.cursor in
     let made = c.in-Ok-of_family.ensures in
-    let at : IsAt before nothing [] cursor (marked c.in-Ok.seen) =
-    subst (λ m. IsAt before nothing [] cursor m) (sym c.in-Ok.ensures.none) (at_made c.args.root (Some c.args.family) cursor made before nothing) in
+    let at : IsCursorAt before nothing [] cursor (marked c.in-Ok.seen) =
+    subst (λ m. IsCursorAt before nothing [] cursor m) (sym c.in-Ok.ensures.none) (at_made c.args.root (Some c.args.family) cursor made before nothing) in
     let loader = c.in-Ok-new_loader.loader in
     let size : ℕ = usable c.args.state.now.codec.profile in
     let from : ℕ = c.args.state.now.taken + 1 in
@@ -198,8 +197,8 @@ returns-clause-asked g c =
     let before : Pages = opened_pages pager.codec (main_of (g.D.Disk.reads pager.disk.now)) pager.count in
     let cursor = c.in-Ok-of_family.cursor in
     let made = c.in-Ok-of_family.ensures in
-    let at : IsAt before nothing [] cursor (marked c.in-Ok.seen) =
-    subst (λ m. IsAt before nothing [] cursor m) (sym c.in-Ok.ensures.none) (at_made c.args.root (Some c.args.family) cursor made before nothing) in
+    let at : IsCursorAt before nothing [] cursor (marked c.in-Ok.seen) =
+    subst (λ m. IsCursorAt before nothing [] cursor m) (sym c.in-Ok.ensures.none) (at_made c.args.root (Some c.args.family) cursor made before nothing) in
     let loader = c.in-Ok-new_loader.loader in
     let size : ℕ = usable c.args.state.now.codec.profile in
     let from : ℕ = c.args.state.now.taken + 1 in

@@ -1,7 +1,7 @@
 use Rattle.std.proofs.Common.{◌≡◌, ◌≤◌, ◌+◌, ℕ, true, false, map, IfOk, refl, sym, subst}
 use Rattle.std.specs.Prelude.{IsTrue}
 use Rattle.db_format.specs.Pages.{Pages, nothing}
-use Rattle.edge_model.specs.Files.{bytes_of}
+use Rattle.edge_model.specs.Files.{bytes_of, main_of}
 use Rattle.btree_model.specs.Content.{entry_of}
 use Rattle.btree_model.specs.Finding.{entries, is_sound}
 use Rattle.btree_model.specs.Tree.{root_family, tree_walk}
@@ -16,13 +16,12 @@ use Rattle.migrate_job.specs.declared.error.MigrateError.TheVariants.{TooManyPag
 use Rattle.migrate_job.proofs.FewLaws.{if_err_at}
 use Rattle.bulk_load.specs.Own.{CoversNew, only}
 use Rattle.bulk_load.proofs.PutLemmas.{follows_all, keeps_after}
-use Rattle.fresh_file.specs.State.{pages_of}
+use Rattle.fresh_file.specs.State.{fresh_pages}
 use Rattle.pager.specs.Beside.{beside_joins, read_beside}
 use Rattle.pager.specs.Causes.{MayRefuse}
-use Rattle.pager.specs.File.{main_of}
 use Rattle.pager.specs.Pages.{opened_pages}
 use Rattle.migrate_job.specs.Copying.{IsOfWalk, IsTargetWell, asked_by, beside_main, target_faults, target_limit, target_pages}
-use Rattle.migrate_job.specs.Stops.{is_early}
+use Rattle.migrate_job.specs.Stops.{is_early_stop}
 use Rattle.migrate_job.proofs.CopyLaws.{before_same, on_ok_map, refused_of_walk, sound_late}
 use Rattle.migrate_job.proofs.TargetLaws.{follows_read, fresh_read, moved_one, well_read}
 use Rattle.migrate_job.proofs.WalkStops.{read_refusal}
@@ -40,11 +39,11 @@ returns-in-Ok-clause-tree g c start was own covers =
     let now : Pages = opened_pages mid.codec (main_of (d.reads mid.disk.now)) mid.count in
     let beside = read_beside {draws_tell = e.tells} {drawn = e.drawn} g.met.D.Disk.only_now g.met.D.Disk.counts_now read.0 read.1 in
     let same : now ≡ before = before_same pager.codec mid.codec (d.reads pager.disk.now) (d.reads mid.disk.now) pager.count mid.count read.2 (beside.only_fresh was.told) read.4 in
-    let new : Pages = pages_of c.copy_family.new.state (bytes_of (d.reads c.copy_family.new.pager.disk.now).fresh) in
+    let new : Pages = fresh_pages c.copy_family.new.state (bytes_of (d.reads c.copy_family.new.pager.disk.now).fresh) in
     subst (λ f. IfOk c.copy_family.result (λ new_root. HasTree (only own new) f new_root (map entry_of (entries (tree_walk before f nothing root))))) (c.in-Ok.ensures.value was.told)
     (subst (λ p. IfOk c.copy_family.result (λ new_root. HasTree (only own new) c.in-Ok.family new_root (map entry_of (entries (tree_walk p c.in-Ok.family nothing root))))) same
     (c.copy_family.ensures.tree start (well_read e.tells e.drawn read.0 read.1 c.args.state.now start was) own
-    (moved_one (λ file. CoversNew false own (pages_of c.args.state.now file) new) (bytes_of (d.reads pager.disk.now).fresh) (bytes_of (d.reads mid.disk.now).fresh) (fresh_read read.0 was.told) covers)))
+    (moved_one (λ file. CoversNew false own (fresh_pages c.args.state.now file) new) (bytes_of (d.reads pager.disk.now).fresh) (bytes_of (d.reads mid.disk.now).fresh) (fresh_read read.0 was.told) covers)))
 
 pub returns-in-Ok-clause-late : goal.returns-in-Ok-clause-late
 returns-in-Ok-clause-late g c =
@@ -58,7 +57,7 @@ returns-in-Ok-clause-late g c =
     let now : Pages = opened_pages mid.codec (main_of (d.reads mid.disk.now)) mid.count in
     let beside = read_beside {draws_tell = e.tells} {drawn = e.drawn} g.met.D.Disk.only_now g.met.D.Disk.counts_now read.0 read.1 in
     if_err_map (λ error. IsTrue d.tells → IsOfWalk (tree_walk now c.in-Ok.family nothing root) error)
-    (λ error. IsTrue d.tells → is_sound (tree_walk before (root_family root (before.page root)) nothing root) ≡ true → is_early error ≡ false) c.copy_family.result
+    (λ error. IsTrue d.tells → is_sound (tree_walk before (root_family root (before.page root)) nothing root) ≡ true → is_early_stop error ≡ false) c.copy_family.result
     (λ error of told sound.
     let same : now ≡ before = before_same pager.codec mid.codec (d.reads pager.disk.now) (d.reads mid.disk.now) pager.count mid.count read.2 (beside.only_fresh told) read.4 in
     sound_late (tree_walk before (root_family root (before.page root)) nothing root) error sound

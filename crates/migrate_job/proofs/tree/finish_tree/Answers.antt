@@ -9,7 +9,7 @@ use Rattle.cipher_profile.specs.Profile.{usable}
 use Rattle.fresh_file.specs.declared.state.FreshState.{FreshState}
 use Rattle.migrate_job.proofs.FewLaws.{asks_refusal}
 use Rattle.bulk_load.specs.Own.{Covers, only}
-use Rattle.fresh_file.specs.State.{IsWellAs, pages_of}
+use Rattle.fresh_file.specs.State.{IsWellAs, fresh_pages}
 use Rattle.migrate_job.specs.Copying.{FollowsTarget, KeepsTarget, asked_by}
 use Rattle.migrate_job.proofs.TargetLaws.{follows_along, follows_without, keeps_along, keeps_without, moved, moved_one}
 use Rattle.migrate_job.proofs.tree.finish_tree.Goals as goal
@@ -22,14 +22,14 @@ returns-in-Ok-clause-tree g c start was own =
     let same = c.out-out.ensures.same in
     let well = moved (λ state t. IsWellAs state start side.tells side.draws_tell (side.fresh t) (side.drawn t)) _ out.state.now _ out.side.now same.0 same.1 was in
     moved
-    (λ state t. Covers false own (pages_of c.args.state.now (side.fresh c.args.side.now)) (pages_of state (side.fresh t)) → (pushed : List Entry)
-    → Loaded (only own (pages_of c.args.state.now (side.fresh c.args.side.now))) c.args.loader pushed
-    → HasTree (only own (pages_of state (side.fresh t))) (family_of_loader c.args.loader) c.in-Ok.root pushed)
+    (λ state t. Covers false own (fresh_pages c.args.state.now (side.fresh c.args.side.now)) (fresh_pages state (side.fresh t)) → (pushed : List Entry)
+    → Loaded (only own (fresh_pages c.args.state.now (side.fresh c.args.side.now))) c.args.loader pushed
+    → HasTree (only own (fresh_pages state (side.fresh t))) (family_of_loader c.args.loader) c.in-Ok.root pushed)
     to.state.now c.state-1.given.0 to.side.now c.side-1.given.0 (search rules) (search rules)
     (λ covered pushed loaded. c.in-Ok.ensures.tree start well own
-    (subst (λ first. Covers first own (pages_of out.state.now (side.fresh out.side.now)) (pages_of to.state.now (side.fresh to.side.now))) (sym c.requires.at_one)
-    (moved (λ state t. Covers false own (pages_of state (side.fresh t)) (pages_of to.state.now (side.fresh to.side.now))) _ out.state.now _ out.side.now same.0 same.1 covered)) pushed
-    (moved (λ state t. Loaded (only own (pages_of state (side.fresh t))) c.args.loader pushed) _ out.state.now _ out.side.now same.0 same.1 loaded))
+    (subst (λ first. Covers first own (fresh_pages out.state.now (side.fresh out.side.now)) (fresh_pages to.state.now (side.fresh to.side.now))) (sym c.requires.at_one)
+    (moved (λ state t. Covers false own (fresh_pages state (side.fresh t)) (fresh_pages to.state.now (side.fresh to.side.now))) _ out.state.now _ out.side.now same.0 same.1 covered)) pushed
+    (moved (λ state t. Loaded (only own (fresh_pages state (side.fresh t))) c.args.loader pushed) _ out.state.now _ out.side.now same.0 same.1 loaded))
 
 pub returns-in-Ok-clause-keeps : goal.returns-in-Ok-clause-keeps
 returns-in-Ok-clause-keeps g c =
@@ -113,5 +113,5 @@ load_error-requires-clause-shallow g c is =
 pub load_error-requires-clause-in_order : goal.load_error-requires-clause-in_order
 load_error-requires-clause-in_order g c is =
     let side = g.T.Side in
-    in_order (λ s. pages_of s.state.now (side.fresh s.side.now)) (λ s. s.state.now.limit) (λ s. record { disk = side.disk_faults s.side.now; entropy = side.draw_faults s.side.now })
+    in_order (λ s. fresh_pages s.state.now (side.fresh s.side.now)) (λ s. s.state.now.limit) (λ s. record { disk = side.disk_faults s.side.now; entropy = side.draw_faults s.side.now })
     c.out-out.result c.finish.new.out c.in-Err.error c.in-Err.ensures.cause is

@@ -1,7 +1,7 @@
 use Rattle.std.proofs.Common.{◌≡◌, ◌<◌, ◌+◌, ◌∷◌, ℕ, List, [], drop, length, refl, sym, ◌∙◌, ap, subst, arith}
 use Rattle.std.specs.Prelude.{slice_index}
 use Rattle.std.proofs.lemmas.List.{at_drop_more, drop_all}
-use Rattle.page_cache.specs.Pages.{Page, Pages}
+use Rattle.page_cache.specs.Pages.{Page, HeldPages}
 use Rattle.pager.specs.Changed.{AreListed}
 use Rattle.pager.proofs.ChangedLemmas.{emptied, listed_without, listed_none}
 use Rattle.pager.proofs.changed.release.Goals as goal
@@ -16,9 +16,9 @@ loop-k-preserved c =
     let lt : k < length numbers = omega arith in
     let split : drop k numbers ≡ slice_index numbers k ∷ drop (k + 1) numbers = at_drop_more (λ (l : List ℕ). l) numbers k 0 lt in
     record {
-      left = subst (λ (ps : List Page). AreListed (drop (k + 1) numbers) ps) (sym (ap (λ (p : Pages). p.held) c.discard.ensures.gone))
+      left = subst (λ (ps : List Page). AreListed (drop (k + 1) numbers) ps) (sym (ap (λ (p : HeldPages). p.held) c.discard.ensures.gone))
           (listed_without (slice_index numbers k) (drop (k + 1) numbers) c.loop-k.cache.held (subst (λ (ms : List ℕ). AreListed ms c.loop-k.cache.held) split c.loop-k.invariant.left));
-      sizes = (ap (λ (p : Pages). p.frames) c.discard.ensures.gone ∙ c.loop-k.invariant.sizes.0, ap (λ (p : Pages). p.usable) c.discard.ensures.gone ∙ c.loop-k.invariant.sizes.1);
+      sizes = (ap (λ (p : HeldPages). p.frames) c.discard.ensures.gone ∙ c.loop-k.invariant.sizes.0, ap (λ (p : HeldPages). p.usable) c.discard.ensures.gone ∙ c.loop-k.invariant.sizes.1);
     }
 
 pub returns : goal.returns

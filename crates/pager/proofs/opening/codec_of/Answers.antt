@@ -2,7 +2,7 @@ use Rattle.std.proofs.Common.{◌≡◌, ◌≤◌, List, ℕ, length, arith, ap
 use Rattle.std.proofs.lemmas.List.{length-take-le}
 use Rattle.cipher_profile.proofs.Layouts.{IsListed-laid_out}
 use Rattle.page_codec.specs.Page.{FileKeys, keys_of, fits}
-use Rattle.pager.specs.File.{main_of}
+use Rattle.edge_model.specs.Files.{main_of}
 use Rattle.pager.proofs.FirstPage.{keys_from_page, page_is}
 use Rattle.pager.proofs.opening.codec_of.Goals as goal
 

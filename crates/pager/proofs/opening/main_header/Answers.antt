@@ -5,7 +5,7 @@ use Rattle.cipher_profile.specs.Profile.{usable}
 use Rattle.cipher_profile.specs.declared.profile.Profile.{Profile}
 use Rattle.db_format.specs.Header.{header_read}
 use Rattle.page_codec.specs.Page.{fits, opened}
-use Rattle.pager.specs.File.{main_of}
+use Rattle.edge_model.specs.Files.{main_of}
 use Rattle.pager.specs.Opening.{first_broken}
 use Rattle.pager.specs.declared.opening.OpenError.TheVariants.{KeyRefused}
 use Rattle.pager.proofs.Filling.{on_ok}

@@ -1,10 +1,10 @@
 use Rattle.std.proofs.Common.{◌≡◌, ◌∙◌, ◌*◌, ℕ, List, length, take, refl, ap, subst, arith, rules}
 use Rattle.cipher_profile.specs.declared.profile.Profile.{Profile}
 use Rattle.edge_model.specs.Moments.{started}
-use Rattle.rollback_journal.specs.Playing.{main_of}
-use Rattle.transaction.specs.Batches.{HasMarked}
-use Rattle.transaction.specs.Database.{HoldsOld}
-use Rattle.transaction.proofs.Batched.{batches_hold_old}
+use Rattle.edge_model.specs.Files.{main_of}
+use Rattle.atomic_commit.specs.Batches.{HasMarked}
+use Rattle.atomic_commit.specs.Database.{HoldsOld}
+use Rattle.atomic_commit.proofs.Batched.{batches_hold_old}
 use Rattle.pager.specs.Changed.{IsDrawn}
 use Rattle.pager.proofs.EndingLemmas.{are_changes, listed_small}
 use Rattle.pager.proofs.UnderWayLemmas.{pages_after}

@@ -1,10 +1,10 @@
 use Rattle.std.proofs.Common.{◌∙◌, ◌≢◌, sym, ap, subst}
 use Rattle.db_format.specs.Pages.{Test}
 use Rattle.db_format.specs.Seen.{marked}
-use Rattle.pager.specs.File.{main_of}
+use Rattle.edge_model.specs.Files.{main_of}
 use Rattle.pager.specs.Pages.{opened_pages}
 use Rattle.pager.proofs.BatchLemmas.{number_in}
-use Rattle.rekey_job.specs.Stops.{IsShown}
+use Rattle.rekey_job.specs.Stops.{IsRekeyShown}
 use Rattle.rekey_job.specs.declared.error.RekeyError.{RekeyError}
 use Rattle.rekey_job.specs.declared.error.RekeyError.TheVariants.{LayoutDiffers, EntropyFault}
 use Rattle.rekey_job.proofs.Checked.{all_met, leaves_are}
@@ -43,7 +43,7 @@ returns-clause-shown g c told =
     let p = c.args.pager.now in
     let pages = opened_pages p.codec (main_of (g.D.Disk.reads p.disk.now)) p.count in
     let whole = c.requires.whole told in
-    subst (λ (e : RekeyError). IsShown pages e) (sym c.read_error.ensures)
+    subst (λ (e : RekeyError). IsRekeyShown pages e) (sym c.read_error.ensures)
     (tags_shown pages (marked c.args.census.leaves.leaves) c.in-Err.error whole.sound (leaves_are pages c.args.census whole)
     (λ n is. c.in-Err.ensures.refused n is told))
 

@@ -1,6 +1,6 @@
 use Rattle.std.proofs.Common.{◌≡◌, ◌≤◌, ℕ, true, false, IsTrue}
 use Rattle.db_format.specs.Seen.{marked}
-use Rattle.pager.specs.File.{main_of}
+use Rattle.edge_model.specs.Files.{main_of}
 use Rattle.pager.specs.Pages.{opened_pages}
 use Rattle.pager.specs.Reads.{DiskRead, Untouched}
 use Rattle.rekey_job.proofs.check.check_tags.Given as goal

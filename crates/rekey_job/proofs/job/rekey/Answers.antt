@@ -8,13 +8,13 @@ use Rattle.db_format.specs.Seen.{marked}
 use Rattle.page_codec.specs.Page.{FileKeys, salt_of}
 use Rattle.pager.specs.Base.{base_of}
 use Rattle.pager.specs.Changed.{same_layout}
-use Rattle.pager.specs.File.{main_of}
-use Rattle.pager.specs.Pages.{is_number, opened_pages}
+use Rattle.edge_model.specs.Files.{main_of}
+use Rattle.pager.specs.Pages.{is_page_number, opened_pages}
 use Rattle.pager.specs.Reads.{not_read}
 use Rattle.pager.proofs.UnderWayLemmas.{ok_map}
-use Rattle.transaction.specs.Commit.{IsCommitted, LeavesChanged}
-use Rattle.transaction.specs.Database.{HoldsEither, HoldsOld, stored_pages}
-use Rattle.transaction.specs.Facts.{IsBegun, SameFresh}
+use Rattle.atomic_commit.specs.Commit.{IsCommitted, LeavesChanged}
+use Rattle.atomic_commit.specs.Database.{HoldsEither, HoldsOld, stored_pages}
+use Rattle.atomic_commit.specs.Facts.{IsCommitBegun, SameFresh}
 use Rattle.rekey_job.specs.Draws.{FileDraws}
 use Rattle.rekey_job.specs.Rekeyed.{IsRekeyed}
 use Rattle.rekey_job.specs.Stops.{AreClean}
@@ -38,8 +38,8 @@ returns-in-Ok-clause-own_draws g c =
     let main = main_of (g.D.Disk.reads c.rekey_clean.result.0.now) in
     let after = g.E.Entropy.drawn c.rekey_clean.result.1.now in
     ok_map c.rekey_clean.result.2 c.rekey_clean.ensures.own_draws (λ own told drawing.
-    subst (λ (n : ℕ). FileDraws c.args.write main (is_number n) 0 (drop (length (g.E.Entropy.drawn c.args.pager.entropy.now)) after)) c.check_pages.ensures.file.1
-    (subst (λ (e : _). FileDraws c.args.write main (is_number q.count) 0 (drop (length (g.E.Entropy.drawn e)) after)) c.check_pages.ensures.entropy.value (own told drawing)))
+    subst (λ (n : ℕ). FileDraws c.args.write main (is_page_number n) 0 (drop (length (g.E.Entropy.drawn c.args.pager.entropy.now)) after)) c.check_pages.ensures.file.1
+    (subst (λ (e : _). FileDraws c.args.write main (is_page_number q.count) 0 (drop (length (g.E.Entropy.drawn e)) after)) c.check_pages.ensures.entropy.value (own told drawing)))
 
 pub returns-in-Ok-clause-new : goal.returns-in-Ok-clause-new
 returns-in-Ok-clause-new g c =
@@ -62,11 +62,11 @@ returns-in-Ok-clause-any_moment g c told =
     let after = g.E.Entropy.drawn c.rekey_clean.result.1.now in
     let drawn = drop (length (g.E.Entropy.drawn p.entropy.now)) after in
     let clean = subst (λ (e : _). LeavesChanged d.moment d.since (base_of q.codec (main_of (d.reads q.disk.now)) q.count)
-    (λ main. IsRekeyed q.codec c.args.write q.count (main_of (d.reads q.disk.now)) main × (IsTrue g.E.Entropy.tells → FileDraws c.args.write main (is_number q.count) 0 (drop (length (g.E.Entropy.drawn e)) after))) q.disk.now end)
+    (λ main. IsRekeyed q.codec c.args.write q.count (main_of (d.reads q.disk.now)) main × (IsTrue g.E.Entropy.tells → FileDraws c.args.write main (is_page_number q.count) 0 (drop (length (g.E.Entropy.drawn e)) after))) q.disk.now end)
     c.check_pages.ensures.entropy.value (c.rekey_clean.ensures.any_moment told) in
-    then_changed d.moment d.since base (λ main. IsRekeyed p.codec c.args.write p.count (main_of (d.reads p.disk.now)) main × (IsTrue g.E.Entropy.tells → FileDraws c.args.write main (is_number p.count) 0 drawn)) p.disk.now q.disk.now end
+    then_changed d.moment d.since base (λ main. IsRekeyed p.codec c.args.write p.count (main_of (d.reads p.disk.now)) main × (IsTrue g.E.Entropy.tells → FileDraws c.args.write main (is_page_number p.count) 0 drawn)) p.disk.now q.disk.now end
     (while_read d.reads d.images d.moment d.since g.met.D.Disk.counts_now g.met.D.Disk.only_now (HoldsOld base) p.disk.now q.disk.now (c.requires.begun told).holds read)
-    (by_names (λ k f n. LeavesChanged d.moment d.since (base_of k f n) (λ main. IsRekeyed k c.args.write n f main × (IsTrue g.E.Entropy.tells → FileDraws c.args.write main (is_number n) 0 drawn)) q.disk.now end)
+    (by_names (λ k f n. LeavesChanged d.moment d.since (base_of k f n) (λ main. IsRekeyed k c.args.write n f main × (IsTrue g.E.Entropy.tells → FileDraws c.args.write main (is_page_number n) 0 drawn)) q.disk.now end)
     p.codec q.codec (d.reads p.disk.now) (d.reads q.disk.now) p.count q.count file.0 read.stays file.1 clean)
 
 pub returns-in-Ok-clause-one_new : goal.returns-in-Ok-clause-one_new
@@ -138,7 +138,7 @@ rekey_clean-requires g c =
       salt = λ told. by_names (λ k f n. k.salt ≡ salt_of f) q.codec p.codec (d.reads q.disk.now) (d.reads p.disk.now) q.count p.count
           (sym e.file.0) (sym (e.disk.only_read told).stays) (sym e.file.1) (c.requires.salt told);
       begun = λ told. read_begun (base_of q.codec (main_of (d.reads q.disk.now)) q.count) (d.images p.disk.now) (d.images q.disk.now) (e.disk.only_read told).same_images
-          (by_names (λ k f n. IsBegun (base_of k f n) (d.images p.disk.now)) q.codec p.codec (d.reads q.disk.now) (d.reads p.disk.now) q.count p.count
+          (by_names (λ k f n. IsCommitBegun (base_of k f n) (d.images p.disk.now)) q.codec p.codec (d.reads q.disk.now) (d.reads p.disk.now) q.count p.count
           (sym e.file.0) (sym (e.disk.only_read told).stays) (sym e.file.1) (c.requires.begun told));
       clean = λ told. by_names (λ k f n. AreClean (opened_pages k f n)) q.codec p.codec (d.reads q.disk.now) (d.reads p.disk.now) q.count p.count
           (sym e.file.0) (sym (e.disk.only_read told).stays) (sym e.file.1) (c.in-Ok.ensures.clean told);

@@ -3,10 +3,10 @@ use Rattle.cipher_profile.specs.declared.profile.Profile.{Profile}
 use Rattle.cipher_profile.specs.Profile.{IsListed}
 use Rattle.page_codec.specs.Page.{FileKeys}
 use Rattle.pager.proofs.TxnLemmas.{layout_same}
-use Rattle.pager.specs.File.{main_of}
+use Rattle.edge_model.specs.Files.{main_of}
 use Rattle.pager.proofs.UnderWayLemmas.{ok_map}
-use Rattle.transaction.specs.Database.{Base}
-use Rattle.transaction.specs.Facts.{IsBegun}
+use Rattle.atomic_commit.specs.Database.{Base}
+use Rattle.atomic_commit.specs.Facts.{IsCommitBegun}
 use Rattle.rollback_journal.proofs.WriterRuns.{ok_two}
 use Rattle.rekey_job.proofs.Committed.{at_moments, now_drawn, now_rekeyed, told_new, told_old, told_one}
 use Rattle.rekey_job.proofs.Renewed.{base_sizes, is_base, plain_alike, told_base}
@@ -30,7 +30,7 @@ rewrite_pages-requires g c κs within =
               (
                 is_base g.D.Disk.tells p.codec file p.count (omega (arith, p.lendable.least)) p.some (λ told. (r.begun told).base_is),
                 (
-                  λ told. subst (λ (b : Base). IsBegun b (g.D.Disk.images p.disk.now)) (sym (told_base g.D.Disk.tells p.codec file p.count told)) (r.begun told),
+                  λ told. subst (λ (b : Base). IsCommitBegun b (g.D.Disk.images p.disk.now)) (sym (told_base g.D.Disk.tells p.codec file p.count told)) (r.begun told),
                   (λ told. ap (λ (b : Base). b.start) (told_base g.D.Disk.tells p.codec file p.count told), (r.clean, r.leaves)),
                 ),
               ),

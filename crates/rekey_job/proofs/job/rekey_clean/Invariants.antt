@@ -1,4 +1,4 @@
-use Rattle.pager.specs.File.{main_of}
+use Rattle.edge_model.specs.Files.{main_of}
 use Rattle.rekey_job.proofs.Renewed.{any_base}
 use Rattle.rekey_job.proofs.job.rekey_clean.Given as goal
 

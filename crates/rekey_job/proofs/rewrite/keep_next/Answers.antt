@@ -1,6 +1,6 @@
 use Rattle.edge_model.specs.Moments.{started}
-use Rattle.transaction.specs.Database.{HoldsOld}
-use Rattle.transaction.proofs.Batched.{batches_hold_old}
+use Rattle.atomic_commit.specs.Database.{HoldsOld}
+use Rattle.atomic_commit.proofs.Batched.{batches_hold_old}
 use Rattle.rekey_job.proofs.rewrite.keep_next.Goals as goal
 
 -- the conditions, by their places: number, sizes, ready, under_way

@@ -3,7 +3,7 @@ use Rattle.std.proofs.lemmas.Result.{IfErr-weaker, on_ok_weaker}
 use Rattle.cipher_profile.specs.Profile.{usable}
 use Rattle.pager.specs.UnderWay.{IsReadyFor, seen_pages}
 use Rattle.pager.specs.declared.fill.PageError.TheVariants.{DiskFault, EntropyFault}
-use Rattle.rollback_journal.specs.Playing.{main_of}
+use Rattle.edge_model.specs.Files.{main_of}
 use Rattle.rollback_journal.specs.Writing.{Writing}
 use Rattle.rekey_job.specs.Rewritten.{is_zeroed}
 use Rattle.rekey_job.proofs.Rewriting.{change_refusal, err_at, err_both, never_opened, never_refused, same_seen, seen_accepted, zeros_seen}

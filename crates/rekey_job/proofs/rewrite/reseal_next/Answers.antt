@@ -5,10 +5,10 @@ use Rattle.cipher_profile.specs.Profile.{usable}
 use Rattle.page_codec.specs.Page.{FileKeys, accepts}
 use Rattle.pager.specs.Changed.{Changed}
 use Rattle.pager.specs.File.{page_stored}
-use Rattle.pager.specs.Pages.{is_number}
+use Rattle.pager.specs.Pages.{is_page_number}
 use Rattle.pager.specs.UnderWay.{is_touched, seen_pages}
 use Rattle.pager.proofs.BatchLemmas.{number_in}
-use Rattle.rollback_journal.specs.Playing.{main_of}
+use Rattle.edge_model.specs.Files.{main_of}
 use Rattle.rekey_job.specs.Rewritten.{is_zeroed}
 use Rattle.rekey_job.proofs.rewrite.reseal_next.Goals as goal
 
@@ -35,7 +35,7 @@ reseal-requires g c κs within =
       (
         within.1,
         (
-          subst (λ (k : ℕ). is_number k n ≡ true) (sym kept.file.2) r.0,
+          subst (λ (k : ℕ). is_page_number k n ≡ true) (sym kept.file.2) r.0,
           (
             (ap (λ (k : FileKeys). k.profile.page_size) kept.file.1 ∙ r.1.0.0, kept.file.2 ∙ r.1.0.1),
             (
@@ -65,7 +65,7 @@ returns-clause-touched g c =
     let t = c.args.txn.now in
     let mid = c.keep_next.new.txn in
     let kept = c.keep_next.ensures in
-    on_ok_weaker c.reseal.result (λ touched m num. touched m (subst (λ (k : ℕ). is_number k m ≡ true) (sym kept.file.2) num)
+    on_ok_weaker c.reseal.result (λ touched m num. touched m (subst (λ (k : ℕ). is_page_number k m ≡ true) (sym kept.file.2) num)
     ∙ ap (λ (b : Bool). if m == c.args.n then true else b)
     (ap (λ (ms : List Bool). is_touched ms mid.changed.held m) kept.kept.1 ∙ ap (λ (v : Changed). is_touched t.written v.held m) kept.kept.0)) c.reseal.ensures.touched
 

@@ -3,13 +3,13 @@ use Rattle.edge_model.specs.Moments.{and_then, started, started_from, then_from}
 use Rattle.cipher_profile.specs.Profile.{usable}
 use Rattle.page_codec.specs.Page.{FileKeys, accepts}
 use Rattle.pager.specs.File.{page_stored}
-use Rattle.pager.specs.Pages.{is_number}
+use Rattle.pager.specs.Pages.{is_page_number}
 use Rattle.pager.specs.UnderWay.{seen_pages}
 use Rattle.pager.proofs.BatchLemmas.{number_in, number_is}
-use Rattle.rollback_journal.specs.Playing.{main_of}
-use Rattle.transaction.specs.Database.{HoldsOld}
-use Rattle.transaction.specs.Facts.{SameFresh}
-use Rattle.transaction.proofs.Batched.{batches_hold_old}
+use Rattle.edge_model.specs.Files.{main_of}
+use Rattle.atomic_commit.specs.Database.{HoldsOld}
+use Rattle.atomic_commit.specs.Facts.{SameFresh}
+use Rattle.atomic_commit.proofs.Batched.{batches_hold_old}
 use Rattle.rekey_job.specs.Rewritten.{is_zeroed}
 use Rattle.rekey_job.proofs.Rewriting.{all_seen, more_seen, more_touched, none_seen}
 use Rattle.rekey_job.proofs.rewrite.reseal_pages.Goals as goal
@@ -87,7 +87,7 @@ reseal_next-requires g c κs within =
     let done = c.loop-done.done in
     let inv = c.loop-done.invariant in
     let r = c.requires.1.1 in
-    let num : is_number m.count (done + 1) ≡ true = number_is m.count (done + 1) (omega arith) (omega (arith, inv.file.2)) in (
+    let num : is_page_number m.count (done + 1) ≡ true = number_is m.count (done + 1) (omega arith) (omega (arith, inv.file.2)) in (
       within.0,
       (
         within.1,
@@ -100,7 +100,7 @@ reseal_next-requires g c κs within =
               (
                 inv.under_way,
                 λ told unzeroed. subst (λ (k : FileKeys). accepts k (done + 1) (page_stored k g.start.base.start (done + 1)) ≡ true) (sym inv.file.0)
-                    (r.1.1.1 told (done + 1) (subst (λ (k : ℕ). is_number k (done + 1) ≡ true) inv.file.2 num) unzeroed),
+                    (r.1.1.1 told (done + 1) (subst (λ (k : ℕ). is_page_number k (done + 1) ≡ true) inv.file.2 num) unzeroed),
               ),
             ),
           ),

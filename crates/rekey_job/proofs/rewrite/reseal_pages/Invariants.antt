@@ -2,11 +2,11 @@ use Rattle.std.proofs.Common.{◌≡◌, ◌≤◌, ◌&&◌, ℕ, true, replica
 use Rattle.std.specs.Prelude.{nat_le}
 use Rattle.edge_model.specs.Images.{From, LeavesOnly}
 use Rattle.cipher_profile.specs.Profile.{usable}
-use Rattle.pager.specs.Pages.{is_number}
+use Rattle.pager.specs.Pages.{is_page_number}
 use Rattle.pager.specs.UnderWay.{IsReadyFor, IsUnderWay, is_touched, seen_pages}
-use Rattle.rollback_journal.specs.Playing.{main_of}
-use Rattle.transaction.specs.Database.{HoldsOld}
-use Rattle.transaction.specs.Facts.{SameFresh}
+use Rattle.edge_model.specs.Files.{main_of}
+use Rattle.atomic_commit.specs.Database.{HoldsOld}
+use Rattle.atomic_commit.specs.Facts.{SameFresh}
 use Rattle.rekey_job.specs.Rewritten.{is_zeroed}
 use Rattle.rekey_job.proofs.rewrite.reseal_pages.Given as goal
 
@@ -16,7 +16,7 @@ ghost-reseal_next g a = g.start
 -- The pages so far are written, the leaves among them as zeros.
 abbrev pub invariant-loop-done : goal.invariant-loop-done
 invariant-loop-done g l = record {
-  seen : IsTrue g.D.Disk.tells → (n : ℕ) → is_number l.initial.txn.count n ≡ true
+  seen : IsTrue g.D.Disk.tells → (n : ℕ) → is_page_number l.initial.txn.count n ≡ true
       → (seen_pages l.txn.read l.txn.write (main_of (g.D.Disk.reads l.txn.disk.now)) l.txn.count l.txn.written l.txn.changed.held).page n
       ≡ (if nat_le n l.done && is_zeroed l.leaves.leaves n then replicate (usable l.initial.txn.write.profile) 0
       else (seen_pages l.initial.txn.read l.initial.txn.write (main_of (g.D.Disk.reads l.initial.txn.disk.now)) l.initial.txn.count l.initial.txn.written l.initial.txn.changed.held).page n);

@@ -5,12 +5,12 @@ use Rattle.edge_model.specs.Moments.{and_then, then_from, weaker}
 use Rattle.btree_walk.proofs.CauseLemmas.{if_err_map}
 use Rattle.cipher_profile.specs.Profile.{usable}
 use Rattle.page_codec.specs.Page.{FileKeys}
-use Rattle.pager.specs.Pages.{is_number}
+use Rattle.pager.specs.Pages.{is_page_number}
 use Rattle.pager.specs.UnderWay.{HasNewPages, is_touched, seen_pages}
-use Rattle.rollback_journal.specs.Playing.{main_of}
-use Rattle.transaction.specs.Database.{HoldsOld}
+use Rattle.edge_model.specs.Files.{main_of}
+use Rattle.atomic_commit.specs.Database.{HoldsOld}
 use Rattle.rekey_job.specs.Rewritten.{rewritten}
-use Rattle.rekey_job.specs.Stops.{is_unwritten, page_error}
+use Rattle.rekey_job.specs.Stops.{is_unwritten, rekey_page_error}
 use Rattle.rekey_job.specs.declared.error.RekeyError.{RekeyError}
 use Rattle.rekey_job.specs.declared.error.RekeyError.TheVariants.{LayoutDiffers}
 use Rattle.rekey_job.proofs.Rewriting.{all_new, changed_weaker, err_at, err_told, old_then, page_failed}
@@ -27,8 +27,8 @@ returns-in-Ok-clause-changed g c =
     let drawn = g.E.Entropy.drawn c.finish.result.1.now in
     on_ok_weaker c.finish.result.2 (λ has told. subst (λ (k : FileKeys). HasNewPages g.start k (λ n. true) new g.E.Entropy.tells drawn main) ok.file.1
     (all_new g.start m.write (is_touched m.written m.changed.held) (seen_pages m.read m.write (main_of (g.D.Disk.reads m.disk.now)) m.count m.written m.changed.held).page new g.E.Entropy.tells drawn main
-    (λ n num. ok.touched n (subst (λ (p : ℕ). is_number p n ≡ true) (sym c.requires.1.1.0.1) num))
-    (λ n num. ok.seen told n (subst (λ (p : ℕ). is_number p n ≡ true) (sym c.requires.1.1.0.1) num))
+    (λ n num. ok.touched n (subst (λ (p : ℕ). is_page_number p n ≡ true) (sym c.requires.1.1.0.1) num))
+    (λ n num. ok.seen told n (subst (λ (p : ℕ). is_page_number p n ≡ true) (sym c.requires.1.1.0.1) num))
     (has told))) c.finish.ensures.changed
 
 pub returns-in-Ok-clause-any_moment : goal.returns-in-Ok-clause-any_moment
@@ -41,8 +41,8 @@ returns-in-Ok-clause-any_moment g c = λ told.
     old_then (c.reseal_pages.ensures.any_moment told)
     (changed_weaker (λ main has. subst (λ (k : FileKeys). HasNewPages g.start k (λ n. true) new g.E.Entropy.tells drawn main) ok.file.1
     (all_new g.start m.write (is_touched m.written m.changed.held) (seen_pages m.read m.write (main_of (g.D.Disk.reads m.disk.now)) m.count m.written m.changed.held).page new g.E.Entropy.tells drawn main
-    (λ n num. ok.touched n (subst (λ (p : ℕ). is_number p n ≡ true) (sym c.requires.1.1.0.1) num))
-    (λ n num. ok.seen told n (subst (λ (p : ℕ). is_number p n ≡ true) (sym c.requires.1.1.0.1) num))
+    (λ n num. ok.touched n (subst (λ (p : ℕ). is_page_number p n ≡ true) (sym c.requires.1.1.0.1) num))
+    (λ n num. ok.seen told n (subst (λ (p : ℕ). is_page_number p n ≡ true) (sym c.requires.1.1.0.1) num))
     has)) (c.finish.ensures.any_moment told))
 
 pub returns-in-Ok-clause-one_new : goal.returns-in-Ok-clause-one_new
@@ -68,5 +68,5 @@ returns-in-Err-clause-any_moment g c = λ told.
 
 pub returns-in-Err-clause-failed : goal.returns-in-Err-clause-failed
 returns-in-Err-clause-failed g c =
-    err_told g.D.Disk.tells c.give_up.result.2 (page_error c.in-Err.error) (λ told. (c.give_up.ensures.told told).1)
+    err_told g.D.Disk.tells c.give_up.result.2 (rekey_page_error c.in-Err.error) (λ told. (c.give_up.ensures.told told).1)
     (λ told. page_failed c.in-Err.error (λ still. (c.in-Err.ensures.refused still).1 told))

@@ -3,13 +3,13 @@ use Rattle.std.proofs.lemmas.Result.{on_ok_weaker}
 use Rattle.edge_model.specs.Images.{From, LeavesOnly}
 use Rattle.edge_model.specs.Moments.{started, started_from}
 use Rattle.page_codec.specs.Page.{FileKeys, accepts}
-use Rattle.pager.specs.File.{main_of, page_stored}
-use Rattle.pager.specs.Pages.{is_number}
+use Rattle.pager.specs.File.{page_stored}
+use Rattle.pager.specs.Pages.{is_page_number}
 use Rattle.pager.specs.UnderWay.{IsUnderWay}
 use Rattle.pager.proofs.TxnLemmas.{layout_same}
-use Rattle.rollback_journal.specs.Playing.{main_of as read_main}
-use Rattle.transaction.specs.Database.{HoldsEither, HoldsOld, stored_pages}
-use Rattle.transaction.specs.Facts.{SameFresh}
+use Rattle.edge_model.specs.Files.{main_of}
+use Rattle.atomic_commit.specs.Database.{HoldsEither, HoldsOld, stored_pages}
+use Rattle.atomic_commit.specs.Facts.{SameFresh}
 use Rattle.rekey_job.proofs.Rewriting.{all_accepted, changed_weaker, from_begun}
 use Rattle.rekey_job.proofs.rewrite.rewrite_pages.Goals as goal
 
@@ -35,7 +35,7 @@ rewrite-requires g c κs within =
                 λ told n num unzeroed. subst (λ (k : FileKeys). accepts k n (page_stored k g.start.base.start n) ≡ true) (sym e.file.0)
                     (subst (λ (l : List ℕ). accepts p.codec n (page_stored p.codec l n) ≡ true) (sym (r.1.1.1.1.1.0 told))
                     (all_accepted p.codec (main_of (d.reads p.disk.now)) p.count c.args.leaves.now.leaves (r.1.1.1.1.1.1.0 told) (r.1.1.1.1.1.1.1 told) n
-                    (subst (λ (k : ℕ). is_number k n ≡ true) e.file.2 num) unzeroed)),
+                    (subst (λ (k : ℕ). is_page_number k n ≡ true) e.file.2 num) unzeroed)),
               ),
             ),
           ),
@@ -51,7 +51,7 @@ returns-in-Ok-clause-changed g c =
     let e = c.in-Ok.ensures in
     let r = c.requires.1.1 in
     on_ok_weaker c.rewrite.result.2 (λ has told. from_begun g.start p.codec c.args.write (d.reads p.disk.now) p.count t.read t.write (d.reads t.disk.now) t.count
-    t.written c.args.leaves.now.leaves t.changed.held g.E.Entropy.tells (g.E.Entropy.drawn c.rewrite.result.1.now) (read_main (d.reads c.rewrite.result.0.now))
+    t.written c.args.leaves.now.leaves t.changed.held g.E.Entropy.tells (g.E.Entropy.drawn c.rewrite.result.1.now) (main_of (d.reads c.rewrite.result.0.now))
     r.0 r.1.0.1 (r.1.1.1.1.1.1.0 told) (r.1.1.1.1.1.1.1 told) e.file.0 e.file.1 (ap (λ (x : _). d.reads x) e.disk.1) e.file.2 e.unchanged.0 e.untouched (has told)) c.rewrite.ensures.changed
 
 pub returns-in-Ok-clause-any_moment : goal.returns-in-Ok-clause-any_moment
@@ -69,7 +69,7 @@ returns-in-Ok-clause-any_moment g c = λ told.
 pub returns-in-Ok-clause-one_new : goal.returns-in-Ok-clause-one_new
 returns-in-Ok-clause-one_new g c =
     let d = g.D.Disk in
-    let new = stored_pages g.start.base.size g.start.base.pages (read_main (d.reads c.rewrite.result.0.now)) in
+    let new = stored_pages g.start.base.size g.start.base.pages (main_of (d.reads c.rewrite.result.0.now)) in
     on_ok_weaker c.rewrite.result.2 (λ run told. subst (λ (x : _). LeavesOnly d.moment d.since x c.rewrite.result.0.now (HoldsEither g.start.base new)) c.in-Ok.ensures.disk.1 (run told)) c.rewrite.ensures.one_new
 
 pub returns-in-Err-clause-any_moment : goal.returns-in-Err-clause-any_moment

@@ -1,9 +1,9 @@
 use Rattle.std.proofs.Common.{◌≡◌, Bool, true, false, ℕ, List, sym, ◌∙◌, ap, subst, arith, rules, refl}
 use Rattle.std.specs.Prelude.{IsFalse}
-use Rattle.edge_model.specs.Files.{Files}
+use Rattle.edge_model.specs.Files.{Files, main_of}
 use Rattle.journal_format.specs.Header.{head_at, has_header, is_header, is_sector, sector_at, HasFields}
 use Rattle.journal_format.specs.Segments.{names_super}
-use Rattle.rollback_journal.specs.Playing.{journal_of, main_of}
+use Rattle.rollback_journal.specs.Playing.{journal_of}
 use Rattle.rollback_journal.proofs.SegmentSteps.{no_header}
 use Rattle.rollback_journal.proofs.MainSteps.{some_contents, has_byte, makes_byte}
 use Rattle.rollback_journal.proofs.LaidBack.{there_contents}

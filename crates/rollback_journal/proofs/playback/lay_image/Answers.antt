@@ -1,11 +1,11 @@
 use Rattle.std.proofs.Common.{◌≡◌, ◌-◌, ◌*◌, ℕ, List, sym, ◌∙◌, ap, subst, refl}
-use Rattle.edge_model.specs.Files.{Files, number_of}
+use Rattle.edge_model.specs.Files.{Files, number_of, contents}
 use Rattle.edge_model.specs.Moments.{started_from, goes_from}
 use Rattle.journal_format.specs.Records.{Record}
 use Rattle.journal_format.specs.Segments.{played}
 use Rattle.rollback_journal.specs.Laying.{page_start, IsOneOf}
-use Rattle.rollback_journal.specs.Recovery.{Keeps, end_of}
-use Rattle.rollback_journal.specs.Playing.{journal_of, contents}
+use Rattle.rollback_journal.specs.Recovery.{KeepsRecovered, end_of}
+use Rattle.rollback_journal.specs.Playing.{journal_of}
 use Rattle.rollback_journal.proofs.Kept.{keeps_none, keeps_joins}
 use Rattle.rollback_journal.proofs.Laid.{partly_torn, partly_at_first}
 use Rattle.rollback_journal.proofs.MainSteps.{main_keeps, main_held, main_taken, with_number}
@@ -26,7 +26,7 @@ returns-in_err-write_at-clause-any_moment g c told =
     (subst (λ (j : List ℕ). IsOneOf c.args.page_size entry (played c.args.page_size j)) (sym same) one) c.requires.size.2
     (partly_at_first c.args.page_size (end_of c.args.page_size (journal_of d)) (played c.args.page_size (journal_of d)) a) torn)
     play (g.met.D.Disk.numbered c.args.disk.now d here) step)
-    (started_from g.met.D.Disk.only_now c.args.disk.now (Keeps c.args.page_size) (keeps_none c.args.page_size)) (c.write_at.ensures.time told)
+    (started_from g.met.D.Disk.only_now c.args.disk.now (KeepsRecovered c.args.page_size) (keeps_none c.args.page_size)) (c.write_at.ensures.time told)
     (c.write_at.ensures.crash told)
 
 pub returns-clause-any_moment : goal.returns-clause-any_moment
@@ -44,7 +44,7 @@ returns-clause-any_moment g c told =
     (subst (λ (j : List ℕ). IsOneOf c.args.page_size entry (played c.args.page_size j)) (sym same) one) c.requires.size.2
     (partly_at_first c.args.page_size (end_of c.args.page_size (journal_of d)) (played c.args.page_size (journal_of d)) a) torn)
     play (g.met.D.Disk.numbered c.args.disk.now d here) step)
-    (started_from g.met.D.Disk.only_now c.args.disk.now (Keeps c.args.page_size) (keeps_none c.args.page_size)) (c.write_at.ensures.time told)
+    (started_from g.met.D.Disk.only_now c.args.disk.now (KeepsRecovered c.args.page_size) (keeps_none c.args.page_size)) (c.write_at.ensures.time told)
     (c.write_at.ensures.crash told)
 
 pub returns-clause-in_play : goal.returns-clause-in_play

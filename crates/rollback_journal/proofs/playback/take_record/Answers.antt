@@ -1,12 +1,12 @@
 use Rattle.std.proofs.Common.{◌≡◌, ◌-◌, ◌+◌, Option, Some, ℕ, length, take, drop, List, sym, ◌∙◌, ap, subst, arith, rules, length-drop}
 use Rattle.std.proofs.lemmas.List.{length-take}
-use Rattle.edge_model.specs.Files.{Files, written}
+use Rattle.edge_model.specs.Files.{Files, written, main_of}
 use Rattle.edge_model.specs.Moments.{then_from}
-use Rattle.journal_format.specs.Records.{Place, image_of, bytes_at, record_at}
+use Rattle.journal_format.specs.Records.{Place, image_of, record_bytes_at, record_at}
 use Rattle.journal_format.specs.Segments.{played}
 use Rattle.rollback_journal.proofs.RecordSteps.{low_is, high_is, one_at}
 use Rattle.rollback_journal.specs.Laying.{page_start, IsOneOf}
-use Rattle.rollback_journal.specs.Playing.{journal_of, main_of, IsRead}
+use Rattle.rollback_journal.specs.Playing.{journal_of, IsReadBack}
 use Rattle.rollback_journal.proofs.Kept.{keeps_joins}
 use Rattle.rollback_journal.proofs.ReadSteps.{read_size, image_is, still_in_play, only_read}
 use Rattle.rollback_journal.proofs.playback.take_record.Goals as goal
@@ -35,10 +35,10 @@ returns-clause-did g c told =
     let place : Place = record { nonce = c.args.nonce; at = c.args.at } in
     let first = read_size c.args.page_size (length c.args.buffer.now) j place c.read_record.new.buffer c.in_ok-page.field-0 c.requires.size.2
     (c.in_ok-page.ensures.read told) in
-    let read : IsRead c.args.page_size j place c.read_record.new.buffer (Some c.in-Some.page) = subst
-    (λ (p : Option ℕ). IsRead c.args.page_size j place c.read_record.new.buffer p) c.in-Some.is first in
+    let read : IsReadBack c.args.page_size j place c.read_record.new.buffer (Some c.in-Some.page) = subst
+    (λ (p : Option ℕ). IsReadBack c.args.page_size j place c.read_record.new.buffer p) c.in-Some.is first in
     let len : length c.read_record.new.buffer ≡ c.args.page_size + 8 = c.read_record.auto.buffer ∙ c.requires.size.2 in
-    let image = image_is c.args.page_size c.read_record.new.buffer (bytes_at c.args.page_size j place) len read.2 in (
+    let image = image_is c.args.page_size c.read_record.new.buffer (record_bytes_at c.args.page_size j place) len read.2 in (
       read.0,
       low_is c.in-Some.page _ c.args.initial _ read.1 (c.requires.initial told) (omega (arith, c.if-page-initial.false)),
       c.in_ok-lay_image.ensures.laid told
@@ -47,7 +47,7 @@ returns-clause-did g c told =
           (c.read_record.ensures.same told)
           ∙ ap (λ (b : List ℕ). written (page_start c.args.page_size c.in-Some.page) b (main_of (g.D.Disk.reads c.args.disk.now))) image
           ∙ ap
-          (λ (n : ℕ). written (page_start c.args.page_size n) (image_of (bytes_at c.args.page_size j place)) (main_of (g.D.Disk.reads c.args.disk.now))) read.1,
+          (λ (n : ℕ). written (page_start c.args.page_size n) (image_of (record_bytes_at c.args.page_size j place)) (main_of (g.D.Disk.reads c.args.disk.now))) read.1,
     )
 
 pub returns-then-page-initial-clause-did : goal.returns-then-page-initial-clause-did
@@ -56,8 +56,8 @@ returns-then-page-initial-clause-did g c told =
     let place : Place = record { nonce = c.args.nonce; at = c.args.at } in
     let first = read_size c.args.page_size (length c.args.buffer.now) j place c.read_record.new.buffer c.in_ok-page.field-0 c.requires.size.2
     (c.in_ok-page.ensures.read told) in
-    let read : IsRead c.args.page_size j place c.read_record.new.buffer (Some c.in-Some.page) = subst
-    (λ (p : Option ℕ). IsRead c.args.page_size j place c.read_record.new.buffer p) c.in-Some.is first in
+    let read : IsReadBack c.args.page_size j place c.read_record.new.buffer (Some c.in-Some.page) = subst
+    (λ (p : Option ℕ). IsReadBack c.args.page_size j place c.read_record.new.buffer p) c.in-Some.is first in
     (read.0, high_is c.in-Some.page _ c.args.initial _ read.1 (c.requires.initial told) (omega (arith, c.if-page-initial.true)), ap main_of (c.read_record.ensures.same told))
 
 pub lay_image-requires-clause-one : goal.lay_image-requires-clause-one
@@ -66,8 +66,8 @@ lay_image-requires-clause-one g c told =
     let place : Place = record { nonce = c.args.nonce; at = c.args.at } in
     let first = read_size c.args.page_size (length c.args.buffer.now) j place c.read_record.new.buffer c.in_ok-page.field-0 c.requires.size.2
     (c.in_ok-page.ensures.read told) in
-    let read : IsRead c.args.page_size j place c.read_record.new.buffer (Some c.in-Some.page) = subst
-    (λ (p : Option ℕ). IsRead c.args.page_size j place c.read_record.new.buffer p) c.in-Some.is first in
+    let read : IsReadBack c.args.page_size j place c.read_record.new.buffer (Some c.in-Some.page) = subst
+    (λ (p : Option ℕ). IsReadBack c.args.page_size j place c.read_record.new.buffer p) c.in-Some.is first in
     let low = low_is c.in-Some.page _ c.args.initial _ read.1 (c.requires.initial told) (omega (arith, c.if-page-initial.false)) in
     let one = one_at c.args.page_size c.in-Some.page (take (4 + c.args.page_size - 4) (drop 4 c.read_record.new.buffer))
     (record_at c.args.page_size j place) (played c.args.page_size j) read.1 (c.requires.one told read.0 low) in

@@ -1,10 +1,10 @@
 use Rattle.std.proofs.Common.{◌≡◌, ℕ, List, sym, ◌∙◌, ap, subst}
-use Rattle.edge_model.specs.Files.{Files, number_of, Shorter}
+use Rattle.edge_model.specs.Files.{Files, number_of, Shorter, contents}
 use Rattle.edge_model.specs.Moments.{started_from, goes_from, goes_less}
 use Rattle.journal_format.specs.Segments.{played}
 use Rattle.rollback_journal.specs.Laying.{IsPartly}
-use Rattle.rollback_journal.specs.Recovery.{Keeps, end_of}
-use Rattle.rollback_journal.specs.Playing.{journal_of, contents}
+use Rattle.rollback_journal.specs.Recovery.{KeepsRecovered, end_of}
+use Rattle.rollback_journal.specs.Playing.{journal_of}
 use Rattle.rollback_journal.proofs.Kept.{keeps_none, keeps_joins}
 use Rattle.rollback_journal.proofs.Laid.{partly_cut, partly_at_first}
 use Rattle.rollback_journal.proofs.MainSteps.{main_keeps, main_held, with_number}
@@ -24,7 +24,7 @@ returns-in_err-cut-clause-any_moment g c told =
     main_keeps c.args.page_size _ _ now d f c.requires.size
     (cut_partly c.args.page_size c.args.end (journal_of now) (journal_of d) (c.requires.end told) (ap contents play.held.journal)) play
     (g.met.D.Disk.numbered c.args.disk.now d here) step)
-    (started_from g.met.D.Disk.only_now c.args.disk.now (Keeps c.args.page_size) (keeps_none c.args.page_size)) (c.cut.ensures.time told)
+    (started_from g.met.D.Disk.only_now c.args.disk.now (KeepsRecovered c.args.page_size) (keeps_none c.args.page_size)) (c.cut.ensures.time told)
     (c.cut.ensures.crash told)
 
 pub returns-clause-any_moment : goal.returns-clause-any_moment
@@ -36,7 +36,7 @@ returns-clause-any_moment g c told =
     main_keeps c.args.page_size _ _ now d f c.requires.size
     (cut_partly c.args.page_size c.args.end (journal_of now) (journal_of d) (c.requires.end told) (ap contents play.held.journal)) play
     (g.met.D.Disk.numbered c.args.disk.now d here) step)
-    (started_from g.met.D.Disk.only_now c.args.disk.now (Keeps c.args.page_size) (keeps_none c.args.page_size)) (c.cut.ensures.time told)
+    (started_from g.met.D.Disk.only_now c.args.disk.now (KeepsRecovered c.args.page_size) (keeps_none c.args.page_size)) (c.cut.ensures.time told)
     (c.cut.ensures.crash told))
     (c.sync.ensures.time told) (c.sync.ensures.crash told)
 
@@ -66,6 +66,6 @@ returns-in_err-sync-clause-any_moment g c told =
     main_keeps c.args.page_size _ _ now d f c.requires.size
     (cut_partly c.args.page_size c.args.end (journal_of now) (journal_of d) (c.requires.end told) (ap contents play.held.journal)) play
     (g.met.D.Disk.numbered c.args.disk.now d here) step)
-    (started_from g.met.D.Disk.only_now c.args.disk.now (Keeps c.args.page_size) (keeps_none c.args.page_size)) (c.cut.ensures.time told)
+    (started_from g.met.D.Disk.only_now c.args.disk.now (KeepsRecovered c.args.page_size) (keeps_none c.args.page_size)) (c.cut.ensures.time told)
     (c.cut.ensures.crash told))
     (c.sync.ensures.time told) (c.sync.ensures.crash told)

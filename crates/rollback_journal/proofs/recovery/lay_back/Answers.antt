@@ -1,10 +1,11 @@
 use Rattle.std.proofs.Common.{◌≡◌, ◌*◌, ℕ, List, ◌∙◌, ap, take}
 use Rattle.edge_model.specs.Moments.{then_from}
 use Rattle.rollback_journal.specs.Recovery.{end_of}
-use Rattle.rollback_journal.specs.Playing.{journal_of, main_of, contents}
+use Rattle.rollback_journal.specs.Playing.{journal_of}
 use Rattle.rollback_journal.proofs.Kept.{keeps_joins}
 use Rattle.rollback_journal.proofs.LaidBack.{laid_back}
 use Rattle.rollback_journal.proofs.recovery.lay_back.Goals as goal
+use Rattle.edge_model.specs.Files.{contents, main_of}
 
 pub returns-in_err-finish_main-clause-any_moment : goal.returns-in_err-finish_main-clause-any_moment
 returns-in_err-finish_main-clause-any_moment g c told =

@@ -2,12 +2,13 @@ use Rattle.std.proofs.Common.{◌≤◌, ◌<◌, Option, Some, ℕ, List, sym, 
 use Rattle.std.specs.Prelude.{IfSome}
 use Rattle.edge_model.specs.Moments.{then_from, started_from}
 use Rattle.journal_format.specs.Segments.{played}
-use Rattle.rollback_journal.specs.Recovery.{Keeps}
-use Rattle.rollback_journal.specs.Playing.{journal_of, main_of, contents, pending, places_at, AreAmong, GoesOn, todo_at}
+use Rattle.rollback_journal.specs.Recovery.{KeepsRecovered}
+use Rattle.rollback_journal.specs.Playing.{journal_of, pending, places_at, AreAmong, GoesOn, todo_at}
 use Rattle.rollback_journal.proofs.Kept.{keeps_joins, keeps_none}
 use Rattle.rollback_journal.proofs.SegmentSteps.{goes_none}
 use Rattle.rollback_journal.proofs.SegmentRuns.{moved_goes}
 use Rattle.rollback_journal.proofs.segments.play.Goals as goal
+use Rattle.edge_model.specs.Files.{contents, main_of}
 
 pub loop-next-init : goal.loop-next-init
 loop-next-init g c = record {
@@ -19,7 +20,7 @@ loop-next-init g c = record {
   in_play = λ told. c.requires.in_play told;
   goes_on = λ told. goes_none c.args.reading.now.page_size (played c.args.reading.now.page_size (journal_of (g.D.Disk.reads c.args.disk.now))) 0
       (main_of (g.D.Disk.reads c.args.disk.now));
-  any_moment = λ told. started_from g.met.D.Disk.only_now c.args.disk.now (Keeps c.args.reading.now.page_size) (keeps_none c.args.reading.now.page_size);
+  any_moment = λ told. started_from g.met.D.Disk.only_now c.args.disk.now (KeepsRecovered c.args.reading.now.page_size) (keeps_none c.args.reading.now.page_size);
 }
 
 pub play_segment-requires-clause-among : goal.play_segment-requires-clause-among

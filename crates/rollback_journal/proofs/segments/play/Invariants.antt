@@ -1,9 +1,10 @@
 use Rattle.std.proofs.Common.{◌≡◌, ◌≤◌, ◌+◌, ◌-◌, length, IsTrue}
 use Rattle.edge_model.specs.Images.{Each, From, LeavesOnly}
 use Rattle.journal_format.specs.Segments.{played}
-use Rattle.rollback_journal.specs.Recovery.{Keeps}
-use Rattle.rollback_journal.specs.Playing.{main_of, journal_of, IsInPlay, pending, places_at, GoesOn}
+use Rattle.rollback_journal.specs.Recovery.{KeepsRecovered}
+use Rattle.rollback_journal.specs.Playing.{journal_of, IsInPlay, pending, places_at, GoesOn}
 use Rattle.rollback_journal.proofs.segments.play.Given as goal
+use Rattle.edge_model.specs.Files.{main_of}
 
 abbrev pub decreases-loop-next : goal.decreases-loop-next
 decreases-loop-next g l = l.reading.len - l.at
@@ -20,5 +21,5 @@ invariant-loop-next g l = record {
       (pending l.reading.page_size (journal_of (g.D.Disk.reads l.fn.disk)) (places_at l.reading.page_size (journal_of (g.D.Disk.reads l.fn.disk)) l.at))
       0 l.count (main_of (g.D.Disk.reads l.fn.disk)) (main_of (g.D.Disk.reads l.disk));
   any_moment : IsTrue g.D.Disk.tells
-      → LeavesOnly g.D.Disk.moment g.D.Disk.since l.fn.disk l.disk (From (Keeps l.reading.page_size) (g.D.Disk.images l.fn.disk));
+      → LeavesOnly g.D.Disk.moment g.D.Disk.since l.fn.disk l.disk (From (KeepsRecovered l.reading.page_size) (g.D.Disk.images l.fn.disk));
 }

@@ -2,14 +2,15 @@ use Rattle.std.proofs.Common.{◌+◌, length, List, ◌++◌, ◌∙◌, ap, su
 use Rattle.edge_model.specs.Moments.{started_from, then_from}
 use Rattle.journal_format.specs.Records.{Record}
 use Rattle.journal_format.specs.Segments.{places_of}
-use Rattle.rollback_journal.specs.Recovery.{Keeps}
+use Rattle.rollback_journal.specs.Recovery.{KeepsRecovered}
 use Rattle.rollback_journal.specs.declared.playback.Step.{Step}
 use Rattle.rollback_journal.specs.declared.playback.Step.TheVariants.{End, Passed, Laid}
-use Rattle.rollback_journal.specs.Playing.{journal_of, main_of, contents, pending, GoesOn, DidAt}
+use Rattle.rollback_journal.specs.Playing.{journal_of, pending, GoesOn, DidAt}
 use Rattle.rollback_journal.proofs.Kept.{keeps_joins, keeps_none}
 use Rattle.rollback_journal.proofs.RecordSteps.{left_next, loop_goes, loop_one, todo_done, left_begun, todo_begun, goes_begun}
 use Rattle.rollback_journal.proofs.segments.play_records.Goals as goal
 use Rattle.rollback_journal.proofs.segments.play_records.Goals.{in-Passed, in-Laid}
+use Rattle.edge_model.specs.Files.{contents, main_of}
 
 pub loop-i-init : goal.loop-i-init
 loop-i-init g c = record {
@@ -22,7 +23,7 @@ loop-i-init g c = record {
   in_play = λ told. c.requires.in_play told;
   goes_on = λ told rest. goes_begun c.args.reading.now.page_size _ _ c.args.count.now (main_of (g.D.Disk.reads c.args.disk.now))
       (todo_begun c.args.reading.now.page_size c.args.segment.now.nonce c.args.segment.now.first c.args.segment.now.count (journal_of (g.D.Disk.reads c.args.disk.now)) rest);
-  any_moment = λ told. started_from g.met.D.Disk.only_now c.args.disk.now (Keeps c.args.reading.now.page_size) (keeps_none c.args.reading.now.page_size);
+  any_moment = λ told. started_from g.met.D.Disk.only_now c.args.disk.now (KeepsRecovered c.args.reading.now.page_size) (keeps_none c.args.reading.now.page_size);
 }
 
 pub take_record-requires-clause-fits : goal.take_record-requires-clause-fits

@@ -2,9 +2,10 @@ use Rattle.std.proofs.Common.{◌≡◌, ◌≤◌, ◌+◌, ◌-◌, ◌*◌, �
 use Rattle.edge_model.specs.Images.{Each, From, LeavesOnly}
 use Rattle.journal_format.specs.Records.{Place}
 use Rattle.journal_format.specs.Segments.{places_of}
-use Rattle.rollback_journal.specs.Recovery.{Keeps}
-use Rattle.rollback_journal.specs.Playing.{main_of, journal_of, IsInPlay, pending, GoesOn}
+use Rattle.rollback_journal.specs.Recovery.{KeepsRecovered}
+use Rattle.rollback_journal.specs.Playing.{journal_of, IsInPlay, pending, GoesOn}
 use Rattle.rollback_journal.proofs.segments.play_records.Given as goal
+use Rattle.edge_model.specs.Files.{main_of}
 
 abbrev pub invariant-loop-i : goal.invariant-loop-i
 invariant-loop-i g l = record {
@@ -20,5 +21,5 @@ invariant-loop-i g l = record {
       (pending l.reading.page_size (journal_of (g.D.Disk.reads l.fn.disk)) (places_of (l.segment.count - l._i) l.reading.page_size l.segment.nonce l.at ++ rest))
       l.fn.count l.count (main_of (g.D.Disk.reads l.fn.disk)) (main_of (g.D.Disk.reads l.disk));
   any_moment : IsTrue g.D.Disk.tells
-      → LeavesOnly g.D.Disk.moment g.D.Disk.since l.fn.disk l.disk (From (Keeps l.reading.page_size) (g.D.Disk.images l.fn.disk));
+      → LeavesOnly g.D.Disk.moment g.D.Disk.since l.fn.disk l.disk (From (KeepsRecovered l.reading.page_size) (g.D.Disk.images l.fn.disk));
 }

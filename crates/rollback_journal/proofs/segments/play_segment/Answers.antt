@@ -1,10 +1,11 @@
 use Rattle.std.proofs.Common.{Some, subst, arith, rules}
 use Rattle.edge_model.specs.Moments.{then_from}
-use Rattle.rollback_journal.specs.Playing.{journal_of, main_of, IsSegmentAt}
+use Rattle.rollback_journal.specs.Playing.{journal_of, IsSegmentAt}
 use Rattle.rollback_journal.proofs.Kept.{keeps_joins}
 use Rattle.rollback_journal.proofs.ReadSteps.{only_read}
 use Rattle.rollback_journal.proofs.SegmentRuns.{seg_goes, match_more, match_less}
 use Rattle.rollback_journal.proofs.segments.play_segment.Goals as goal
+use Rattle.edge_model.specs.Files.{main_of}
 
 pub returns-in_err-all-clause-any_moment : goal.returns-in_err-all-clause-any_moment
 returns-in_err-all-clause-any_moment g c told = then_from g.met.D.Disk.counts_now (keeps_joins c.args.reading.now.page_size)

@@ -1,4 +1,4 @@
-use Rattle.std.proofs.Common.{◌≡◌, Err, sym, subst}
+use Rattle.std.proofs.Common.{◌≡◌, Err, subst}
 use mir.Val.{of_z, to_z}
 use mir.Syntax.{w64}
 use Rattle.db_format.specs.Pages.{Pages}

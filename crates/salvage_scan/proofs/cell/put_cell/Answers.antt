@@ -1,6 +1,6 @@
 use Rattle.std.proofs.Common.{rules, ◌≡◌, ◌∷◌, [], ℤ, List, ap, sym, subst, ◌∙◌, to_z, of_z}
 use mir.Syntax.{w64}
-use Rattle.btree_page.specs.Cell.{Stored}
+use Rattle.btree_page.specs.Cell.{StoredCell}
 use Rattle.btree_page.specs.Shown.{cell_shown}
 use Rattle.btree_page.specs.declared.cell.Cell.{Cell}
 use Rattle.db_format.specs.Pages.{Pages}
@@ -12,7 +12,7 @@ use Rattle.salvage_scan.proofs.cell.put_cell.Goals as goal
 pub returns-in-TableLeaf-clause-on : goal.returns-in-TableLeaf-clause-on
 returns-in-TableLeaf-clause-on g c told =
     let pages : Pages = file_pages c.args.codec.now (g.D.Disk.reads c.args.disk.now) in
-    let stored : Stored = record { size = c.in-TableLeaf.length; local = c.in-TableLeaf.local.now; first = c.in-TableLeaf.first } in
+    let stored : StoredCell = record { size = c.in-TableLeaf.length; local = c.in-TableLeaf.local.now; first = c.in-TableLeaf.first } in
     let named : to_z w64 (of_z w64 c.in-TableLeaf.rowid) ≡ c.in-TableLeaf.rowid = search rules in
     subst (λ (lines : List Line). IsSalvaged g.K.Sink.tells lines
     (record { taken = g.K.Sink.taken c.args.out.now; waits = c.args.scan.now.line; counts = counts_shown c.args.scan.now.counts })

@@ -1,7 +1,7 @@
 use Rattle.std.proofs.Common.{◌≡◌, ◌++◌, ◌∷◌, [], ℤ, None, if◌then◌else◌, ap, subst, ◌∙◌}
 use Rattle.std.proofs.lemmas.Int.{to_z-of_z}
 use mir.Syntax.{w64}
-use Rattle.btree_page.specs.Cell.{Stored}
+use Rattle.btree_page.specs.Cell.{StoredCell}
 use Rattle.db_format.specs.Record.{columns}
 use Rattle.salvage_scan.specs.Chain.{IsPayloadRead}
 use Rattle.salvage_scan.specs.Salvage.{Line, file_pages, payload_line, row_line}
@@ -30,7 +30,7 @@ returns-in-Err-read_payload-clause-cause g c =
 
 pub returns-in-Ok-read_payload-clause-on : goal.returns-in-Ok-read_payload-clause-on
 returns-in-Ok-read_payload-clause-on g c told =
-    let stored : Stored = record { size = c.args.length; local = c.args.local.now; first = c.args.first } in
+    let stored : StoredCell = record { size = c.args.length; local = c.args.local.now; first = c.args.first } in
     let body : c.extend_from_slice.new.self.items ≡ c.args.local.now = c.in-Ok.ensures.items ∙ ap (λ l. l ++ c.args.local.now) c.clear.ensures.items in
     let read = subst (λ l. IsPayloadRead (file_pages c.args.codec.now (g.D.Disk.reads c.args.disk.now)) (record { size = c.args.length; local = l; first = c.args.first }) c.in-Ok-read_payload.whole c.read_payload.new.payload.items)
     body (c.in-Ok-read_payload.ensures.on told) in

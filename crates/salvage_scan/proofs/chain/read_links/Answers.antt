@@ -6,16 +6,16 @@ use Rattle.cipher_profile.specs.declared.profile.Profile.{Profile}
 use Rattle.cipher_profile.specs.Profile.{usable}
 use Rattle.edge_model.specs.Files.{Files}
 use Rattle.pager.specs.Reads.{not_read, then_read}
-use Rattle.salvage_scan.specs.Chain.{IsOnChain}
-use Rattle.salvage_scan.specs.Room.{bytes_at}
+use Rattle.salvage_scan.specs.Chain.{IsOnPayloadChain}
+use Rattle.salvage_scan.specs.Room.{room_bytes}
 use Rattle.salvage_scan.specs.Salvage.{file_pages}
 use Rattle.salvage_scan.proofs.ChainSteps.{chain_done, chain_next, chain_out, chain_refused, chain_start}
 use Rattle.salvage_scan.proofs.chain.read_links.Goals as goal
 
 -- the same with another count of pages that are left
 counted_as : (pages : Pages) (needed first n : ℕ) (local got : List ℕ) {more left : ℕ} → more ≡ left
-    → IsOnChain pages needed first more n local got → IsOnChain pages needed first left n local got
-counted_as pages needed first n local got is at = subst (λ k. IsOnChain pages needed first k n local got) is at
+    → IsOnPayloadChain pages needed first more n local got → IsOnPayloadChain pages needed first left n local got
+counted_as pages needed first n local got is at = subst (λ k. IsOnPayloadChain pages needed first k n local got) is at
 
 pub loop-turn-init : goal.loop-turn-init
 loop-turn-init g c =
@@ -67,7 +67,7 @@ loop-turn-preserved g c =
           let less = c.loop-turn-test.true in
           let more : c.args.needed - c.loop-turn.turn ≡ suc (c.args.needed - (c.loop-turn.turn + 1)) = omega arith in
           let body : c.plain-bytes.result.now ≡ pages.page c.loop-turn.n =
-          c.plain-bytes.ensures.bytes ∙ ap (λ k. take k (bytes_at c.open.new.self c.loop-turn.n)) (c.usable-usable.ensures.value ∙ ap (λ (p : Profile). usable p) c.profile.ensures.value)
+          c.plain-bytes.ensures.bytes ∙ ap (λ k. take k (room_bytes c.open.new.self c.loop-turn.n)) (c.usable-usable.ensures.value ∙ ap (λ (p : Profile). usable p) c.profile.ensures.value)
           ∙ c.in-Ok-true.ensures.opened told c.in-Ok-true.field-0-test ∙ ap (λ (files : Files). (file_pages c.args.codec.now files).page c.loop-turn.n) same in
           let next : c.u32_at-n.result ≡ u32_at (pages.page c.loop-turn.n) 0 = c.u32_at-n.ensures ∙ ap (λ l. u32_at l 0) body in
           let grown : c.extend_from_slice.new.self.items ≡ c.loop-turn.payload.items ++ drop 4 (pages.page c.loop-turn.n) =

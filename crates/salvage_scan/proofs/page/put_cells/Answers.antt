@@ -4,7 +4,7 @@ use Rattle.btree_page.specs.Shown.{cell_shown}
 use Rattle.edge_model.specs.Files.{Files}
 use Rattle.pager.specs.Reads.{not_read, then_read}
 use Rattle.salvage_scan.specs.Salvage.{Line, cell_lines, file_pages}
-use Rattle.salvage_scan.specs.Scan.{IsPut, IsPutPart, IsSoFar}
+use Rattle.salvage_scan.specs.Scan.{IsPutLine, IsPutPart, IsScanSoFar}
 use Rattle.salvage_scan.specs.Text.{counts_shown}
 use Rattle.salvage_scan.proofs.PageSteps.{next_cell, no_cell}
 use Rattle.salvage_scan.proofs.ScanSteps.{at_start, cause_later, ends, goes_on, stops}
@@ -34,7 +34,7 @@ returns-in-Err-clause-on g c told =
     let next = next_cell lines c.args.page.now.cells c.loop-index.index (cell_shown c.cell-cell.result) c.cell-cell.ensures.cell in
     stops (record { taken = g.K.Sink.taken c.put_cell.new.out; waits = c.put_cell.new.scan.line; counts = counts_shown c.put_cell.new.scan.counts })
     (lines (cell_shown c.cell-cell.result)) (flat_map lines (drop (c.loop-index.index + 1) c.args.page.now.cells))
-    (subst (λ (more : List Line). IsSoFar g.K.Sink.tells (flat_map lines c.args.page.now.cells) more
+    (subst (λ (more : List Line). IsScanSoFar g.K.Sink.tells (flat_map lines c.args.page.now.cells) more
     (record { taken = g.K.Sink.taken c.args.out.now; waits = c.args.scan.now.line; counts = counts_shown c.args.scan.now.counts })
     (record { taken = g.K.Sink.taken c.loop-index.out; waits = c.loop-index.scan.line; counts = counts_shown c.loop-index.scan.counts })) next (c.loop-index.invariant.on told))
     (subst (λ (files : Files). IsPutPart g.K.Sink.tells (cell_lines (file_pages c.args.codec.now files) c.args.n (cell_shown c.cell-cell.result))
@@ -63,10 +63,10 @@ loop-index-preserved g c =
           let lines = cell_lines (file_pages c.args.codec.now (g.D.Disk.reads c.args.disk.now)) c.args.n in
           let next = next_cell lines c.args.page.now.cells c.loop-index.index (cell_shown c.cell-cell.result) c.cell-cell.ensures.cell in
           goes_on (lines (cell_shown c.cell-cell.result)) (flat_map lines (drop (c.loop-index.index + 1) c.args.page.now.cells))
-          (subst (λ (more : List Line). IsSoFar g.K.Sink.tells (flat_map lines c.args.page.now.cells) more
+          (subst (λ (more : List Line). IsScanSoFar g.K.Sink.tells (flat_map lines c.args.page.now.cells) more
           (record { taken = g.K.Sink.taken c.args.out.now; waits = c.args.scan.now.line; counts = counts_shown c.args.scan.now.counts })
           (record { taken = g.K.Sink.taken c.loop-index.out; waits = c.loop-index.scan.line; counts = counts_shown c.loop-index.scan.counts })) next (c.loop-index.invariant.on told))
-          (subst (λ (files : Files). IsPut g.K.Sink.tells (cell_lines (file_pages c.args.codec.now files) c.args.n (cell_shown c.cell-cell.result))
+          (subst (λ (files : Files). IsPutLine g.K.Sink.tells (cell_lines (file_pages c.args.codec.now files) c.args.n (cell_shown c.cell-cell.result))
           (record { taken = g.K.Sink.taken c.loop-index.out; waits = c.loop-index.scan.line; counts = counts_shown c.loop-index.scan.counts })
           (record { taken = g.K.Sink.taken c.put_cell.new.out; waits = c.put_cell.new.scan.line; counts = counts_shown c.put_cell.new.scan.counts })) same (c.in-Ok.ensures.on told));
     }
@@ -77,7 +77,7 @@ returns-clause-on g c told =
     let past = c.loop-index-test.false in
     let all = c.count-index-end.ensures in
     ends
-    (subst (λ (more : List Line). IsSoFar g.K.Sink.tells (flat_map lines c.args.page.now.cells) more
+    (subst (λ (more : List Line). IsScanSoFar g.K.Sink.tells (flat_map lines c.args.page.now.cells) more
     (record { taken = g.K.Sink.taken c.args.out.now; waits = c.args.scan.now.line; counts = counts_shown c.args.scan.now.counts })
     (record { taken = g.K.Sink.taken c.loop-index.out; waits = c.loop-index.scan.line; counts = counts_shown c.loop-index.scan.counts }))
     (no_cell lines c.args.page.now.cells c.loop-index.index (omega (arith, past, all))) (c.loop-index.invariant.on told))

@@ -1,6 +1,6 @@
 use Rattle.std.proofs.Common.{List, ap, sym, subst, ◌∙◌}
 use Rattle.salvage_scan.specs.Salvage.{Line, file_pages, is_table_leaf}
-use Rattle.salvage_scan.specs.Scan.{IsPut, IsSalvaged}
+use Rattle.salvage_scan.specs.Scan.{IsPutLine, IsSalvaged}
 use Rattle.salvage_scan.specs.Text.{counts_shown}
 use Rattle.salvage_scan.proofs.PageSteps.{leaf_faulty, leaf_read, no_leaf}
 use Rattle.salvage_scan.proofs.ScanSteps.{nothing_put, out_causes}
@@ -9,7 +9,7 @@ use Rattle.salvage_scan.proofs.page.put_leaf.Goals as goal
 pub returns-then-not-is_table_leaf-clause-on : goal.returns-then-not-is_table_leaf-clause-on
 returns-then-not-is_table_leaf-clause-on g c told =
     let other = ap is_table_leaf (sym c.page_kind.ensures) ∙ sym c.if-not-is_table_leaf.ensures in
-    subst (λ (lines : List Line). IsPut g.K.Sink.tells lines
+    subst (λ (lines : List Line). IsPutLine g.K.Sink.tells lines
     (record { taken = g.K.Sink.taken c.args.out.now; waits = c.args.scan.now.line; counts = counts_shown c.args.scan.now.counts })
     (record { taken = g.K.Sink.taken c.args.out.now; waits = c.args.scan.now.line; counts = counts_shown c.args.scan.now.counts }))
     (sym (no_leaf (file_pages c.args.codec.now (g.D.Disk.reads c.args.disk.now)) c.args.n c.args.bytes.now other))

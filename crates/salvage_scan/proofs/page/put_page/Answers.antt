@@ -4,7 +4,7 @@ use Rattle.cipher_profile.specs.Profile.{usable}
 use Rattle.db_format.specs.Pages.{Pages}
 use Rattle.edge_model.specs.Files.{Files}
 use Rattle.pager.specs.Reads.{then_read}
-use Rattle.salvage_scan.specs.Room.{bytes_at}
+use Rattle.salvage_scan.specs.Room.{room_bytes}
 use Rattle.salvage_scan.specs.Salvage.{Line, file_pages, leaf_lines, page_lines}
 use Rattle.salvage_scan.specs.Scan.{IsSalvaged}
 use Rattle.salvage_scan.specs.Text.{counts_shown}
@@ -47,7 +47,7 @@ returns-in-Ok-clause-on g c told =
     let pages : Pages = file_pages c.args.codec.now (g.D.Disk.reads c.args.disk.now) in
     let same : g.D.Disk.reads c.open.new.disk ≡ g.D.Disk.reads c.args.disk.now = (c.in-Ok-true.ensures.only_read told).stays in
     let body : c.as_slice.result.now ≡ pages.page c.args.n =
-    c.as_slice.ensures.value ∙ c.in-Ok.ensures.items_if_clones_equal (λ x y is. is) ∙ c.plain.ensures.bytes ∙ ap (λ k. take k (bytes_at c.open.new.self c.args.n)) (c.usable.ensures.value ∙ ap (λ (p : Profile). usable p) c.profile.ensures.value)
+    c.as_slice.ensures.value ∙ c.in-Ok.ensures.items_if_clones_equal (λ x y is. is) ∙ c.plain.ensures.bytes ∙ ap (λ k. take k (room_bytes c.open.new.self c.args.n)) (c.usable.ensures.value ∙ ap (λ (p : Profile). usable p) c.profile.ensures.value)
     ∙ c.in-Ok-true.ensures.opened told c.in-Ok-true.field-0-test in
     subst (λ (lines : List Line). IsSalvaged g.K.Sink.tells lines
     (record { taken = g.K.Sink.taken c.args.out.now; waits = c.args.scan.now.line; counts = counts_shown c.args.scan.now.counts })

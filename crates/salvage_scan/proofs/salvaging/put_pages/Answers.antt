@@ -4,7 +4,7 @@ use Rattle.db_format.specs.Pages.{Pages}
 use Rattle.edge_model.specs.Files.{Files}
 use Rattle.pager.specs.Reads.{not_read, then_read}
 use Rattle.salvage_scan.specs.Salvage.{Line, file_pages, page_lines, salvage_lines}
-use Rattle.salvage_scan.specs.Scan.{IsPut, IsPutPart, IsSoFar, State}
+use Rattle.salvage_scan.specs.Scan.{IsPutLine, IsPutPart, IsScanSoFar, ScanState}
 use Rattle.salvage_scan.specs.Text.{counts_shown}
 use Rattle.salvage_scan.proofs.PageSteps.{first_pages, next_page, no_page}
 use Rattle.salvage_scan.proofs.ScanSteps.{at_start, cause_later, ends, goes_on, stops}
@@ -20,8 +20,8 @@ loop-done-init g c =
       only_read = λ told. not_read c.args.disk.now;
       on = λ told.
           let pages : Pages = file_pages c.args.codec.now (g.D.Disk.reads c.args.disk.now) in
-          let s : State = record { taken = g.K.Sink.taken c.args.out.now; waits = c.args.scan.now.line; counts = counts_shown c.args.scan.now.counts } in
-          subst (λ (more : List Line). IsSoFar g.K.Sink.tells (salvage_lines pages) more s s) (first_pages (page_lines pages) pages.count)
+          let s : ScanState = record { taken = g.K.Sink.taken c.args.out.now; waits = c.args.scan.now.line; counts = counts_shown c.args.scan.now.counts } in
+          subst (λ (more : List Line). IsScanSoFar g.K.Sink.tells (salvage_lines pages) more s s) (first_pages (page_lines pages) pages.count)
           (at_start g.K.Sink.tells (salvage_lines pages) s);
     }
 
@@ -39,7 +39,7 @@ returns-in-Err-clause-on g c told =
     let next = next_page (page_lines pages) pages.count c.loop-done.done (omega (arith, less, all)) in
     stops (record { taken = g.K.Sink.taken c.put_page.new.out; waits = c.put_page.new.scan.line; counts = counts_shown c.put_page.new.scan.counts })
     (page_lines pages (c.loop-done.done + 1)) (flat_map (page_lines pages) (range_with_len (c.loop-done.done + 1 + 1) (pages.count - (c.loop-done.done + 1))))
-    (subst (λ (more : List Line). IsSoFar g.K.Sink.tells (salvage_lines pages) more
+    (subst (λ (more : List Line). IsScanSoFar g.K.Sink.tells (salvage_lines pages) more
     (record { taken = g.K.Sink.taken c.args.out.now; waits = c.args.scan.now.line; counts = counts_shown c.args.scan.now.counts })
     (record { taken = g.K.Sink.taken c.loop-done.out; waits = c.loop-done.scan.line; counts = counts_shown c.loop-done.scan.counts })) next (c.loop-done.invariant.on told))
     (subst (λ (files : Files). IsPutPart g.K.Sink.tells (page_lines (file_pages c.args.codec.now files) (c.loop-done.done + 1))
@@ -70,10 +70,10 @@ loop-done-preserved g c =
           let all = c.requires.pages told in
           let next = next_page (page_lines pages) pages.count c.loop-done.done (omega (arith, less, all)) in
           goes_on (page_lines pages (c.loop-done.done + 1)) (flat_map (page_lines pages) (range_with_len (c.loop-done.done + 1 + 1) (pages.count - (c.loop-done.done + 1))))
-          (subst (λ (more : List Line). IsSoFar g.K.Sink.tells (salvage_lines pages) more
+          (subst (λ (more : List Line). IsScanSoFar g.K.Sink.tells (salvage_lines pages) more
           (record { taken = g.K.Sink.taken c.args.out.now; waits = c.args.scan.now.line; counts = counts_shown c.args.scan.now.counts })
           (record { taken = g.K.Sink.taken c.loop-done.out; waits = c.loop-done.scan.line; counts = counts_shown c.loop-done.scan.counts })) next (c.loop-done.invariant.on told))
-          (subst (λ (files : Files). IsPut g.K.Sink.tells (page_lines (file_pages c.args.codec.now files) (c.loop-done.done + 1))
+          (subst (λ (files : Files). IsPutLine g.K.Sink.tells (page_lines (file_pages c.args.codec.now files) (c.loop-done.done + 1))
           (record { taken = g.K.Sink.taken c.loop-done.out; waits = c.loop-done.scan.line; counts = counts_shown c.loop-done.scan.counts })
           (record { taken = g.K.Sink.taken c.put_page.new.out; waits = c.put_page.new.scan.line; counts = counts_shown c.put_page.new.scan.counts })) same (c.in-Ok.ensures.on told));
     }
@@ -84,7 +84,7 @@ returns-clause-on g c told =
     let past = c.loop-done-test.false in
     let all = c.requires.pages told in
     ends
-    (subst (λ (more : List Line). IsSoFar g.K.Sink.tells (salvage_lines pages) more
+    (subst (λ (more : List Line). IsScanSoFar g.K.Sink.tells (salvage_lines pages) more
     (record { taken = g.K.Sink.taken c.args.out.now; waits = c.args.scan.now.line; counts = counts_shown c.args.scan.now.counts })
     (record { taken = g.K.Sink.taken c.loop-done.out; waits = c.loop-done.scan.line; counts = counts_shown c.loop-done.scan.counts }))
     (no_page (page_lines pages) pages.count c.loop-done.done (omega (arith, past, all))) (c.loop-done.invariant.on told))

@@ -1,7 +1,6 @@
 use Rattle.std.proofs.Common.{◌≡◌, ◌/◌, ℕ, length, ap, sym, subst, ◌∙◌}
 use Rattle.cipher_profile.specs.declared.profile.Profile.{Profile}
-use Rattle.edge_model.specs.Files.{Files}
-use Rattle.pager.specs.File.{main_of}
+use Rattle.edge_model.specs.Files.{Files, main_of}
 use Rattle.salvage_scan.specs.Answer.{IsKeyAnswered, IsReported}
 use Rattle.salvage_scan.specs.Salvage.{file_pages}
 use Rattle.salvage_scan.proofs.AnswerSteps.{none_reported, stop_later}

@@ -3,7 +3,7 @@ use Rattle.db_format.specs.Pages.{Pages}
 use Rattle.edge_model.specs.Files.{Files}
 use Rattle.pager.specs.Reads.{then_read}
 use Rattle.salvage_scan.specs.Salvage.{file_pages, salvage_lines}
-use Rattle.salvage_scan.specs.Scan.{IsPut, IsPutPart, State}
+use Rattle.salvage_scan.specs.Scan.{IsPutLine, IsPutPart, ScanState}
 use Rattle.salvage_scan.specs.Text.{counts_shown}
 use Rattle.salvage_scan.proofs.AnswerSteps.{cause_key, cause_stop, disk_key, disk_stop, end_key, end_reported, lines_reported, none_reported}
 use Rattle.salvage_scan.proofs.salvaging.salvage_pages.Goals as goal
@@ -42,8 +42,8 @@ pub returns-in-Err-put_pages-clause-on : goal.returns-in-Err-put_pages-clause-on
 returns-in-Err-put_pages-clause-on g c told =
     let pages : Pages = file_pages c.args.codec.now (g.D.Disk.reads c.args.disk.now) in
     let same : g.D.Disk.reads c.has_accepted.new.disk ≡ g.D.Disk.reads c.args.disk.now = (c.in-Ok-true.ensures.only_read told).stays in
-    let s : State = record { taken = g.K.Sink.taken c.args.out.now; waits = c.in-Ok.scan.line; counts = counts_shown c.in-Ok.scan.counts } in
-    let u : State = record { taken = g.K.Sink.taken c.put_pages.new.out; waits = c.put_pages.new.scan.line; counts = counts_shown c.put_pages.new.scan.counts } in
+    let s : ScanState = record { taken = g.K.Sink.taken c.args.out.now; waits = c.in-Ok.scan.line; counts = counts_shown c.in-Ok.scan.counts } in
+    let u : ScanState = record { taken = g.K.Sink.taken c.put_pages.new.out; waits = c.put_pages.new.scan.line; counts = counts_shown c.put_pages.new.scan.counts } in
     lines_reported g.K.Sink.tells pages s c.in-Ok.ensures.nothing c.in-Ok.ensures.none u
     (subst (λ (files : Files). IsPutPart g.K.Sink.tells (salvage_lines (file_pages c.args.codec.now files)) s u) same (c.in-Err-put_pages.ensures.on told))
 
@@ -62,10 +62,10 @@ pub returns-clause-on : goal.returns-clause-on
 returns-clause-on g c told =
     let pages : Pages = file_pages c.args.codec.now (g.D.Disk.reads c.args.disk.now) in
     let same : g.D.Disk.reads c.has_accepted.new.disk ≡ g.D.Disk.reads c.args.disk.now = (c.in-Ok-true.ensures.only_read told).stays in
-    let s : State = record { taken = g.K.Sink.taken c.args.out.now; waits = c.in-Ok.scan.line; counts = counts_shown c.in-Ok.scan.counts } in
-    let t : State = record { taken = g.K.Sink.taken c.put_pages.new.out; waits = c.put_pages.new.scan.line; counts = counts_shown c.put_pages.new.scan.counts } in
+    let s : ScanState = record { taken = g.K.Sink.taken c.args.out.now; waits = c.in-Ok.scan.line; counts = counts_shown c.in-Ok.scan.counts } in
+    let t : ScanState = record { taken = g.K.Sink.taken c.put_pages.new.out; waits = c.put_pages.new.scan.line; counts = counts_shown c.put_pages.new.scan.counts } in
     end_reported g.K.Sink.tells pages s c.in-Ok.ensures.nothing c.in-Ok.ensures.none t
-    (subst (λ (files : Files). IsPut g.K.Sink.tells (salvage_lines (file_pages c.args.codec.now files)) s t) same (c.in-Ok-put_pages.ensures.on told))
+    (subst (λ (files : Files). IsPutLine g.K.Sink.tells (salvage_lines (file_pages c.args.codec.now files)) s t) same (c.in-Ok-put_pages.ensures.on told))
     (g.K.Sink.taken c.put_end.new.out) c.put_pages.new.scan.counts c.put_end.result refl c.put_end.ensures.text c.put_end.ensures.part c.put_end.ensures.counts
 
 pub returns-clause-only_read : goal.returns-clause-only_read

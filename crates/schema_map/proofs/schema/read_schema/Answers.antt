@@ -8,7 +8,7 @@ use Rattle.btree_model.specs.Finding.{Row, Finding, entries, places, is_sound}
 use Rattle.btree_model.specs.Records.{tree_part}
 use Rattle.btree_model.specs.Tree.{tree_walk}
 use Rattle.btree_walk.specs.Causes.{IsAmong, IsMarked}
-use Rattle.btree_walk.specs.Cursor.{IsAt, IsAdvanced, IsNext, IsEnd, row_of, row_shown, walked}
+use Rattle.btree_walk.specs.Cursor.{IsCursorAt, IsAdvanced, IsNext, IsEnd, row_of, row_shown, walked}
 use Rattle.btree_page.specs.declared.kind.Family.TheVariants.{Table}
 use Rattle.btree_walk.specs.Turn.{work}
 use Rattle.btree_walk.proofs.CauseLemmas.{given_later}
@@ -47,7 +47,7 @@ returns-in-Err-advance-clause-found g c told =
     let at = c.entries.invariant.on told in
     let stopped : IsAmong g.S.PageSource.refuses pages (walked pages taken c.advance.new.self) c.in-Err-advance.error =
     subst (λ p. IsAmong g.S.PageSource.refuses p (walked p taken c.advance.new.self) c.in-Err-advance.error) same
-    (c.in-Err-advance.ensures.on told taken at.0 (subst (λ p. IsAt p taken at.0 c.entries.cursor (marked c.entries.seen)) (sym same) at.1))
+    (c.in-Err-advance.ensures.on told taken at.0 (subst (λ p. IsCursorAt p taken at.0 c.entries.cursor (marked c.entries.seen)) (sym same) at.1))
     in
     among_joined g.S.PageSource.refuses pages (tree_part pages Table taken 1) _ c.in-Err-advance.error
     (among_joined g.S.PageSource.refuses pages (tree_walk pages Table taken 1) _ c.in-Err-advance.error
@@ -77,7 +77,7 @@ entries-preserved g c =
           let next : IsNext pages taken at.0 c.advance.new.self (marked c.advance.new.seen) (row_of c.advance.new.self) =
           subst (λ p. IsNext p taken at.0 c.advance.new.self (marked c.advance.new.seen) (row_of c.advance.new.self)) same
           (subst (λ m. IsAdvanced g.S.PageSource.refuses (g.S.PageSource.plain c.entries.source) taken at.0 c.advance.new.self (marked c.advance.new.seen) (Ok m)) c.in-Ok-true.field-0-test
-          (c.in-Ok-true.ensures.on told taken at.0 (subst (λ p. IsAt p taken at.0 c.entries.cursor (marked c.entries.seen)) (sym same) at.1)))
+          (c.in-Ok-true.ensures.on told taken at.0 (subst (λ p. IsCursorAt p taken at.0 c.entries.cursor (marked c.entries.seen)) (sym same) at.1)))
           in
           let kept : IsKept pages (row_of c.advance.new.self) c.in-Ok-read_row.row =
           subst (λ (row : Row). IsKept pages row c.in-Ok-read_row.row) c.entry-entry.ensures (c.in-Ok-read_row.ensures.read pages (sym c.pages-count.ensures))
@@ -109,7 +109,7 @@ returns-in-Err-read_row-clause-found g c told =
     let next : IsNext pages taken at.0 c.advance.new.self (marked c.advance.new.seen) (row_of c.advance.new.self) =
     subst (λ p. IsNext p taken at.0 c.advance.new.self (marked c.advance.new.seen) (row_of c.advance.new.self)) same
     (subst (λ m. IsAdvanced g.S.PageSource.refuses (g.S.PageSource.plain c.entries.source) taken at.0 c.advance.new.self (marked c.advance.new.seen) (Ok m)) c.in-Ok-true.field-0-test
-    (c.in-Ok-true.ensures.on told taken at.0 (subst (λ p. IsAt p taken at.0 c.entries.cursor (marked c.entries.seen)) (sym same) at.1)))
+    (c.in-Ok-true.ensures.on told taken at.0 (subst (λ p. IsCursorAt p taken at.0 c.entries.cursor (marked c.entries.seen)) (sym same) at.1)))
     in
     let found : List Finding = tree_walk pages Table taken 1 in
     let order : entries found ≡ at.0 ++ row_of c.advance.new.self ∷ next.more =
@@ -127,7 +127,7 @@ returns-in-Ok-false-clause-found g c told =
     let end : IsEnd pages taken at.0 c.advance.new.self (marked c.advance.new.seen) =
     subst (λ p. IsEnd p taken at.0 c.advance.new.self (marked c.advance.new.seen)) same
     (subst (λ m. IsAdvanced g.S.PageSource.refuses (g.S.PageSource.plain c.entries.source) taken at.0 c.advance.new.self (marked c.advance.new.seen) (Ok m)) c.in-Ok-false.field-0-test
-    (c.in-Ok-false.ensures.on told taken at.0 (subst (λ p. IsAt p taken at.0 c.entries.cursor (marked c.entries.seen)) (sym same) at.1)))
+    (c.in-Ok-false.ensures.on told taken at.0 (subst (λ p. IsCursorAt p taken at.0 c.entries.cursor (marked c.entries.seen)) (sym same) at.1)))
     in
     let found : List Finding = tree_walk pages Table taken 1 in
     let whole : walked pages taken c.advance.new.self ≡ found =
@@ -154,7 +154,7 @@ returns-in-Err-advance-clause-marked g c told =
     (subst (λ l. IsMarked l taken (marked c.advance.new.seen))
     (walked_is pages taken c.entries.cursor 1 (Some Table) c.entries.invariant.root c.entries.invariant.asked)
     (subst (λ p. IsMarked (walked p taken c.entries.cursor) taken (marked c.advance.new.seen)) same
-    (c.in-Err-advance.ensures.marks told taken at.0 (subst (λ p. IsAt p taken at.0 c.entries.cursor (marked c.entries.seen)) (sym same) at.1)))))
+    (c.in-Err-advance.ensures.marks told taken at.0 (subst (λ p. IsCursorAt p taken at.0 c.entries.cursor (marked c.entries.seen)) (sym same) at.1)))))
 
 pub returns-in-Ok-false-clause-marked : goal.returns-in-Ok-false-clause-marked
 returns-in-Ok-false-clause-marked g c told =
@@ -165,7 +165,7 @@ returns-in-Ok-false-clause-marked g c told =
     let end : IsEnd pages taken at.0 c.advance.new.self (marked c.advance.new.seen) =
     subst (λ p. IsEnd p taken at.0 c.advance.new.self (marked c.advance.new.seen)) same
     (subst (λ m. IsAdvanced g.S.PageSource.refuses (g.S.PageSource.plain c.entries.source) taken at.0 c.advance.new.self (marked c.advance.new.seen) (Ok m)) c.in-Ok-false.field-0-test
-    (c.in-Ok-false.ensures.on told taken at.0 (subst (λ p. IsAt p taken at.0 c.entries.cursor (marked c.entries.seen)) (sym same) at.1)))
+    (c.in-Ok-false.ensures.on told taken at.0 (subst (λ p. IsCursorAt p taken at.0 c.entries.cursor (marked c.entries.seen)) (sym same) at.1)))
     in
     let found : List Finding = tree_walk pages Table taken 1 in
     let whole : walked pages taken c.advance.new.self ≡ found =
@@ -184,7 +184,7 @@ returns-in-Err-read_row-clause-marked g c told =
     let next : IsNext pages taken at.0 c.advance.new.self (marked c.advance.new.seen) (row_of c.advance.new.self) =
     subst (λ p. IsNext p taken at.0 c.advance.new.self (marked c.advance.new.seen) (row_of c.advance.new.self)) same
     (subst (λ m. IsAdvanced g.S.PageSource.refuses (g.S.PageSource.plain c.entries.source) taken at.0 c.advance.new.self (marked c.advance.new.seen) (Ok m)) c.in-Ok-true.field-0-test
-    (c.in-Ok-true.ensures.on told taken at.0 (subst (λ p. IsAt p taken at.0 c.entries.cursor (marked c.entries.seen)) (sym same) at.1)))
+    (c.in-Ok-true.ensures.on told taken at.0 (subst (λ p. IsCursorAt p taken at.0 c.entries.cursor (marked c.entries.seen)) (sym same) at.1)))
     in
     marked_joined (tree_part pages Table taken 1) _ taken (marked c.advance.new.seen)
     (marked_joined (tree_walk pages Table taken 1) _ taken (marked c.advance.new.seen)
@@ -201,7 +201,7 @@ returns-in-Err-push-clause-marked g c told =
     let next : IsNext pages taken at.0 c.advance.new.self (marked c.advance.new.seen) (row_of c.advance.new.self) =
     subst (λ p. IsNext p taken at.0 c.advance.new.self (marked c.advance.new.seen) (row_of c.advance.new.self)) same
     (subst (λ m. IsAdvanced g.S.PageSource.refuses (g.S.PageSource.plain c.entries.source) taken at.0 c.advance.new.self (marked c.advance.new.seen) (Ok m)) c.in-Ok-true.field-0-test
-    (c.in-Ok-true.ensures.on told taken at.0 (subst (λ p. IsAt p taken at.0 c.entries.cursor (marked c.entries.seen)) (sym same) at.1)))
+    (c.in-Ok-true.ensures.on told taken at.0 (subst (λ p. IsCursorAt p taken at.0 c.entries.cursor (marked c.entries.seen)) (sym same) at.1)))
     in
     marked_joined (tree_part pages Table taken 1) _ taken (marked c.advance.new.seen)
     (marked_joined (tree_walk pages Table taken 1) _ taken (marked c.advance.new.seen)

@@ -9,7 +9,7 @@ use Rattle.btree_model.specs.Finding.{Row, Finding, entries, faults, places, is_
 use Rattle.btree_model.specs.Records.{tree_part}
 use Rattle.btree_model.specs.Tree.{root_family, tree_walk}
 use Rattle.btree_walk.specs.Causes.{IsAmong}
-use Rattle.btree_walk.specs.Cursor.{IsAt, IsAdvanced, IsNext, IsEnd, row_of, walked}
+use Rattle.btree_walk.specs.Cursor.{IsCursorAt, IsAdvanced, IsNext, IsEnd, row_of, walked}
 use Rattle.btree_walk.specs.Turn.{work}
 use Rattle.btree_walk.proofs.CauseLemmas.{given_later}
 use Rattle.space_map.proofs.TrunkLemmas.{open_most}
@@ -49,7 +49,7 @@ returns-in-Err-advance-clause-on g c told =
     let at = c.entries.invariant.on told in
     let stopped : IsAmong g.S.PageSource.refuses pages (walked pages taken c.advance.new.self) c.in-Err-advance.error =
     subst (λ p. IsAmong g.S.PageSource.refuses p (walked p taken c.advance.new.self) c.in-Err-advance.error) same
-    (c.in-Err-advance.ensures.on told taken at.0 (subst (λ p. IsAt p taken at.0 c.entries.cursor (marked c.entries.seen)) (sym same) at.1))
+    (c.in-Err-advance.ensures.on told taken at.0 (subst (λ p. IsCursorAt p taken at.0 c.entries.cursor (marked c.entries.seen)) (sym same) at.1))
     in
     among_joined g.S.PageSource.refuses pages (tree_walk pages (root_family c.args.root (pages.page c.args.root)) taken c.args.root) _ c.in-Err-advance.error
     (subst (λ l. IsAmong g.S.PageSource.refuses pages l c.in-Err-advance.error)
@@ -74,7 +74,7 @@ entries-preserved g c =
           let next : IsNext pages taken at.0 c.advance.new.self (marked c.advance.new.seen) (row_of c.advance.new.self) =
           subst (λ p. IsNext p taken at.0 c.advance.new.self (marked c.advance.new.seen) (row_of c.advance.new.self)) same
           (subst (λ m. IsAdvanced g.S.PageSource.refuses (g.S.PageSource.plain c.entries.source) taken at.0 c.advance.new.self (marked c.advance.new.seen) (Ok m)) c.in-Ok-true.field-0-test
-          (c.in-Ok-true.ensures.on told taken at.0 (subst (λ p. IsAt p taken at.0 c.entries.cursor (marked c.entries.seen)) (sym same) at.1)))
+          (c.in-Ok-true.ensures.on told taken at.0 (subst (λ p. IsCursorAt p taken at.0 c.entries.cursor (marked c.entries.seen)) (sym same) at.1)))
           in
           let values : columns (row_of c.advance.new.self).payload ≡ Some c.in-Ok-read.field-0 =
           ap (λ (row : Row). columns row.payload) (sym c.entry-entry.ensures) ∙ c.in-Ok-read.ensures.read
@@ -95,7 +95,7 @@ returns-in-Err-read-clause-on g c told =
     let next : IsNext pages taken at.0 c.advance.new.self (marked c.advance.new.seen) (row_of c.advance.new.self) =
     subst (λ p. IsNext p taken at.0 c.advance.new.self (marked c.advance.new.seen) (row_of c.advance.new.self)) same
     (subst (λ m. IsAdvanced g.S.PageSource.refuses (g.S.PageSource.plain c.entries.source) taken at.0 c.advance.new.self (marked c.advance.new.seen) (Ok m)) c.in-Ok-true.field-0-test
-    (c.in-Ok-true.ensures.on told taken at.0 (subst (λ p. IsAt p taken at.0 c.entries.cursor (marked c.entries.seen)) (sym same) at.1)))
+    (c.in-Ok-true.ensures.on told taken at.0 (subst (λ p. IsCursorAt p taken at.0 c.entries.cursor (marked c.entries.seen)) (sym same) at.1)))
     in
     let found : List Finding = tree_walk pages (root_family c.args.root (pages.page c.args.root)) taken c.args.root in
     let order : entries found ≡ at.0 ++ row_of c.advance.new.self ∷ next.more =
@@ -114,7 +114,7 @@ returns-in-Ok-false-clause-on g c told =
     let end : IsEnd pages taken at.0 c.advance.new.self (marked c.advance.new.seen) =
     subst (λ p. IsEnd p taken at.0 c.advance.new.self (marked c.advance.new.seen)) same
     (subst (λ m. IsAdvanced g.S.PageSource.refuses (g.S.PageSource.plain c.entries.source) taken at.0 c.advance.new.self (marked c.advance.new.seen) (Ok m)) c.in-Ok-false.field-0-test
-    (c.in-Ok-false.ensures.on told taken at.0 (subst (λ p. IsAt p taken at.0 c.entries.cursor (marked c.entries.seen)) (sym same) at.1)))
+    (c.in-Ok-false.ensures.on told taken at.0 (subst (λ p. IsCursorAt p taken at.0 c.entries.cursor (marked c.entries.seen)) (sym same) at.1)))
     in
     let found : List Finding = tree_walk pages (root_family c.args.root (pages.page c.args.root)) taken c.args.root in
     let whole : walked pages taken c.advance.new.self ≡ found =

@@ -2,7 +2,7 @@ use Rattle.std.proofs.Common.{ℕ, ◌≤◌, sym, subst}
 use Rattle.std.specs.Prelude.{IfOk}
 use Rattle.std.specs.List.{All}
 use Rattle.btree_walk.proofs.CauseLemmas.{if_given_later}
-use Rattle.schema_map.specs.Census.{IsBegun, IsCensus}
+use Rattle.schema_map.specs.Census.{IsCensusBegun, IsCensus}
 use Rattle.schema_map.specs.declared.counts.Census.{Census}
 use Rattle.schema_map.specs.declared.schema.SchemaRow.{SchemaRow}
 use Rattle.schema_map.proofs.WholeLemmas.{free_stop}
@@ -14,7 +14,7 @@ returns-in-Err-clause-found g c told =
 
 pub finish-requires-clause-begun : goal.finish-requires-clause-begun
 finish-requires-clause-begun g c told =
-    subst (λ p. IsBegun p c.in-Ok.started) (sym (g.met.S.PageSource.same_pages c.args.source.now c.start.new.source c.in-Ok.ensures.reads told)) (c.in-Ok.ensures.found told)
+    subst (λ p. IsCensusBegun p c.in-Ok.started) (sym (g.met.S.PageSource.same_pages c.args.source.now c.start.new.source c.in-Ok.ensures.reads told)) (c.in-Ok.ensures.found told)
 
 pub returns-in-Ok-clause-found : goal.returns-in-Ok-clause-found
 returns-in-Ok-clause-found g c told =

@@ -2,7 +2,7 @@ use Rattle.std.proofs.Common.{refl, sym}
 use Rattle.db_format.specs.Pages.{Pages, Test}
 use Rattle.db_format.specs.Seen.{marked}
 use Rattle.btree_model.specs.Freelist.{lists_of, freelist_walk}
-use Rattle.space_map.specs.Walk.{IsAt, IsDone, IsStopped}
+use Rattle.space_map.specs.Walk.{IsFreeWalkAt, IsDone, IsStopped}
 use Rattle.space_map.proofs.TrunkLemmas.{lists_at, lists_out, freelist_done, freelist_miscounted, first_for, marked_joined, marked_met}
 use Rattle.space_map.proofs.free_map.freelist.Goals as goal
 
@@ -19,7 +19,7 @@ pub returns-in-Err-walk_trunks-clause-found : goal.returns-in-Err-walk_trunks-cl
 returns-in-Err-walk_trunks-clause-found g c told =
     let pages : Pages = g.S.PageSource.plain c.args.source.now in
     let taken : Test = marked c.args.seen.now in
-    let at : IsAt pages (lists_of pages taken) taken pages.count c.args.header.now.first_trunk 0 taken (marked c.in-Ok.leaves) =
+    let at : IsFreeWalkAt pages (lists_of pages taken) taken pages.count c.args.header.now.first_trunk 0 taken (marked c.in-Ok.leaves) =
     lists_at pages taken c.args.header.now.first_trunk (marked c.in-Ok.leaves) (c.requires.first told) c.in-Ok.ensures.none (sym (c.if-not-is_number.ensures.test pages (sym c.pages-count.ensures)))
     in
     let stopped : IsStopped g.S.PageSource.refuses pages (lists_of pages taken) taken (marked c.walk_trunks.new.seen) c.in-Err-walk_trunks.stop =
@@ -31,7 +31,7 @@ pub returns-in-Err-walk_trunks-clause-marked : goal.returns-in-Err-walk_trunks-c
 returns-in-Err-walk_trunks-clause-marked g c told =
     let pages : Pages = g.S.PageSource.plain c.args.source.now in
     let taken : Test = marked c.args.seen.now in
-    let at : IsAt pages (lists_of pages taken) taken pages.count c.args.header.now.first_trunk 0 taken (marked c.in-Ok.leaves) =
+    let at : IsFreeWalkAt pages (lists_of pages taken) taken pages.count c.args.header.now.first_trunk 0 taken (marked c.in-Ok.leaves) =
     lists_at pages taken c.args.header.now.first_trunk (marked c.in-Ok.leaves) (c.requires.first told) c.in-Ok.ensures.none (sym (c.if-not-is_number.ensures.test pages (sym c.pages-count.ensures)))
     in
     let stopped : IsStopped g.S.PageSource.refuses pages (lists_of pages taken) taken (marked c.walk_trunks.new.seen) c.in-Err-walk_trunks.stop =
@@ -43,7 +43,7 @@ pub returns-then-found-header-clause-marked : goal.returns-then-found-header-cla
 returns-then-found-header-clause-marked g c told =
     let pages : Pages = g.S.PageSource.plain c.args.source.now in
     let taken : Test = marked c.args.seen.now in
-    let at : IsAt pages (lists_of pages taken) taken pages.count c.args.header.now.first_trunk 0 taken (marked c.in-Ok.leaves) =
+    let at : IsFreeWalkAt pages (lists_of pages taken) taken pages.count c.args.header.now.first_trunk 0 taken (marked c.in-Ok.leaves) =
     lists_at pages taken c.args.header.now.first_trunk (marked c.in-Ok.leaves) (c.requires.first told) c.in-Ok.ensures.none (sym (c.if-not-is_number.ensures.test pages (sym c.pages-count.ensures)))
     in
     let done : IsDone (lists_of pages taken) taken c.in-Ok-walk_trunks.found (marked c.walk_trunks.new.seen) (marked c.walk_trunks.new.free) =
@@ -55,7 +55,7 @@ pub returns-else-found-header-clause-marked : goal.returns-else-found-header-cla
 returns-else-found-header-clause-marked g c told =
     let pages : Pages = g.S.PageSource.plain c.args.source.now in
     let taken : Test = marked c.args.seen.now in
-    let at : IsAt pages (lists_of pages taken) taken pages.count c.args.header.now.first_trunk 0 taken (marked c.in-Ok.leaves) =
+    let at : IsFreeWalkAt pages (lists_of pages taken) taken pages.count c.args.header.now.first_trunk 0 taken (marked c.in-Ok.leaves) =
     lists_at pages taken c.args.header.now.first_trunk (marked c.in-Ok.leaves) (c.requires.first told) c.in-Ok.ensures.none (sym (c.if-not-is_number.ensures.test pages (sym c.pages-count.ensures)))
     in
     let done : IsDone (lists_of pages taken) taken c.in-Ok-walk_trunks.found (marked c.walk_trunks.new.seen) (marked c.walk_trunks.new.free) =
@@ -67,7 +67,7 @@ pub returns-then-found-header-clause-found : goal.returns-then-found-header-clau
 returns-then-found-header-clause-found g c told =
     let pages : Pages = g.S.PageSource.plain c.args.source.now in
     let taken : Test = marked c.args.seen.now in
-    let at : IsAt pages (lists_of pages taken) taken pages.count c.args.header.now.first_trunk 0 taken (marked c.in-Ok.leaves) =
+    let at : IsFreeWalkAt pages (lists_of pages taken) taken pages.count c.args.header.now.first_trunk 0 taken (marked c.in-Ok.leaves) =
     lists_at pages taken c.args.header.now.first_trunk (marked c.in-Ok.leaves) (c.requires.first told) c.in-Ok.ensures.none (sym (c.if-not-is_number.ensures.test pages (sym c.pages-count.ensures)))
     in
     let done : IsDone (lists_of pages taken) taken c.in-Ok-walk_trunks.found (marked c.walk_trunks.new.seen) (marked c.walk_trunks.new.free) =
@@ -82,7 +82,7 @@ pub returns-else-found-header-clause-found : goal.returns-else-found-header-clau
 returns-else-found-header-clause-found g c told =
     let pages : Pages = g.S.PageSource.plain c.args.source.now in
     let taken : Test = marked c.args.seen.now in
-    let at : IsAt pages (lists_of pages taken) taken pages.count c.args.header.now.first_trunk 0 taken (marked c.in-Ok.leaves) =
+    let at : IsFreeWalkAt pages (lists_of pages taken) taken pages.count c.args.header.now.first_trunk 0 taken (marked c.in-Ok.leaves) =
     lists_at pages taken c.args.header.now.first_trunk (marked c.in-Ok.leaves) (c.requires.first told) c.in-Ok.ensures.none (sym (c.if-not-is_number.ensures.test pages (sym c.pages-count.ensures)))
     in
     let done : IsDone (lists_of pages taken) taken c.in-Ok-walk_trunks.found (marked c.walk_trunks.new.seen) (marked c.walk_trunks.new.free) =

@@ -1,7 +1,7 @@
 use Rattle.std.proofs.Common.{◌≡◌, ◌+◌, ◌-◌, ◌*◌, ◌≤◌, not, ◌∷◌, [], ap, sym, subst, ◌∙◌, arith}
 use Rattle.db_format.specs.Seen.{marked, open_count}
 use Rattle.btree_model.specs.Freelist.{numbers_at}
-use Rattle.space_map.specs.Walk.{IsAt, IsInside, IsLeafTwice}
+use Rattle.space_map.specs.Walk.{IsFreeWalkAt, IsInside, IsLeafTwice}
 use Rattle.btree_walk.proofs.MarkLemmas.{keeps_also}
 use Rattle.space_map.proofs.TrunkLemmas.{from_step, leaf_on, leaf_twice, leaves_done, zero_on}
 use Rattle.space_map.proofs.trunk.take_leaves.Goals as goal
@@ -47,7 +47,7 @@ pub returns-clause-on : goal.returns-clause-on
 returns-clause-on c pages all taken fuel next found at =
     let done : c.loop-i.i ≡ c.args.size = omega arith in
     let none : c.args.size - c.loop-i.i ≡ 0 = omega arith in
-    subst (λ i. IsAt pages all taken fuel next (found + i) (marked c.loop-i.seen) (marked c.loop-i.free)) done
+    subst (λ i. IsFreeWalkAt pages all taken fuel next (found + i) (marked c.loop-i.seen) (marked c.loop-i.free)) done
     (leaves_done pages all taken fuel next (found + c.loop-i.i) (marked c.loop-i.seen) (marked c.loop-i.free)
     (subst (λ k. IsInside pages all taken fuel next (numbers_at c.args.bytes.now (8 + 4 * c.loop-i.i) k) (found + c.loop-i.i) (marked c.loop-i.seen) (marked c.loop-i.free)) none
     (c.loop-i.invariant.on pages all taken fuel next found at)))

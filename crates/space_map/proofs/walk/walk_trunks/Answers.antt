@@ -1,7 +1,7 @@
 use Rattle.std.proofs.Common.{◌≡◌, ◌+◌, ◌-◌, ◌<◌, suc, length, ap, sym, subst, ◌∙◌, arith}
 use Rattle.db_format.specs.Pages.{Pages}
 use Rattle.db_format.specs.Seen.{marked, open_count}
-use Rattle.space_map.specs.Walk.{IsAt, IsStopped}
+use Rattle.space_map.specs.Walk.{IsFreeWalkAt, IsStopped}
 use Rattle.space_map.proofs.TrunkLemmas.{walk_done, walk_over, room, number_since}
 use Rattle.btree_walk.proofs.CauseLemmas.{given_later, rose_later}
 use Rattle.space_map.proofs.walk.walk_trunks.Goals as goal
@@ -10,26 +10,26 @@ pub returns-then-n-eq0-clause-on : goal.returns-then-n-eq0-clause-on
 returns-then-n-eq0-clause-on g c told all taken at =
     let pages : Pages = g.S.PageSource.plain c.args.source.now in
     walk_done pages all taken (c.pages-count.result - c.loop-turn.turn) c.loop-turn.found (marked c.loop-turn.seen) (marked c.loop-turn.free)
-    (subst (λ n. IsAt pages all taken (c.pages-count.result - c.loop-turn.turn) n c.loop-turn.found (marked c.loop-turn.seen) (marked c.loop-turn.free)) c.if-n-eq0.true
+    (subst (λ n. IsFreeWalkAt pages all taken (c.pages-count.result - c.loop-turn.turn) n c.loop-turn.found (marked c.loop-turn.seen) (marked c.loop-turn.free)) c.if-n-eq0.true
     (c.loop-turn.invariant.on told all taken
-    (subst (λ k. IsAt pages all taken k c.args.first 0 (marked c.args.seen.now) (marked c.args.free.now)) (sym c.pages-count.ensures) at)))
+    (subst (λ k. IsFreeWalkAt pages all taken k c.args.first 0 (marked c.args.seen.now) (marked c.args.free.now)) (sym c.pages-count.ensures) at)))
 
 pub returns-then-n-eq0-2-clause-on : goal.returns-then-n-eq0-2-clause-on
 returns-then-n-eq0-2-clause-on g c told all taken at =
     let pages : Pages = g.S.PageSource.plain c.args.source.now in
     walk_done pages all taken (c.pages-count.result - c.loop-turn.turn) c.loop-turn.found (marked c.loop-turn.seen) (marked c.loop-turn.free)
-    (subst (λ n. IsAt pages all taken (c.pages-count.result - c.loop-turn.turn) n c.loop-turn.found (marked c.loop-turn.seen) (marked c.loop-turn.free)) c.if-n-eq0-2.true
+    (subst (λ n. IsFreeWalkAt pages all taken (c.pages-count.result - c.loop-turn.turn) n c.loop-turn.found (marked c.loop-turn.seen) (marked c.loop-turn.free)) c.if-n-eq0-2.true
     (c.loop-turn.invariant.on told all taken
-    (subst (λ k. IsAt pages all taken k c.args.first 0 (marked c.args.seen.now) (marked c.args.free.now)) (sym c.pages-count.ensures) at)))
+    (subst (λ k. IsFreeWalkAt pages all taken k c.args.first 0 (marked c.args.seen.now) (marked c.args.free.now)) (sym c.pages-count.ensures) at)))
 
 pub returns-else-n-eq0-2-clause-on : goal.returns-else-n-eq0-2-clause-on
 returns-else-n-eq0-2-clause-on g c told all taken at =
     let pages : Pages = g.S.PageSource.plain c.args.source.now in
     let none : c.pages-count.result - c.loop-turn.turn ≡ 0 = omega arith in
     walk_over pages all taken g.S.PageSource.refuses c.loop-turn.n c.loop-turn.found (marked c.loop-turn.seen) (marked c.loop-turn.free) c.if-n-eq0-2.false
-    (subst (λ k. IsAt pages all taken k c.loop-turn.n c.loop-turn.found (marked c.loop-turn.seen) (marked c.loop-turn.free)) none
+    (subst (λ k. IsFreeWalkAt pages all taken k c.loop-turn.n c.loop-turn.found (marked c.loop-turn.seen) (marked c.loop-turn.free)) none
     (c.loop-turn.invariant.on told all taken
-    (subst (λ k. IsAt pages all taken k c.args.first 0 (marked c.args.seen.now) (marked c.args.free.now)) (sym c.pages-count.ensures) at)))
+    (subst (λ k. IsFreeWalkAt pages all taken k c.args.first 0 (marked c.args.seen.now) (marked c.args.free.now)) (sym c.pages-count.ensures) at)))
 
 pub returns-in-Err-clause-on : goal.returns-in-Err-clause-on
 returns-in-Err-clause-on g c told all taken at =
@@ -38,10 +38,10 @@ returns-in-Err-clause-on g c told all taken at =
     let more : c.pages-count.result - c.loop-turn.turn ≡ suc (c.pages-count.result - (c.loop-turn.turn + 1)) = let less = c.loop-turn-test.true in omega arith in
     subst (λ p. IsStopped g.S.PageSource.refuses p all taken (marked c.visit_trunk.new.seen) c.in-Err.stop) same
     (c.in-Err.ensures.on told all taken (c.pages-count.result - (c.loop-turn.turn + 1)) c.loop-turn.found
-    (subst (λ p. IsAt p all taken (suc (c.pages-count.result - (c.loop-turn.turn + 1))) c.loop-turn.n c.loop-turn.found (marked c.loop-turn.seen) (marked c.loop-turn.free)) (sym same)
-    (subst (λ k. IsAt pages all taken k c.loop-turn.n c.loop-turn.found (marked c.loop-turn.seen) (marked c.loop-turn.free)) more
+    (subst (λ p. IsFreeWalkAt p all taken (suc (c.pages-count.result - (c.loop-turn.turn + 1))) c.loop-turn.n c.loop-turn.found (marked c.loop-turn.seen) (marked c.loop-turn.free)) (sym same)
+    (subst (λ k. IsFreeWalkAt pages all taken k c.loop-turn.n c.loop-turn.found (marked c.loop-turn.seen) (marked c.loop-turn.free)) more
     (c.loop-turn.invariant.on told all taken
-    (subst (λ k. IsAt pages all taken k c.args.first 0 (marked c.args.seen.now) (marked c.args.free.now)) (sym c.pages-count.ensures) at)))))
+    (subst (λ k. IsFreeWalkAt pages all taken k c.args.first 0 (marked c.args.seen.now) (marked c.args.free.now)) (sym c.pages-count.ensures) at)))))
 
 pub returns-in-Err-clause-given : goal.returns-in-Err-clause-given
 returns-in-Err-clause-given g c =
@@ -91,9 +91,9 @@ loop-turn-preserved g c =
       on = λ told all taken at.
           let same : g.S.PageSource.plain c.loop-turn.source ≡ pages = g.met.S.PageSource.same_pages c.args.source.now c.loop-turn.source c.loop-turn.invariant.read told in
           let more : c.pages-count.result - c.loop-turn.turn ≡ suc (c.pages-count.result - (c.loop-turn.turn + 1)) = let less = c.loop-turn-test.true in omega arith in
-          subst (λ p. IsAt p all taken (c.pages-count.result - (c.loop-turn.turn + 1)) c.in-Ok.trunk.next (c.loop-turn.found + (1 + c.in-Ok.trunk.size)) (marked c.visit_trunk.new.seen) (marked c.visit_trunk.new.free)) same
+          subst (λ p. IsFreeWalkAt p all taken (c.pages-count.result - (c.loop-turn.turn + 1)) c.in-Ok.trunk.next (c.loop-turn.found + (1 + c.in-Ok.trunk.size)) (marked c.visit_trunk.new.seen) (marked c.visit_trunk.new.free)) same
           (c.in-Ok.ensures.on told all taken (c.pages-count.result - (c.loop-turn.turn + 1)) c.loop-turn.found
-          (subst (λ p. IsAt p all taken (suc (c.pages-count.result - (c.loop-turn.turn + 1))) c.loop-turn.n c.loop-turn.found (marked c.loop-turn.seen) (marked c.loop-turn.free)) (sym same)
-          (subst (λ k. IsAt pages all taken k c.loop-turn.n c.loop-turn.found (marked c.loop-turn.seen) (marked c.loop-turn.free)) more
+          (subst (λ p. IsFreeWalkAt p all taken (suc (c.pages-count.result - (c.loop-turn.turn + 1))) c.loop-turn.n c.loop-turn.found (marked c.loop-turn.seen) (marked c.loop-turn.free)) (sym same)
+          (subst (λ k. IsFreeWalkAt pages all taken k c.loop-turn.n c.loop-turn.found (marked c.loop-turn.seen) (marked c.loop-turn.free)) more
           (c.loop-turn.invariant.on told all taken at))));
     }

@@ -4,7 +4,7 @@ use Rattle.db_format.specs.Pages.{Test}
 use Rattle.db_format.specs.Seen.{marked, open_count}
 use Rattle.btree_model.specs.Finding.{Finding}
 use Rattle.btree_walk.specs.Marks.{KeepsMarks}
-use Rattle.space_map.specs.Walk.{IsAt, IsNumber}
+use Rattle.space_map.specs.Walk.{IsFreeWalkAt, IsNumber}
 use Rattle.space_map.proofs.walk.walk_trunks.Given as goal
 
 abbrev pub invariant-loop-turn : goal.invariant-loop-turn
@@ -19,6 +19,6 @@ invariant-loop-turn g l =
       zero : marked l.seen 0 ≡ marked l.initial.seen 0;
       less : l.found + open_count l.seen ≡ open_count l.initial.seen;
       on : IsTrue g.S.PageSource.tells → (all : List Finding) (taken : Test)
-          → IsAt (g.S.PageSource.plain l.initial.source) all taken l.count l.initial.n 0 (marked l.initial.seen) (marked l.initial.free)
-          → IsAt (g.S.PageSource.plain l.initial.source) all taken (l.count - l.turn) l.n l.found (marked l.seen) (marked l.free);
+          → IsFreeWalkAt (g.S.PageSource.plain l.initial.source) all taken l.count l.initial.n 0 (marked l.initial.seen) (marked l.initial.free)
+          → IsFreeWalkAt (g.S.PageSource.plain l.initial.source) all taken (l.count - l.turn) l.n l.found (marked l.seen) (marked l.free);
     }

@@ -1,12 +1,11 @@
 use Rattle.std.proofs.Common.{◌≡◌, inl, ◌≤◌, ◌<◌, true, ℕ, List, drop, length, refl, sym, ap, subst, ◌∙◌, arith}
 use Rattle.cipher_profile.proofs.Layouts.{IsListed-laid_out}
-use Rattle.disk_side.specs.Published.{IsNew as IsAlone}
-use Rattle.edge_model.specs.Files.{Files, bytes_of}
+use Rattle.fresh_disk.specs.Published.{IsAlone}
+use Rattle.edge_model.specs.Files.{Files, bytes_of, main_of}
 use Rattle.edge_model.specs.Images.{Each, From, LeavesOnly}
 use Rattle.edge_model.specs.Moments.{at_exit, then_from, weaker}
 use Rattle.page_codec.specs.Page.{keys_of}
-use Rattle.pager.specs.File.{main_of}
-use Rattle.transaction.specs.Facts.{SameFresh}
+use Rattle.atomic_commit.specs.Facts.{SameFresh}
 use Rattle.sqlcipher_tool.specs.Change.{KeepsOrCommits, change_answers, command_of}
 use Rattle.sqlcipher_tool.specs.Holding.{HoldsOnly, held_by}
 use Rattle.sqlcipher_tool.specs.Recovered.{recovered_main, recovery_of}

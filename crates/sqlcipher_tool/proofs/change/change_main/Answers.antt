@@ -2,9 +2,9 @@ use Rattle.std.proofs.Common.{◌≡◌, ⊎_elim, inl, inr, ℕ, List, drop, le
 use Rattle.cipher_profile.specs.declared.keys.Secret.{Secret}
 use Rattle.cipher_profile.specs.declared.profile.Profile.{Profile}
 use Rattle.page_codec.specs.Page.{keys_of}
-use Rattle.pager.specs.File.{main_of}
+use Rattle.edge_model.specs.Files.{main_of}
 use Rattle.std.specs.Prelude.{IfErr, IsTrue}
-use Rattle.disk_side.specs.OnlyFresh.{IsOld}
+use Rattle.fresh_disk.specs.OnlyFresh.{IsOld}
 use Rattle.edge_model.specs.Images.{Each}
 use Rattle.sqlcipher_tool.specs.Answer.{done}
 use Rattle.sqlcipher_tool.specs.Behind.{IsRefusedChange}

@@ -4,10 +4,10 @@ use Rattle.std.specs.Prelude.{OnOk, IsTrue}
 use Rattle.cipher_profile.specs.declared.keys.Secret.{Secret}
 use Rattle.cipher_profile.specs.declared.profile.Profile.{Profile}
 use Rattle.page_codec.specs.Page.{keys_of}
-use Rattle.pager.specs.File.{main_of}
+use Rattle.edge_model.specs.Files.{main_of}
 use Rattle.sqlcipher_tool.specs.Change.{IsChangeBetween, KeepsOrCommits, change_answers, change_status, command_of, is_in_place}
 use Rattle.sqlcipher_tool.specs.Holding.{HoldsOnly, held_by}
-use Rattle.sqlcipher_tool.specs.Renewal.{AreDrawn, IsNewDrawn, Renewal}
+use Rattle.sqlcipher_tool.specs.Renewal.{AreDrawnBy, IsNewDrawn, Renewal}
 use Rattle.sqlcipher_tool.specs.declared.change.Change.{Change}
 use Rattle.sqlcipher_tool.specs.declared.change.Change.TheVariants.{Stamp as StampOf, Rekey as RekeyOf, Migrate as MigrateOf}
 use Rattle.sqlcipher_tool.specs.declared.command.Field.{Field}
@@ -56,7 +56,7 @@ returns-in-Stamp-clause-own_draws g c =
     let first = c.args.first.now in
     let both = between c.args.change c.in-Stamp.field c.in-Stamp.value (record { old_profile = old; old_secret = first; new_profile = c.args.new; new_secret = c.args.second.now }) c.in-Stamp.is c.requires.between in
     as_stamp (λ ch new second. OnOk c.stamp_file.result (IsTrue d.tells → IsTrue g.E.Entropy.tells
-    → AreDrawn (command_of ch old new) (record { old_profile = old; old_secret = first; new_profile = new; new_secret = second }) main drawn))
+    → AreDrawnBy (command_of ch old new) (record { old_profile = old; old_secret = first; new_profile = new; new_secret = second }) main drawn))
     c.args.change c.in-Stamp.field c.in-Stamp.value old c.args.new first c.args.second.now c.in-Stamp.is both c.stamp_file.ensures.own_draws
 
 -- the layout stays
@@ -92,7 +92,7 @@ returns-in-Rekey-clause-own_draws g c =
     let main = main_of (d.reads c.rekey_file.new.disk) in
     let drawn = drop (length (g.E.Entropy.drawn c.args.entropy.now)) (g.E.Entropy.drawn c.rekey_file.new.entropy) in
     let renewal : Renewal = record { old_profile = c.args.old; old_secret = c.args.first.now; new_profile = c.args.new; new_secret = c.args.second.now } in
-    subst (λ (ch : Change). OnOk c.rekey_file.result (IsTrue d.tells → IsTrue g.E.Entropy.tells → AreDrawn (command_of ch c.args.old c.args.new) renewal main drawn))
+    subst (λ (ch : Change). OnOk c.rekey_file.result (IsTrue d.tells → IsTrue g.E.Entropy.tells → AreDrawnBy (command_of ch c.args.old c.args.new) renewal main drawn))
     (sym c.in-Rekey.is) c.rekey_file.ensures.own_draws
 
 -- a new file in Main's place is no change in place
@@ -126,7 +126,7 @@ returns-in-Migrate-clause-own_draws g c =
     let main = main_of (d.reads c.migrate_file.new.disk) in
     let drawn = drop (length (g.E.Entropy.drawn c.args.entropy.now)) (g.E.Entropy.drawn c.migrate_file.new.entropy) in
     let renewal : Renewal = record { old_profile = c.args.old; old_secret = c.args.first.now; new_profile = c.args.new; new_secret = c.args.second.now } in
-    subst (λ (ch : Change). OnOk c.migrate_file.result (IsTrue d.tells → IsTrue g.E.Entropy.tells → AreDrawn (command_of ch c.args.old c.args.new) renewal main drawn))
+    subst (λ (ch : Change). OnOk c.migrate_file.result (IsTrue d.tells → IsTrue g.E.Entropy.tells → AreDrawnBy (command_of ch c.args.old c.args.new) renewal main drawn))
     (sym c.in-Migrate.is) c.migrate_file.ensures.own_draws
 
 -- a change in place writes nothing beside

@@ -1,8 +1,8 @@
 use Rattle.std.proofs.Common.{◌≡◌, ⊎_elim, inl, inr, true, ap, ◌∙◌}
 use Rattle.btree_model.specs.Parts.{is_database}
-use Rattle.export_rows.specs.Causes.{is_defect}
+use Rattle.export_rows.specs.Causes.{is_export_defect}
 use Rattle.migrate_job.proofs.WalkStops.{given_stop}
-use Rattle.pager.specs.File.{main_of}
+use Rattle.edge_model.specs.Files.{main_of}
 use Rattle.pager.specs.Pages.{opened_pages}
 use Rattle.sqlcipher_tool.proofs.Exported.{causes_of, done_one, failed_one, line_one, of_walk, stopped_one}
 use Rattle.sqlcipher_tool.proofs.export.export_pages.Goals as goal
@@ -26,7 +26,7 @@ returns-in-Err-Walk-clause-answer g c = λ told.
     stopped_one g.D.Disk.tells pages c.in-Err-Walk.error c.walk_stop.result c.conclude_stop.result g.S.Sink.tells before mid (g.S.Sink.taken c.conclude_stop.new.out) told
     c.walk_stop.ensures
     (causes_of g.D.Disk.tells pages c.in-Err-Walk.field-0 c.in-Err-Walk.error c.in-Err-Walk.field-0-is told c.in-Err-Walk.ensures.causes)
-    (λ is. ap g.S.Sink.taken (c.in-Err-Walk.ensures.defect (ap is_defect c.in-Err-Walk.field-0-is ∙ is)))
+    (λ is. ap g.S.Sink.taken (c.in-Err-Walk.ensures.defect (ap is_export_defect c.in-Err-Walk.field-0-is ∙ is)))
     (⊎_elim (λ same. inl (ap g.S.Sink.taken same)) (λ (sound : is_database pages ≡ true). inr sound) (c.in-Err-Walk.ensures.checked told))
     (λ printed. c.in-Err-Walk.ensures.part told printed)
     c.conclude_stop.ensures.status c.conclude_stop.ensures.text
@@ -37,7 +37,7 @@ pub returns-in-Err-Walk-clause-line : goal.returns-in-Err-Walk-clause-line
 returns-in-Err-Walk-clause-line g c = λ printed.
     line_one c.in-Err-Walk.error c.walk_stop.result c.conclude_stop.result (g.S.Sink.taken c.args.out.now) (g.S.Sink.taken c.export.new.out) (g.S.Sink.taken c.conclude_stop.new.out)
     c.walk_stop.ensures
-    (λ is. ap g.S.Sink.taken (c.in-Err-Walk.ensures.defect (ap is_defect c.in-Err-Walk.field-0-is ∙ is)))
+    (λ is. ap g.S.Sink.taken (c.in-Err-Walk.ensures.defect (ap is_export_defect c.in-Err-Walk.field-0-is ∙ is)))
     c.conclude_stop.ensures.status
     (λ is. (c.conclude_stop.ensures.disk is).0) (λ is. (c.conclude_stop.ensures.memory is).0)
     (c.conclude_stop.ensures.line printed)

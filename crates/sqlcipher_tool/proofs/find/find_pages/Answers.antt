@@ -3,7 +3,7 @@ use mir.Val.{of_z, to_z}
 use mir.Syntax.{w64}
 use Rattle.db_format.specs.Pages.{Pages}
 use Rattle.pager.specs.Causes.{MayRefuse}
-use Rattle.pager.specs.File.{main_of}
+use Rattle.edge_model.specs.Files.{main_of}
 use Rattle.pager.specs.Pages.{opened_pages}
 use Rattle.rekey_job.proofs.Stopped.{pages_same}
 use Rattle.rowid_find.specs.Table.{IsSearchedSchema, IsTableRead, at_root, no_table}

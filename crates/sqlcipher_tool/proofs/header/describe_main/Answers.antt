@@ -1,5 +1,5 @@
 use Rattle.std.proofs.Common.{◌∙◌, ℕ, List, Some, Result, inr, sym, ap}
-use Rattle.pager.specs.File.{main_of}
+use Rattle.edge_model.specs.Files.{main_of}
 use Rattle.pager.specs.Opening.{Opened}
 use Rattle.pager.specs.declared.opening.OpenError.{OpenError}
 use Rattle.sqlcipher_tool.specs.Answer.{done}

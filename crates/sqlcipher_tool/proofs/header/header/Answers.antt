@@ -1,8 +1,7 @@
 use Rattle.std.proofs.Common.{◌≡◌, ⊎_elim, inl, inr, false, sym, ap, subst}
 use Rattle.sqlcipher_tool.specs.Answer.{Answer, IsAnswered, IsFault, Puts}
-use Rattle.edge_model.specs.Files.{bytes_of}
+use Rattle.edge_model.specs.Files.{bytes_of, main_of}
 use Rattle.sqlcipher_tool.specs.Header.{header_answer}
-use Rattle.pager.specs.File.{main_of}
 use Rattle.sqlcipher_tool.proofs.Recoveries.{had_byte, header_recovered, journal_gone, read_after, recovered_is}
 use Rattle.sqlcipher_tool.specs.declared.status.Status.TheVariants.{OutputFault}
 use Rattle.sqlcipher_tool.specs.Recovered.{recovered_main, recovery_of}

@@ -1,6 +1,6 @@
 use Rattle.std.proofs.Common.{ap}
 use Rattle.sqlcipher_tool.specs.Header.{header_answer}
-use Rattle.pager.specs.File.{main_of}
+use Rattle.edge_model.specs.Files.{main_of}
 use Rattle.sqlcipher_tool.proofs.Conclusions.{outcome_text}
 use Rattle.sqlcipher_tool.proofs.header.header_of_main.Goals as goal
 

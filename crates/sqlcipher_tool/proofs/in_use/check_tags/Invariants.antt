@@ -1,7 +1,7 @@
 use Rattle.std.proofs.Common.{◌≡◌, ◌++◌, ◌≤◌, IsTrue, None}
 use Rattle.std.specs.Prelude.{slice_get}
 use Rattle.db_format.specs.Seen.{marked}
-use Rattle.pager.specs.File.{main_of}
+use Rattle.edge_model.specs.Files.{main_of}
 use Rattle.pager.specs.Pages.{opened_pages}
 use Rattle.pager.specs.Reads.{DiskRead, Untouched}
 use Rattle.sqlcipher_tool.specs.Plain.{is_left}

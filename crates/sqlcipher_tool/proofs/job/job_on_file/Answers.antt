@@ -1,7 +1,7 @@
 use Rattle.std.proofs.Common.{◌≤◌, ℕ, sym, ap, ◌∙◌, subst}
 use Rattle.db_format.specs.Header.{header_fields}
 use Rattle.db_format.specs.Pages.{Pages}
-use Rattle.pager.specs.File.{main_of}
+use Rattle.edge_model.specs.Files.{main_of}
 use Rattle.pager.proofs.UnreadLemmas.{no_held_pins}
 use Rattle.rekey_job.proofs.Stopped.{pages_same}
 use Rattle.sqlcipher_tool.specs.Job.{job_due}

@@ -1,6 +1,6 @@
 use Rattle.std.proofs.Common.{◌≡◌, List, ℕ, Result, sym, ap, subst}
 use Rattle.page_codec.specs.Page.{FileKeys, keys_of}
-use Rattle.pager.specs.File.{main_of}
+use Rattle.edge_model.specs.Files.{main_of}
 use Rattle.pager.specs.Opening.{Opened}
 use Rattle.pager.specs.Pages.{opened_pages}
 use Rattle.pager.specs.Reads.{then_read}

@@ -1,13 +1,12 @@
 use Rattle.std.proofs.Common.{◌≡◌, inr, ℕ, IsTrue, List, drop, length, Ok, Err, sym, ap, subst, ◌∙◌}
-use Rattle.edge_model.specs.Files.{Files}
-use Rattle.pager.specs.File.{main_of}
+use Rattle.edge_model.specs.Files.{Files, main_of}
 use Rattle.fresh_file.specs.Draws.{HasOwnDraws}
 use Rattle.make_job.specs.Made.{IsMade}
 use Rattle.page_codec.specs.Page.{keys_of}
 use Rattle.sqlcipher_tool.specs.Change.{IsLateChange, KeepsOrCommits, change_answer, change_status}
 use Rattle.sqlcipher_tool.specs.Crash.{HasNoMain}
 use Rattle.sqlcipher_tool.specs.Renewal.{WithDraws}
-use Rattle.disk_side.specs.Published.{IsNew}
+use Rattle.fresh_disk.specs.Published.{IsAlone}
 use Rattle.sqlcipher_tool.specs.declared.opening.ChangeError.{ChangeError}
 use Rattle.sqlcipher_tool.proofs.Making.{made_due, made_there, make_disk, make_entropy, make_late, place_with, same_journal, stands_some, unmade_due, unmade_there}
 use Rattle.sqlcipher_tool.proofs.make.make_database.Goals as goal
@@ -53,7 +52,7 @@ returns-in-Err-clause-safely g c = λ told free.
     let d = g.D.Disk in
     let n = g.E.Entropy in
     let own : List ℕ → Type 0 = λ file. HasOwnDraws (keys_of c.args.profile c.args.secret.now file) file (drop (length (n.drawn c.args.entropy.now)) (n.drawn c.make.new.entropy)) in
-    subst (λ (e : ChangeError). KeepsOrCommits d.reads d.images d.moment d.since (change_status (Err e)) (WithDraws (IsMade c.args.profile c.args.secret.now c.args.rows) n.tells own) HasNoMain IsNew c.args.disk.now c.make.new.disk)
+    subst (λ (e : ChangeError). KeepsOrCommits d.reads d.images d.moment d.since (change_status (Err e)) (WithDraws (IsMade c.args.profile c.args.secret.now c.args.rows) n.tells own) HasNoMain IsAlone c.args.disk.now c.make.new.disk)
     (sym c.make_error.ensures)
     (unmade_there d.reads d.images d.moment d.since g.met.D.Disk.counts_now g.met.D.Disk.only_now free c.in-Err.error (λ other. c.in-Err.ensures.only_old other told) (c.make.ensures.any_moment told))
 

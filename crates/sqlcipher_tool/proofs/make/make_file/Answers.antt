@@ -1,5 +1,5 @@
 use Rattle.std.proofs.Common.{◌≡◌, ⊎_elim, inl, inr, ℕ, List, drop, length, Result, Err, refl, sym, ap, subst, ◌∙◌, rules}
-use Rattle.disk_side.specs.Published.{IsNew}
+use Rattle.fresh_disk.specs.Published.{IsAlone}
 use Rattle.fresh_file.specs.Draws.{HasOwnDraws}
 use Rattle.make_job.specs.Made.{IsMade}
 use Rattle.page_codec.specs.Page.{keys_of}
@@ -44,7 +44,7 @@ returns-in-Ok-clause-changes g c = λ told.
     record {
       made = λ is. was_ok c.make_database.result c.in-Ok.report c.in-Ok.is c.make_database.ensures.made told;
       safely = λ free.
-          let was = subst (λ (r : Outcome). KeepsOrCommits d.reads d.images d.moment d.since (change_status r) (WithDraws (IsMade c.args.profile c.args.secret.now c.args.rows) g.E.Entropy.tells own) HasNoMain IsNew c.args.disk.now c.make_database.new.disk)
+          let was = subst (λ (r : Outcome). KeepsOrCommits d.reads d.images d.moment d.since (change_status r) (WithDraws (IsMade c.args.profile c.args.secret.now c.args.rows) g.E.Entropy.tells own) HasNoMain IsAlone c.args.disk.now c.make_database.new.disk)
           c.in-Ok.is (c.make_database.ensures.safely told free) in
           as_run d.reads d.images d.moment d.since g.met.D.Disk.counts_now g.met.D.Disk.only_now c.conclude.result
           (printed d.reads d.images d.moment d.since g.met.D.Disk.counts_now g.met.D.Disk.only_now Done c.conclude.result
@@ -94,7 +94,7 @@ returns-in-Err-Stopped-clause-changes g c = λ told.
     record {
       made = λ done. absurd (last_not_done _ c.conclude_stop.result last done);
       safely = λ free.
-          let was = subst (λ (r : Outcome). KeepsOrCommits d.reads d.images d.moment d.since (change_status r) (WithDraws (IsMade c.args.profile c.args.secret.now c.args.rows) g.E.Entropy.tells own) HasNoMain IsNew c.args.disk.now c.make_database.new.disk)
+          let was = subst (λ (r : Outcome). KeepsOrCommits d.reads d.images d.moment d.since (change_status r) (WithDraws (IsMade c.args.profile c.args.secret.now c.args.rows) g.E.Entropy.tells own) HasNoMain IsAlone c.args.disk.now c.make_database.new.disk)
           is (c.make_database.ensures.safely told free) in
           as_run d.reads d.images d.moment d.since g.met.D.Disk.counts_now g.met.D.Disk.only_now c.conclude_stop.result
           (printed d.reads d.images d.moment d.since g.met.D.Disk.counts_now g.met.D.Disk.only_now _ c.conclude_stop.result last was);
@@ -132,7 +132,7 @@ returns-in-Err-EntropyFault-clause-changes g c = λ told.
     record {
       made = λ done. absurd (entropy_not_done done);
       safely = λ free. as_run d.reads d.images d.moment d.since g.met.D.Disk.counts_now g.met.D.Disk.only_now EntropyFault
-          (subst (λ (r : Outcome). KeepsOrCommits d.reads d.images d.moment d.since (change_status r) (WithDraws (IsMade c.args.profile c.args.secret.now c.args.rows) g.E.Entropy.tells own) HasNoMain IsNew c.args.disk.now c.make_database.new.disk)
+          (subst (λ (r : Outcome). KeepsOrCommits d.reads d.images d.moment d.since (change_status r) (WithDraws (IsMade c.args.profile c.args.secret.now c.args.rows) g.E.Entropy.tells own) HasNoMain IsAlone c.args.disk.now c.make_database.new.disk)
           is (c.make_database.ensures.safely told free));
     }
 

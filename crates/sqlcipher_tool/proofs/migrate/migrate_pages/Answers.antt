@@ -2,14 +2,13 @@ use Rattle.std.proofs.Common.{◌≡◌, inr, ◌*◌, ◌≤◌, ℕ, List, dro
 use Rattle.cipher_profile.specs.Profile.{IsListed}
 use Rattle.cipher_profile.proofs.Layouts.{IsListed-laid_out}
 use Rattle.cipher_profile.specs.declared.profile.Profile.{Profile}
-use Rattle.disk_side.specs.Place.{LeavesOld}
-use Rattle.edge_model.specs.Files.{Files}
+use Rattle.fresh_disk.specs.Place.{LeavesOld}
+use Rattle.edge_model.specs.Files.{Files, main_of}
 use Rattle.fresh_file.specs.Draws.{HasOwnDraws}
 use Rattle.migrate_job.specs.Migrated.{IsMigrated}
-use Rattle.migrate_job.specs.Stops.{IsShown}
+use Rattle.migrate_job.specs.Stops.{IsMigrateShown}
 use Rattle.migrate_job.specs.declared.error.MigrateError.TheVariants.{DiskFault as DiskFails}
 use Rattle.page_codec.specs.Page.{keys_of}
-use Rattle.pager.specs.File.{main_of}
 use Rattle.pager.specs.Opening.{Opened}
 use Rattle.pager.specs.Pages.{opened_pages}
 use Rattle.rekey_job.proofs.Rewriting.{err_at}
@@ -80,7 +79,7 @@ returns-in-Err-clause-told g c = λ told answer is.
     let pages = opened_pages p.codec (main_of (d.reads p.disk.now)) p.count in
     let main = main_of (d.reads c.migrate-disk.result.0.now) in
     unmigrated_due c.args.profile (pages_under c.args.profile c.args.secret.now main) pages c.in-Err.error answer
-    (err_at (λ e. IsTrue d.tells → IsShown c.args.profile pages e) c.migrate-disk.result.2 c.in-Err.error c.in-Err.is c.migrate-disk.ensures.shown told)
+    (err_at (λ e. IsTrue d.tells → IsMigrateShown c.args.profile pages e) c.migrate-disk.result.2 c.in-Err.error c.in-Err.is c.migrate-disk.ensures.shown told)
     (λ limit same. c.migrate-disk.ensures.limit limit (c.in-Err.is ∙ ap (λ e. Err e) same))
     (ap (λ (error : ChangeError). change_answer (Err error)) (sym c.migrate_error.ensures) ∙ is)
 

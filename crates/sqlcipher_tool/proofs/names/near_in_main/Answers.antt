@@ -1,6 +1,6 @@
 use Rattle.std.proofs.Common.{◌≡◌, ◌∙◌, IsTrue, ap}
 use Rattle.edge_model.specs.Causes.{Rose}
-use Rattle.pager.specs.File.{main_of}
+use Rattle.edge_model.specs.Files.{main_of}
 use Rattle.pager.specs.Pages.{opened_pages}
 use Rattle.pager.specs.Reads.{then_read}
 use Rattle.sqlcipher_tool.specs.Names.{names_in, names_of}

@@ -1,6 +1,5 @@
 use Rattle.std.proofs.Common.{◌≡◌, ◌⊎◌, ◌∙◌, Result, sym, ap, subst}
-use Rattle.edge_model.specs.Files.{Files}
-use Rattle.pager.specs.File.{main_of}
+use Rattle.edge_model.specs.Files.{Files, main_of}
 use Rattle.pager.specs.Opening.{Opened, IsRefusedBy}
 use Rattle.pager.specs.Reads.{then_read}
 use Rattle.pager.specs.declared.opening.OpenError.{OpenError}

@@ -1,10 +1,9 @@
 use Rattle.std.proofs.Common.{◌≡◌, ◌⊎◌, ◌∙◌, ◌<◌, length, Result, sym, ap, subst}
-use Rattle.edge_model.specs.Files.{Files}
-use Rattle.pager.specs.File.{main_of}
+use Rattle.edge_model.specs.Files.{Files, main_of}
 use Rattle.pager.specs.Opening.{Opened, IsRefusedBy}
 use Rattle.pager.specs.Reads.{then_read}
 use Rattle.sqlcipher_tool.specs.Opening.{opened_with, unopened_answer}
-use Rattle.sqlcipher_tool.specs.Stop.{IsLate, IsOutside, stop_answer}
+use Rattle.sqlcipher_tool.specs.Stop.{IsLateStop, IsOutside, stop_answer}
 use Rattle.pager.specs.declared.opening.OpenError.{OpenError}
 use Rattle.sqlcipher_tool.specs.declared.opening.Stop.{Stop}
 use Rattle.sqlcipher_tool.proofs.Openings.{open_stop, same_opening}
@@ -37,7 +36,7 @@ returns-in-Err-clause-stop g c = λ told.
     subst (λ (stop : Stop). IsOutside stop ⊎ (stop_answer stop ≡ unopened_answer opened)) (sym c.from.ensures) (open_stop opened c.in-Err.error refused)
 
 pub returns-in-Err-clause-late : goal.returns-in-Err-clause-late
-returns-in-Err-clause-late g c = subst (λ (stop : Stop). IsLate stop) (sym c.from.ensures) (stop_late c.in-Err.error)
+returns-in-Err-clause-late g c = subst (λ (stop : Stop). IsLateStop stop) (sym c.from.ensures) (stop_late c.in-Err.error)
 
 pub returns-in-Err-clause-cause : goal.returns-in-Err-clause-cause
 returns-in-Err-clause-cause g c = λ is.

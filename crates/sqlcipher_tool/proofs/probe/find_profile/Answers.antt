@@ -1,5 +1,5 @@
 use Rattle.std.proofs.Common.{◌<◌, length, arith}
-use Rattle.pager.specs.File.{main_of}
+use Rattle.edge_model.specs.Files.{main_of}
 use Rattle.sqlcipher_tool.proofs.Probing.{short_fits_none}
 use Rattle.sqlcipher_tool.proofs.probe.find_profile.Goals as goal
 

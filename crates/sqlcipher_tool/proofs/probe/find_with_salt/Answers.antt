@@ -1,6 +1,5 @@
 use Rattle.std.proofs.Common.{◌≡◌, ◌∙◌, true, false, IsTrue, sym, ap, arith, rules}
-use Rattle.edge_model.specs.Files.{Files}
-use Rattle.pager.specs.File.{main_of}
+use Rattle.edge_model.specs.Files.{Files, main_of}
 use Rattle.pager.specs.Reads.{then_read}
 use Rattle.sqlcipher_tool.specs.Probe.{is_fitting}
 use Rattle.sqlcipher_tool.proofs.Probing.{ciphered_each, fits_first, fits_so, none_fits, none_yet}

@@ -3,7 +3,7 @@ use Rattle.std.specs.Prelude.{find}
 use Rattle.cipher_profile.specs.Keys.{page_keys}
 use Rattle.cipher_profile.specs.Profile.{probed_profiles}
 use Rattle.edge_model.specs.OnlyRead.{OnlyRead}
-use Rattle.pager.specs.File.{main_of}
+use Rattle.edge_model.specs.Files.{main_of}
 use Rattle.sqlcipher_tool.specs.Probe.{is_fitting}
 use Rattle.sqlcipher_tool.proofs.probe.find_with_salt.Given as goal
 

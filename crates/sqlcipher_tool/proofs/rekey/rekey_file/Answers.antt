@@ -1,26 +1,25 @@
 use Rattle.std.proofs.Common.{◌≡◌, inl, ℕ, List, length, drop, Ok, Err, Result, sym, ap, subst, ◌∙◌, arith, rules}
 use Rattle.std.specs.List.{Contains}
 use Rattle.std.specs.Prelude.{OnOk}
-use Rattle.disk_side.specs.Published.{IsNew as IsAlone}
+use Rattle.fresh_disk.specs.Published.{IsAlone}
 use Rattle.edge_model.specs.Causes.{Rose}
-use Rattle.edge_model.specs.Files.{Files}
+use Rattle.edge_model.specs.Files.{Files, main_of}
 use Rattle.edge_model.specs.Images.{From, LeavesOnly}
 use Rattle.edge_model.specs.Moments.{then_from}
 use Rattle.cipher_profile.specs.declared.profile.Profile.{Profile}
 use Rattle.page_codec.specs.Page.{FileKeys, keys_of, salt_of}
-use Rattle.pager.specs.File.{main_of}
 use Rattle.pager.specs.Opening.{Opened}
-use Rattle.pager.specs.Pages.{is_number, opened_pages}
+use Rattle.pager.specs.Pages.{is_page_number, opened_pages}
 use Rattle.pager.specs.declared.opening.OpenError.{OpenError}
 use Rattle.pager.proofs.UnreadLemmas.{no_held_pins}
 use Rattle.rekey_job.specs.Rekeyed.{IsRekeyed}
-use Rattle.transaction.specs.Facts.{SameFresh}
+use Rattle.atomic_commit.specs.Facts.{SameFresh}
 use Rattle.sqlcipher_tool.specs.Change.{KeepsOrCommits, change_status}
 use Rattle.rekey_job.specs.Draws.{FileDraws}
 use Rattle.sqlcipher_tool.specs.Holding.{HoldsOnly, held_by}
 use Rattle.sqlcipher_tool.specs.Opening.{opened_with}
 use Rattle.sqlcipher_tool.specs.Rekey.{rekey_due}
-use Rattle.sqlcipher_tool.specs.Renewal.{IsRekeyedSo, WithDraws, pages_of}
+use Rattle.sqlcipher_tool.specs.Renewal.{IsRekeyedSo, WithDraws, page_count_of}
 use Rattle.sqlcipher_tool.specs.Verify.{opened_answers}
 use Rattle.sqlcipher_tool.specs.Behind.{IsRefusedChange}
 use Rattle.sqlcipher_tool.proofs.Behind.{after_read, read_stays}
@@ -122,7 +121,7 @@ returns-clause-safely g c = λ told start.
     let end = c.rekey_pages-disk.result.0.now in
     let n = g.E.Entropy in
     let after = n.drawn c.rekey_pages-disk.result.1.now in
-    let own : List ℕ → Type 0 = λ m. FileDraws write m (is_number p.count) 0 (drop (length (n.drawn p.entropy.now)) after) in
+    let own : List ℕ → Type 0 = λ m. FileDraws write m (is_page_number p.count) 0 (drop (length (n.drawn p.entropy.now)) after) in
     let drawn = drop (length (n.drawn c.args.entropy.now)) after in
     let codec : p.codec ≡ keys = c.into_pager-pager.ensures.file.0 ∙ c.in-Ok.ensures.codec told in
     let same : main_of (d.reads p.disk.now) ≡ file = ap (λ (x : _). main_of (d.reads x)) made ∙ ap (λ (files : Files). main_of files) read.stays in
@@ -134,12 +133,12 @@ returns-clause-safely g c = λ told start.
     let is_key : (m : List ℕ) → salt_of m ≡ salt_of file → write ≡ keys_of c.args.new c.args.second.now m = λ m same_salt. c.codec_of_salt-write.ensures.keys m (salt ∙ sym same_salt) in
     let three = said_so d.reads d.images d.moment d.since g.met.D.Disk.counts_now g.met.D.Disk.only_now {R = λ m. HoldsOnly (held_by (keys_of c.args.new c.args.second.now m) m)}
     {is_other = WithDraws (λ m. IsRekeyedSo keys (keys_of c.args.new c.args.second.now m) file m) n.tells
-    (λ m. FileDraws (keys_of c.args.new c.args.second.now m) m (is_number (pages_of (keys_of c.args.new c.args.second.now m) m)) 0 drawn)} status
+    (λ m. FileDraws (keys_of c.args.new c.args.second.now m) m (is_page_number (page_count_of (keys_of c.args.new c.args.second.now m) m)) 0 drawn)} status
     (λ m is. (
       rekeyed_so keys (keys_of c.args.new c.args.second.now m) p.count file m c.requires.listed.0 c.requires.listed.1 c.requires.layout.0 c.requires.layout.1
           opened.fit (subst (λ (k : FileKeys). IsRekeyed keys k p.count file m) (is_key m is.0.salt) is.0),
       λ drawing. rekeyed_draws keys write p.count file m drawn c.args.new c.args.second.now is.0 (is_key m is.0.salt)
-          (subst (λ (x : _). FileDraws write m (is_number p.count) 0 (drop (length (n.drawn x)) after)) c.into_pager-pager.ensures.entropy.1 (is.1 drawing)),
+          (subst (λ (x : _). FileDraws write m (is_page_number p.count) 0 (drop (length (n.drawn x)) after)) c.into_pager-pager.ensures.entropy.1 (is.1 drawing)),
     ))
     (λ m is image holds. subst (λ (k : FileKeys). HoldsOnly (held_by k m) image) (is_key m is.0.salt) holds) two in
     let first : LeavesOnly d.moment d.since c.args.disk.now p.disk.now (HoldsOnly (held_by keys file)) =
@@ -187,7 +186,7 @@ returns-clause-own_draws g c =
     let same_salt : salt_of main ≡ salt_of file = is.salt ∙ ap salt_of same in
     rekeyed_draws p.codec write p.count (main_of (d.reads p.disk.now)) main (drop (length (g.E.Entropy.drawn c.args.entropy.now)) (g.E.Entropy.drawn after)) c.args.new c.args.second.now is
     (c.codec_of_salt-write.ensures.keys main (salt ∙ sym same_salt))
-    (subst (λ (x : _). FileDraws write main (is_number p.count) 0 (drop (length (g.E.Entropy.drawn x)) (g.E.Entropy.drawn after))) made.entropy.1 (draws told drawing))))
+    (subst (λ (x : _). FileDraws write main (is_page_number p.count) 0 (drop (length (g.E.Entropy.drawn x)) (g.E.Entropy.drawn after))) made.entropy.1 (draws told drawing))))
 
 pub returns-clause-disk_later : goal.returns-clause-disk_later
 returns-clause-disk_later g c =

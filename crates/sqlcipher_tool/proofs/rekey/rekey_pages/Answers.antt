@@ -1,6 +1,6 @@
 use Rattle.std.proofs.Common.{◌≡◌, inr, ◌≤◌, ℕ, List, drop, length, true, false, IsTrue, Some, Err, sym, ap, subst, ◌∙◌, arith}
-use Rattle.pager.specs.File.{main_of}
-use Rattle.pager.specs.Pages.{is_number, opened_pages}
+use Rattle.edge_model.specs.Files.{main_of}
+use Rattle.pager.specs.Pages.{is_page_number, opened_pages}
 use Rattle.sqlcipher_tool.specs.Answer.{done}
 use Rattle.sqlcipher_tool.specs.Change.{IsLateChange, KeepsOrCommits, change_answer, change_status}
 use Rattle.sqlcipher_tool.specs.declared.opening.ChangeError.{ChangeError}
@@ -12,7 +12,7 @@ use Rattle.sqlcipher_tool.proofs.VerifiedFile.{opened_header}
 use Rattle.rekey_job.specs.Draws.{FileDraws}
 use Rattle.rekey_job.specs.Rekeyed.{IsRekeyed}
 use Rattle.sqlcipher_tool.specs.Renewal.{WithDraws}
-use Rattle.rekey_job.specs.Stops.{IsShown, is_unwritten}
+use Rattle.rekey_job.specs.Stops.{IsRekeyShown, is_unwritten}
 use Rattle.rekey_job.specs.declared.error.RekeyError.{RekeyError}
 use Rattle.rekey_job.proofs.Rewriting.{err_at}
 use Rattle.edge_model.specs.OnlyRead.{OnlyRead}
@@ -51,7 +51,7 @@ returns-in-Ok-clause-safely g c = λ told.
     let end = c.rekey-disk.result.0.now in
     let main = main_of (d.reads end) in
     let sized : 1 ≤ p.codec.profile.page_size = omega (arith, p.lendable.least) in
-    let own : List ℕ → Type 0 = λ main. FileDraws c.args.write main (is_number p.count) 0 (drop (length (g.E.Entropy.drawn p.entropy.now)) (g.E.Entropy.drawn c.rekey-disk.result.1.now)) in
+    let own : List ℕ → Type 0 = λ main. FileDraws c.args.write main (is_page_number p.count) 0 (drop (length (g.E.Entropy.drawn p.entropy.now)) (g.E.Entropy.drawn c.rekey-disk.result.1.now)) in
     let rekeyed = was_ok c.rekey-disk.result.2 c.in-Ok.field-0 c.in-Ok.is c.rekey-disk.ensures.rekeyed told in
     let either = was_ok c.rekey-disk.result.2 c.in-Ok.field-0 c.in-Ok.is c.rekey-disk.ensures.one_new told in
     inr (done_rekey d.reads d.images d.moment d.since g.met.D.Disk.counts_now g.met.D.Disk.only_now p.codec c.args.write (main_of (d.reads p.disk.now)) p.header p.count (c.requires.opened told) p.some sized
@@ -70,7 +70,7 @@ pub returns-in-Err-clause-told : goal.returns-in-Err-clause-told
 returns-in-Err-clause-told g c = λ told answer is.
     let p = c.args.pager in
     shown_due (opened_pages p.codec (main_of (g.D.Disk.reads p.disk.now)) p.count) c.in-Err.error answer
-    (err_at (λ e. IsTrue g.D.Disk.tells → IsShown (opened_pages p.codec (main_of (g.D.Disk.reads p.disk.now)) p.count) e) c.rekey-disk.result.2 c.in-Err.error c.in-Err.is c.rekey-disk.ensures.shown told)
+    (err_at (λ e. IsTrue g.D.Disk.tells → IsRekeyShown (opened_pages p.codec (main_of (g.D.Disk.reads p.disk.now)) p.count) e) c.rekey-disk.result.2 c.in-Err.error c.in-Err.is c.rekey-disk.ensures.shown told)
     (ap (λ (error : ChangeError). change_answer (Err error)) (sym c.rekey_error.ensures) ∙ is)
 
 pub returns-in-Err-clause-safely : goal.returns-in-Err-clause-safely
@@ -82,7 +82,7 @@ returns-in-Err-clause-safely g c = λ told.
     let sized : 1 ≤ p.codec.profile.page_size = omega (arith, p.lendable.least) in
     let is = c.in-Err.is in
     let tells = g.E.Entropy.tells in
-    let own : List ℕ → Type 0 = λ main. FileDraws c.args.write main (is_number p.count) 0 (drop (length (g.E.Entropy.drawn p.entropy.now)) (g.E.Entropy.drawn c.rekey-disk.result.1.now)) in
+    let own : List ℕ → Type 0 = λ main. FileDraws c.args.write main (is_page_number p.count) 0 (drop (length (g.E.Entropy.drawn p.entropy.now)) (g.E.Entropy.drawn c.rekey-disk.result.1.now)) in
     subst (λ (error : ChangeError). KeepsOrCommits d.reads d.images d.moment d.since (change_status (Err error)) (WithDraws (IsRekeyed p.codec c.args.write p.count file) tells own)
     (Old d.reads d.images d.moment d.since g.met.D.Disk.counts_now g.met.D.Disk.only_now p.codec c.args.write file p.header p.count (c.requires.opened told) p.some sized c.requires.layout.0 c.requires.layout.1 p.disk.now end (c.requires.alone told) tells own)
     (New d.reads d.images d.moment d.since g.met.D.Disk.counts_now g.met.D.Disk.only_now p.codec c.args.write file p.header p.count (c.requires.opened told) p.some sized c.requires.layout.0 c.requires.layout.1 p.disk.now end (c.requires.alone told) tells own) p.disk.now end)

@@ -1,6 +1,6 @@
 use Rattle.std.proofs.Common.{◌≡◌, ◌<◌, List, ℕ, Err, ap, subst}
 use Rattle.db_format.specs.Pages.{Pages}
-use Rattle.pager.specs.File.{main_of}
+use Rattle.edge_model.specs.Files.{main_of}
 use Rattle.salvage_scan.specs.Answer.{IsKeyAnswered, IsStop}
 use Rattle.salvage_scan.specs.Salvage.{IsNoneAccepted, file_pages}
 use Rattle.salvage_scan.specs.declared.error.SalvageError.{SalvageError}

@@ -1,15 +1,14 @@
 use Rattle.std.proofs.Common.{◌≡◌, ⊎_elim, inl, ◌≤◌, ◌==◌, ℕ, List, [], drop, length, Option, Result, Ok, Err, IsTrue, refl, sym, ap, subst, ◌∙◌, arith, rules}
 use Rattle.std.specs.Prelude.{OnOk, unwrap_or}
-use Rattle.disk_side.specs.Published.{IsNew as IsAlone}
-use Rattle.edge_model.specs.Files.{Files}
+use Rattle.fresh_disk.specs.Published.{IsAlone}
+use Rattle.edge_model.specs.Files.{Files, main_of}
 use Rattle.edge_model.specs.Images.{From, LeavesOnly}
 use Rattle.edge_model.specs.Moments.{then_from}
 use Rattle.cipher_profile.specs.Profile.{IsListed}
 use Rattle.cipher_profile.specs.declared.profile.Profile.{Profile}
 use Rattle.page_codec.specs.Page.{FileKeys, keys_of, salt_of}
-use Rattle.pager.specs.File.{main_of}
 use Rattle.pager.specs.Opening.{file_opened}
-use Rattle.transaction.specs.Facts.{SameFresh}
+use Rattle.atomic_commit.specs.Facts.{SameFresh}
 use Rattle.sqlcipher_tool.specs.Answer.{done}
 use Rattle.sqlcipher_tool.specs.Change.{KeepsOrCommits, change_answer, change_status}
 use Rattle.sqlcipher_tool.specs.Holding.{HoldsOnly, held_by}

@@ -1,4 +1,4 @@
-use Rattle.pager.specs.File.{main_of}
+use Rattle.edge_model.specs.Files.{main_of}
 use Rattle.sqlcipher_tool.proofs.Databases.{any_base}
 use Rattle.sqlcipher_tool.proofs.stamp.stamp_file.Given as goal
 

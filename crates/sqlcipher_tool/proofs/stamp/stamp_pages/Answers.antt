@@ -3,15 +3,14 @@ use Rattle.edge_model.specs.Images.{From, LeavesOnly}
 use Rattle.edge_model.specs.Moments.{started_from, then_from}
 use Rattle.page_codec.specs.Page.{FileKeys}
 use Rattle.pager.specs.Changed.{same_layout}
-use Rattle.pager.specs.File.{main_of}
-use Rattle.pager.specs.Pages.{is_number}
+use Rattle.edge_model.specs.Files.{main_of}
+use Rattle.pager.specs.Pages.{is_page_number}
 use Rattle.pager.specs.UnderWay.{HasNewPages, is_touched, seen_pages}
 use Rattle.pager.proofs.UnderWayLemmas.{same_main}
-use Rattle.rollback_journal.specs.Playing.{main_of as read_main}
-use Rattle.transaction.specs.declared.committing.CommitFault.TheVariants.{EntropyFault as Undrawn}
-use Rattle.transaction.specs.Commit.{LeavesChanged}
-use Rattle.transaction.specs.Database.{HoldsOld}
-use Rattle.transaction.specs.Facts.{SameFresh}
+use Rattle.atomic_commit.specs.declared.committing.CommitFault.TheVariants.{EntropyFault as Undrawn}
+use Rattle.atomic_commit.specs.Commit.{LeavesChanged}
+use Rattle.atomic_commit.specs.Database.{HoldsOld}
+use Rattle.atomic_commit.specs.Facts.{SameFresh}
 use Rattle.sqlcipher_tool.specs.Change.{KeepsOrCommits, change_status}
 use Rattle.sqlcipher_tool.specs.Holding.{HoldsOnly, held_by}
 use Rattle.sqlcipher_tool.specs.Renewal.{WithDraws}
@@ -89,11 +88,11 @@ returns-in-Err-write_fields-clause-told g c = λ told.
     let e = c.in-Ok.ensures in
     let file = main_of (d.reads p.disk.now) in
     let main = sym (same_main (d.reads t.disk.now)) ∙ ap (λ (x : _). main_of (d.reads x)) e.disk.1 in
-    let sees : SeesFirst p.codec file (seen_pages t.read t.write (read_main (d.reads t.disk.now)) t.count t.written t.changed.held) =
-    sees_first p.codec t.read t.write file (read_main (d.reads t.disk.now)) p.header p.count t.count t.written t.changed.held e.file.0 main e.file.2 e.unchanged.0 (e.untouched 1) p.some r.1.1.1.1.1.0 (r.1.1.1.1.1.1.1.0 told) in
+    let sees : SeesFirst p.codec file (seen_pages t.read t.write (main_of (d.reads t.disk.now)) t.count t.written t.changed.held) =
+    sees_first p.codec t.read t.write file (main_of (d.reads t.disk.now)) p.header p.count t.count t.written t.changed.held e.file.0 main e.file.2 e.unchanged.0 (e.untouched 1) p.some r.1.1.1.1.1.0 (r.1.1.1.1.1.1.1.0 told) in
     let n = g.E.Entropy in
     let txn = c.write_fields.new.txn in
-    inl (page_faults d.tells (seen_pages t.read t.write (read_main (d.reads t.disk.now)) t.count t.written t.changed.held)
+    inl (page_faults d.tells (seen_pages t.read t.write (main_of (d.reads t.disk.now)) t.count t.written t.changed.held)
     (d.faults t.disk.now) (d.faults txn.disk.now) (n.faults t.entropy.now) (n.faults txn.entropy.now) c.in-Err-write_fields.error c.page_error.result c.in-Err-write_fields.ensures.refused c.page_error.ensures told sees.accepted)
 
 pub returns-in-Err-write_fields-clause-safely : goal.returns-in-Err-write_fields-clause-safely
@@ -135,19 +134,19 @@ returns-in-Ok-done-clause-safely g c = λ told.
     let e = c.in-Ok.ensures in
     let file = main_of (d.reads p.disk.now) in
     let main = sym (same_main (d.reads t.disk.now)) ∙ ap (λ (x : _). main_of (d.reads x)) e.disk.1 in
-    let sees : SeesFirst p.codec file (seen_pages t.read t.write (read_main (d.reads t.disk.now)) t.count t.written t.changed.held) =
-    sees_first p.codec t.read t.write file (read_main (d.reads t.disk.now)) p.header p.count t.count t.written t.changed.held e.file.0 main e.file.2 e.unchanged.0 (e.untouched 1) p.some r.1.1.1.1.1.0 (r.1.1.1.1.1.1.1.0 told) in
+    let sees : SeesFirst p.codec file (seen_pages t.read t.write (main_of (d.reads t.disk.now)) t.count t.written t.changed.held) =
+    sees_first p.codec t.read t.write file (main_of (d.reads t.disk.now)) p.header p.count t.count t.written t.changed.held e.file.0 main e.file.2 e.unchanged.0 (e.untouched 1) p.some r.1.1.1.1.1.0 (r.1.1.1.1.1.1.1.0 told) in
     let txn = c.write_fields.new.txn in
     let keys : txn.write ≡ p.codec = c.write_fields.ensures.file.1 ∙ (e.file.1 ∙ r.1.1.1.1.0) in
     let touched = is_touched txn.written txn.changed.held in
-    let seen = (seen_pages txn.read txn.write (read_main (d.reads txn.disk.now)) txn.count txn.written txn.changed.held).page in
+    let seen = (seen_pages txn.read txn.write (main_of (d.reads txn.disk.now)) txn.count txn.written txn.changed.held).page in
     let stamped = c.in_default.ensures in
     let page = stamped.stamped told ∙ page_is p.codec file _ p.header c.header.result.now p.count c.pages-pages.result _ c.args.field c.args.value (r.1.1.1.1.1.1.1.0 told) sees.page c.header.ensures refl c.pages-pages.ensures in
-    let one : (m : ℕ) → is_number p.count m ≡ true → touched m ≡ (m == 1) = λ m num.
-    stamped.touched m (subst (λ (k : ℕ). is_number k m ≡ true) (sym e.file.2) num) ∙ one_alone m (is_touched t.written t.changed.held m) (e.untouched m) in
+    let one : (m : ℕ) → is_page_number p.count m ≡ true → touched m ≡ (m == 1) = λ m num.
+    stamped.touched m (subst (λ (k : ℕ). is_page_number k m ≡ true) (sym e.file.2) num) ∙ one_alone m (is_touched t.written t.changed.held m) (e.untouched m) in
     let run = subst (λ (x : _). LeavesOnly d.moment d.since x txn.disk.now (HoldsOld g.start.base)) e.disk.1 (c.write_fields.ensures.any_moment told) in
     let end = c.end-disk.result.0.now in
-    let now = read_main (d.reads end) in
+    let now = main_of (d.reads end) in
     let after = g.E.Entropy.drawn c.end-disk.result.1.now in
     let has = subst (λ (k : FileKeys). HasNewPages g.start k touched seen g.E.Entropy.tells after now) keys (was_ok c.end-disk.result.2 c.in-Ok-done.field-0 c.in-Ok-done.is c.end-disk.ensures.changed told) in
     subst (λ (l : List ℕ). KeepsOrCommits d.reads d.images d.moment d.since Done (IsNewBy p.codec c.args.field c.args.value file g.E.Entropy.tells after l)
@@ -166,19 +165,19 @@ returns-in-Ok-done-clause-own_draws g c = λ told drawing.
     let e = c.in-Ok.ensures in
     let file = main_of (d.reads p.disk.now) in
     let main = sym (same_main (d.reads t.disk.now)) ∙ ap (λ (x : _). main_of (d.reads x)) e.disk.1 in
-    let sees : SeesFirst p.codec file (seen_pages t.read t.write (read_main (d.reads t.disk.now)) t.count t.written t.changed.held) =
-    sees_first p.codec t.read t.write file (read_main (d.reads t.disk.now)) p.header p.count t.count t.written t.changed.held e.file.0 main e.file.2 e.unchanged.0 (e.untouched 1) p.some r.1.1.1.1.1.0 (r.1.1.1.1.1.1.1.0 told) in
+    let sees : SeesFirst p.codec file (seen_pages t.read t.write (main_of (d.reads t.disk.now)) t.count t.written t.changed.held) =
+    sees_first p.codec t.read t.write file (main_of (d.reads t.disk.now)) p.header p.count t.count t.written t.changed.held e.file.0 main e.file.2 e.unchanged.0 (e.untouched 1) p.some r.1.1.1.1.1.0 (r.1.1.1.1.1.1.1.0 told) in
     let txn = c.write_fields.new.txn in
     let keys : txn.write ≡ p.codec = c.write_fields.ensures.file.1 ∙ (e.file.1 ∙ r.1.1.1.1.0) in
     let touched = is_touched txn.written txn.changed.held in
-    let seen = (seen_pages txn.read txn.write (read_main (d.reads txn.disk.now)) txn.count txn.written txn.changed.held).page in
+    let seen = (seen_pages txn.read txn.write (main_of (d.reads txn.disk.now)) txn.count txn.written txn.changed.held).page in
     let stamped = c.in_default.ensures in
     let page = stamped.stamped told ∙ page_is p.codec file _ p.header c.header.result.now p.count c.pages-pages.result _ c.args.field c.args.value (r.1.1.1.1.1.1.1.0 told) sees.page c.header.ensures refl c.pages-pages.ensures in
-    let one : (m : ℕ) → is_number p.count m ≡ true → touched m ≡ (m == 1) = λ m num.
-    stamped.touched m (subst (λ (k : ℕ). is_number k m ≡ true) (sym e.file.2) num) ∙ one_alone m (is_touched t.written t.changed.held m) (e.untouched m) in
+    let one : (m : ℕ) → is_page_number p.count m ≡ true → touched m ≡ (m == 1) = λ m num.
+    stamped.touched m (subst (λ (k : ℕ). is_page_number k m ≡ true) (sym e.file.2) num) ∙ one_alone m (is_touched t.written t.changed.held m) (e.untouched m) in
     let run = subst (λ (x : _). LeavesOnly d.moment d.since x txn.disk.now (HoldsOld g.start.base)) e.disk.1 (c.write_fields.ensures.any_moment told) in
     let end = c.end-disk.result.0.now in
-    let now = read_main (d.reads end) in
+    let now = main_of (d.reads end) in
     let after = g.E.Entropy.drawn c.end-disk.result.1.now in
     let has = subst (λ (k : FileKeys). HasNewPages g.start k touched seen g.E.Entropy.tells after now) keys (was_ok c.end-disk.result.2 c.in-Ok-done.field-0 c.in-Ok-done.is c.end-disk.ensures.changed told) in
     subst (λ (l : List ℕ). FileDraws p.codec (main_of (d.reads end)) (λ m. m == 1) 0 (drop (length l) after)) r.1.1.1.0
@@ -194,19 +193,19 @@ returns-in-Err-DiskFault-clause-safely g c = λ told.
     let e = c.in-Ok.ensures in
     let file = main_of (d.reads p.disk.now) in
     let main = sym (same_main (d.reads t.disk.now)) ∙ ap (λ (x : _). main_of (d.reads x)) e.disk.1 in
-    let sees : SeesFirst p.codec file (seen_pages t.read t.write (read_main (d.reads t.disk.now)) t.count t.written t.changed.held) =
-    sees_first p.codec t.read t.write file (read_main (d.reads t.disk.now)) p.header p.count t.count t.written t.changed.held e.file.0 main e.file.2 e.unchanged.0 (e.untouched 1) p.some r.1.1.1.1.1.0 (r.1.1.1.1.1.1.1.0 told) in
+    let sees : SeesFirst p.codec file (seen_pages t.read t.write (main_of (d.reads t.disk.now)) t.count t.written t.changed.held) =
+    sees_first p.codec t.read t.write file (main_of (d.reads t.disk.now)) p.header p.count t.count t.written t.changed.held e.file.0 main e.file.2 e.unchanged.0 (e.untouched 1) p.some r.1.1.1.1.1.0 (r.1.1.1.1.1.1.1.0 told) in
     let txn = c.write_fields.new.txn in
     let keys : txn.write ≡ p.codec = c.write_fields.ensures.file.1 ∙ (e.file.1 ∙ r.1.1.1.1.0) in
     let touched = is_touched txn.written txn.changed.held in
-    let seen = (seen_pages txn.read txn.write (read_main (d.reads txn.disk.now)) txn.count txn.written txn.changed.held).page in
+    let seen = (seen_pages txn.read txn.write (main_of (d.reads txn.disk.now)) txn.count txn.written txn.changed.held).page in
     let stamped = c.in_default.ensures in
     let page = stamped.stamped told ∙ page_is p.codec file _ p.header c.header.result.now p.count c.pages-pages.result _ c.args.field c.args.value (r.1.1.1.1.1.1.1.0 told) sees.page c.header.ensures refl c.pages-pages.ensures in
-    let one : (m : ℕ) → is_number p.count m ≡ true → touched m ≡ (m == 1) = λ m num.
-    stamped.touched m (subst (λ (k : ℕ). is_number k m ≡ true) (sym e.file.2) num) ∙ one_alone m (is_touched t.written t.changed.held m) (e.untouched m) in
+    let one : (m : ℕ) → is_page_number p.count m ≡ true → touched m ≡ (m == 1) = λ m num.
+    stamped.touched m (subst (λ (k : ℕ). is_page_number k m ≡ true) (sym e.file.2) num) ∙ one_alone m (is_touched t.written t.changed.held m) (e.untouched m) in
     let run = subst (λ (x : _). LeavesOnly d.moment d.since x txn.disk.now (HoldsOld g.start.base)) e.disk.1 (c.write_fields.ensures.any_moment told) in
     let end = c.end-disk.result.0.now in
-    let now = read_main (d.reads end) in
+    let now = main_of (d.reads end) in
     let after = g.E.Entropy.drawn c.end-disk.result.1.now in
     let next = subst (λ (k : FileKeys). LeavesChanged d.moment d.since g.start.base (HasNewPages g.start k touched seen g.E.Entropy.tells after) txn.disk.now end) keys (c.end-disk.ensures.any_moment told) in
     subst (λ (l : List ℕ). KeepsOrCommits d.reads d.images d.moment d.since DiskFault (IsNewBy p.codec c.args.field c.args.value file g.E.Entropy.tells after l)

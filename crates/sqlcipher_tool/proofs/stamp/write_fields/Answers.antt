@@ -1,7 +1,7 @@
 use Rattle.std.proofs.Common.{◌≡◌, ◌==◌, ℕ, Bool, true, false, List, Err, if◌then◌else◌, refl, sym, ap, subst, ◌∙◌, arith, rules}
-use Rattle.pager.specs.Pages.{is_number}
+use Rattle.pager.specs.Pages.{is_page_number}
 use Rattle.pager.specs.UnderWay.{seen_pages}
-use Rattle.rollback_journal.specs.Playing.{main_of as read_main}
+use Rattle.edge_model.specs.Files.{main_of}
 use Rattle.edge_model.specs.Moments.{and_then, then_from}
 use Rattle.sqlcipher_tool.specs.Stamp.{with_field}
 use Rattle.sqlcipher_tool.proofs.Stamping.{refused_later}
@@ -54,9 +54,9 @@ again m a b d one two = one ∙ ap (λ (b : Bool). if m == 1 then true else b) t
 
 pub returns-clause-touched : goal.returns-clause-touched
 returns-clause-touched g c = λ m num.
-    let two = subst (λ (k : ℕ). is_number k m ≡ true) (sym c.write_number.ensures.file.2) num in
-    let three = subst (λ (k : ℕ). is_number k m ≡ true) (sym c.write_number-2.ensures.file.2) two in
-    let four = subst (λ (k : ℕ). is_number k m ≡ true) (sym c.write_number-3.ensures.file.2) three in
+    let two = subst (λ (k : ℕ). is_page_number k m ≡ true) (sym c.write_number.ensures.file.2) num in
+    let three = subst (λ (k : ℕ). is_page_number k m ≡ true) (sym c.write_number-2.ensures.file.2) two in
+    let four = subst (λ (k : ℕ). is_page_number k m ≡ true) (sym c.write_number-3.ensures.file.2) three in
     again m _ _ _ (c.in_ok-write_number-4.ensures.touched m four)
     (again m _ _ _ (c.in_ok-write_number-3.ensures.touched m three) (again m _ _ _ (c.in_ok-write_number-2.ensures.touched m two) (c.in_ok-write_number.ensures.touched m num)))
 
@@ -69,8 +69,8 @@ returns-in_err-write_number-2-clause-refused g c =
     let before = c.write_number.new.txn in
     let after = c.write_number-2.new.txn in
     let is : c.from_residual-in_err-write_number-2.result ≡ Err c.in_err-write_number-2.field-0.0 = search rules in
-    rw is (refused_later d.tells (seen_pages first.read first.write (read_main (d.reads first.disk.now)) first.count first.written first.changed.held)
-    (seen_pages before.read before.write (read_main (d.reads before.disk.now)) before.count before.written before.changed.held)
+    rw is (refused_later d.tells (seen_pages first.read first.write (main_of (d.reads first.disk.now)) first.count first.written first.changed.held)
+    (seen_pages before.read before.write (main_of (d.reads before.disk.now)) before.count before.written before.changed.held)
     (d.faults first.disk.now) (d.faults before.disk.now) (d.faults after.disk.now) (n.faults first.entropy.now) (n.faults before.entropy.now) (n.faults after.entropy.now) c.in_err-write_number-2.field-0.0
     c.write_number.ensures.file.2 c.in_ok-write_number.ensures.accepted c.write_number.ensures.later.0 c.write_number.ensures.later.1 c.in_err-write_number-2.ensures.refused)
 
@@ -82,8 +82,8 @@ returns-in_err-write_number-3-clause-refused g c =
     let before = c.write_number-2.new.txn in
     let after = c.write_number-3.new.txn in
     let is : c.from_residual-in_err-write_number-3.result ≡ Err c.in_err-write_number-3.field-0.0 = search rules in
-    rw is (refused_later d.tells (seen_pages first.read first.write (read_main (d.reads first.disk.now)) first.count first.written first.changed.held)
-    (seen_pages before.read before.write (read_main (d.reads before.disk.now)) before.count before.written before.changed.held)
+    rw is (refused_later d.tells (seen_pages first.read first.write (main_of (d.reads first.disk.now)) first.count first.written first.changed.held)
+    (seen_pages before.read before.write (main_of (d.reads before.disk.now)) before.count before.written before.changed.held)
     (d.faults first.disk.now) (d.faults before.disk.now) (d.faults after.disk.now) (n.faults first.entropy.now) (n.faults before.entropy.now) (n.faults after.entropy.now) c.in_err-write_number-3.field-0.0
     (c.write_number-2.ensures.file.2 ∙ c.write_number.ensures.file.2) c.in_ok-write_number-2.ensures.accepted
     (omega (arith, c.write_number.ensures.later.0, c.write_number-2.ensures.later.0)) (omega (arith, c.write_number.ensures.later.1, c.write_number-2.ensures.later.1)) c.in_err-write_number-3.ensures.refused)
@@ -96,8 +96,8 @@ returns-in_err-write_number-4-clause-refused g c =
     let before = c.write_number-3.new.txn in
     let after = c.write_number-4.new.txn in
     let is : c.from_residual-in_err-write_number-4.result ≡ Err c.in_err-write_number-4.field-0.0 = search rules in
-    rw is (refused_later d.tells (seen_pages first.read first.write (read_main (d.reads first.disk.now)) first.count first.written first.changed.held)
-    (seen_pages before.read before.write (read_main (d.reads before.disk.now)) before.count before.written before.changed.held)
+    rw is (refused_later d.tells (seen_pages first.read first.write (main_of (d.reads first.disk.now)) first.count first.written first.changed.held)
+    (seen_pages before.read before.write (main_of (d.reads before.disk.now)) before.count before.written before.changed.held)
     (d.faults first.disk.now) (d.faults before.disk.now) (d.faults after.disk.now) (n.faults first.entropy.now) (n.faults before.entropy.now) (n.faults after.entropy.now) c.in_err-write_number-4.field-0.0
     (c.write_number-3.ensures.file.2 ∙ (c.write_number-2.ensures.file.2 ∙ c.write_number.ensures.file.2)) c.in_ok-write_number-3.ensures.accepted
     (omega (arith, c.write_number.ensures.later.0, c.write_number-2.ensures.later.0, c.write_number-3.ensures.later.0)) (omega (arith, c.write_number.ensures.later.1, c.write_number-2.ensures.later.1, c.write_number-3.ensures.later.1)) c.in_err-write_number-4.ensures.refused)

@@ -1,7 +1,7 @@
 use Rattle.std.proofs.Common.{◌≡◌, ◌+◌, ◌++◌, List, ℕ, IsTrue, Option, Some, arith, rules, sym, ap, ◌∙◌, subst}
 use Rattle.std.specs.Prelude.{slice_get, option_to_list}
 use Rattle.std.specs.Option.{option_or}
-use Rattle.pager.specs.File.{main_of}
+use Rattle.edge_model.specs.Files.{main_of}
 use Rattle.pager.specs.Reads.{then_read}
 use Rattle.sqlcipher_tool.specs.Tags.{AreKnown, is_refused, refused_page, refused_pages}
 use Rattle.sqlcipher_tool.specs.Text.{tag_lines}

@@ -1,7 +1,7 @@
 use Rattle.std.proofs.Common.{◌≡◌, ◌++◌, ◌+◌, ◌≤◌, IsTrue}
 use Rattle.std.specs.Prelude.{slice_get}
 use Rattle.edge_model.specs.OnlyRead.{OnlyRead}
-use Rattle.pager.specs.File.{main_of}
+use Rattle.edge_model.specs.Files.{main_of}
 use Rattle.sqlcipher_tool.specs.Tags.{AreKnown, refused_pages}
 use Rattle.sqlcipher_tool.specs.Text.{tag_lines}
 use Rattle.sqlcipher_tool.proofs.tags.check_pages.Given as goal

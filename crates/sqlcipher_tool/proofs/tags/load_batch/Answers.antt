@@ -3,8 +3,8 @@ use Rattle.std.proofs.lemmas.List.{get_or_append_left, length-take-le, take_at}
 use Rattle.std.specs.Prelude.{Bool, false}
 use Rattle.cipher_profile.specs.declared.profile.Profile.{Profile}
 use Rattle.page_codec.specs.Page.{accepts}
-use Rattle.page_codec.specs.Pages.{page_at}
-use Rattle.pager.specs.File.{main_of}
+use Rattle.page_codec.specs.Pages.{nth_page}
+use Rattle.edge_model.specs.Files.{main_of}
 use Rattle.sqlcipher_tool.proofs.Batches.{batch_known}
 use Rattle.sqlcipher_tool.proofs.tags.load_batch.Goals as goal
 
@@ -31,4 +31,4 @@ returns-clause-known g c = λ told.
     (subst (λ (s : ℕ). c.args.done * s + length new ≤ length main → new ≡ take (length new) (drop (c.args.done * s) main)) inner
     (c.in_ok-read_main.ensures.told told))
     (λ i lt. get_or_append_left held _ false i (omega (arith, places, lt)) ∙ c.tags_hold.ensures.value i (omega (arith, places, lt))
-    ∙ ap (λ (l : List ℕ). accepts keys (c.args.done + 1 + i) (page_at size l i)) read)
+    ∙ ap (λ (l : List ℕ). accepts keys (c.args.done + 1 + i) (nth_page size l i)) read)

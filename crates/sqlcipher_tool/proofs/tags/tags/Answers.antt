@@ -7,7 +7,7 @@ use Rattle.sqlcipher_tool.proofs.Conclusions.{recovery_status, recovery_text}
 use Rattle.sqlcipher_tool.proofs.Behind.{recovery_last}
 use Rattle.sqlcipher_tool.proofs.Changed.{stop_last}
 use Rattle.sqlcipher_tool.proofs.LeftAlone.{unwritten_read}
-use Rattle.pager.specs.File.{main_of}
+use Rattle.edge_model.specs.Files.{main_of}
 use Rattle.sqlcipher_tool.proofs.Recoveries.{read_after, tags_recovered}
 use Rattle.sqlcipher_tool.proofs.tags.tags.Goals as goal
 

@@ -1,7 +1,7 @@
 use Rattle.std.proofs.Common.{ap}
-use Rattle.sqlcipher_tool.specs.Answer.{first_of}
+use Rattle.sqlcipher_tool.specs.Answer.{first_answer}
 use Rattle.page_codec.specs.Page.{keys_of}
-use Rattle.pager.specs.File.{main_of}
+use Rattle.edge_model.specs.Files.{main_of}
 use Rattle.sqlcipher_tool.specs.Tags.{tags_causes, file_answer}
 use Rattle.sqlcipher_tool.proofs.Conclusions.{no_part, stop_text}
 use Rattle.sqlcipher_tool.proofs.tags.tags_of_main.Goals as goal
@@ -11,7 +11,7 @@ returns-in-Err-clause-text g c = λ printed told.
     let main = main_of (g.D.Disk.reads c.args.disk.now) in
     let profile = c.args.profile in
     let secret = c.args.secret.now in
-    stop_text c.in-Err.stop (first_of (tags_causes profile secret main))
+    stop_text c.in-Err.stop (first_answer (tags_causes profile secret main))
     (file_answer (keys_of profile secret main) main) c.conclude_stop.result (g.S.Sink.taken c.args.out.now)
     (g.S.Sink.taken c.conclude_stop.new.out)
     (c.in-Err.ensures.stop told)

@@ -1,7 +1,7 @@
 use Rattle.std.proofs.Common.{◌≡◌, inl, inr, ⊎_elim, ◌++◌, List, ℕ, None, Some, sym, ap, ◌∙◌, subst}
 use Rattle.std.specs.Prelude.{slice_get}
 use Rattle.sqlcipher_tool.specs.Answer.{Answer, Puts, IsFault}
-use Rattle.pager.specs.File.{main_of}
+use Rattle.edge_model.specs.Files.{main_of}
 use Rattle.sqlcipher_tool.specs.Tags.{refused_pages, pages_answer}
 use Rattle.sqlcipher_tool.proofs.PagesAnswer.{all_accepted, none_printed, some_refused, part_of_answer, part_of_begun}
 use Rattle.sqlcipher_tool.proofs.tags.tags_of_pages.Goals as goal

@@ -2,7 +2,7 @@ use Rattle.std.proofs.Common.{◌≡◌, rules, List, drop, length, refl, ◌∷
 use mir.Val.{SFits}
 use mir.Syntax.{w64}
 use Rattle.cipher_profile.specs.declared.keys.Secret.{Secret}
-use Rattle.pager.specs.File.{main_of}
+use Rattle.edge_model.specs.Files.{main_of}
 use Rattle.sqlcipher_tool.specs.Crash.{IsDrawnFor, IsSafely, Keeps, MakesWith}
 use Rattle.sqlcipher_tool.specs.Renewal.{same_key}
 use Rattle.sqlcipher_tool.specs.Words.{alters, finds}

@@ -1,5 +1,5 @@
 use Rattle.std.proofs.Common.{◌≡◌, ◌∙◌, drop, length, refl, Some, sym, ap, subst, rules, false, Option, None}
-use Rattle.pager.specs.File.{main_of}
+use Rattle.edge_model.specs.Files.{main_of}
 use Rattle.sqlcipher_tool.specs.Crash.{GaveKeys, Keeps}
 use Rattle.sqlcipher_tool.specs.Due.{asked_answers, word_refusal}
 use Rattle.sqlcipher_tool.specs.Holding.{disk_run}

@@ -2,7 +2,7 @@ use Rattle.std.proofs.Common.{◌≡◌, ◌≢◌, drop, length, ◌∷◌, [],
 use Rattle.cipher_profile.specs.declared.key_line.KeyError.{KeyError}
 use Rattle.cipher_profile.specs.declared.key_line.KeyError.TheVariants.{SourceFault}
 use Rattle.cipher_profile.specs.declared.keys.Secret.{Secret}
-use Rattle.pager.specs.File.{main_of}
+use Rattle.edge_model.specs.Files.{main_of}
 use Rattle.sqlcipher_tool.specs.Crash.{GaveKeys}
 use Rattle.sqlcipher_tool.specs.Due.{key_lines, keyed_answers, rest_line, secret_line}
 use Rattle.sqlcipher_tool.specs.Holding.{disk_run}

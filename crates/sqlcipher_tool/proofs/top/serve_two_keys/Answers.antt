@@ -4,7 +4,7 @@ use Rattle.cipher_profile.specs.declared.key_line.KeyError.TheVariants.{SourceFa
 use Rattle.cipher_profile.specs.declared.keys.Secret.{Secret}
 use Rattle.cipher_profile.specs.declared.profile.Profile.{Profile}
 use Rattle.cipher_profile.specs.Profile.{is_plain}
-use Rattle.pager.specs.File.{main_of}
+use Rattle.edge_model.specs.Files.{main_of}
 use Rattle.sqlcipher_tool.specs.Crash.{GaveKeys, IsDrawnFor, IsSafely}
 use Rattle.sqlcipher_tool.specs.Due.{key_lines, keyed_answers}
 use Rattle.sqlcipher_tool.specs.Holding.{disk_run}

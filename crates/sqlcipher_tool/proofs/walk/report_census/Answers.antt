@@ -1,7 +1,7 @@
 use Rattle.std.proofs.Common.{List, ℕ, Ok, sym, ap, ◌∙◌, subst}
 use Rattle.btree_model.proofs.UnmarkedLemmas.{and_left}
 use Rattle.db_format.specs.Seen.{marked}
-use Rattle.pager.specs.File.{main_of}
+use Rattle.edge_model.specs.Files.{main_of}
 use Rattle.pager.specs.Pages.{opened_pages}
 use Rattle.sqlcipher_tool.specs.Answer.{Puts, done}
 use Rattle.sqlcipher_tool.specs.Plain.{refused_but}

@@ -3,7 +3,7 @@ use Rattle.std.specs.Prelude.{slice_get}
 use Rattle.std.specs.List.{Contains}
 use Rattle.db_format.specs.Seen.{marked}
 use Rattle.migrate_job.proofs.WalkStops.{given_stop}
-use Rattle.pager.specs.File.{main_of}
+use Rattle.edge_model.specs.Files.{main_of}
 use Rattle.pager.specs.Pages.{opened_pages}
 use Rattle.pager.specs.Reads.{disk_then_read}
 use Rattle.btree_model.specs.Parts.{counts}

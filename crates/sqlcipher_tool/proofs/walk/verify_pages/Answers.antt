@@ -1,7 +1,7 @@
 use Rattle.std.proofs.Common.{sym, ap, ◌∙◌, subst}
 use Rattle.db_format.specs.Pages.{Pages}
 use Rattle.migrate_job.proofs.WalkStops.{given_stop}
-use Rattle.pager.specs.File.{main_of}
+use Rattle.edge_model.specs.Files.{main_of}
 use Rattle.pager.specs.Pages.{opened_pages}
 use Rattle.pager.specs.Reads.{disk_then_read}
 use Rattle.schema_map.specs.Census.{IsWhole}

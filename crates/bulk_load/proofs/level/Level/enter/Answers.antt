@@ -2,10 +2,10 @@ use Rattle.std.proofs.Common.{◌≡◌, ℕ, ◌≤◌, true, false, List, [], 
 use Rattle.std.proofs.lemmas.List.{append_assoc}
 use Rattle.btree_page.specs.Step.{Step, steps}
 use Rattle.load_model.specs.Open.{at_height}
-use Rattle.load_model.specs.Stands.{Stands}
+use Rattle.load_model.specs.Stands.{OpenPagesStand}
 use Rattle.btree_page.specs.Kind.{family_of}
 use Rattle.bulk_load.specs.declared.pair.Pair.{Pair}
-use Rattle.bulk_load.specs.Settle.{on, cell_on, IsSettled}
+use Rattle.bulk_load.specs.Settle.{on, cell_on, IsLevelSettled}
 use Rattle.bulk_load.specs.Level.{AreNamed, ArePairs, waiting_steps}
 use Rattle.bulk_load.specs.Own.{only}
 use Rattle.bulk_load.proofs.LevelLemmas.{pairs_more, waiting_more, named_more, split, wait_list, next_is, IsNext}
@@ -33,7 +33,7 @@ returns-then-len-lt2-clause-entered g c start well own covers todo s h front bac
                   (ap (λ l. l ++ on kind n s) hold.is ∙ append_assoc (steps hold.cells None) (waiting_steps kind before hold.between) (on kind n s)
                   ∙ ap (λ l. steps hold.cells None ++ l) (sym (waiting_more before kind out.usable hold.between c.args.pair s hold.pairs)));
             },
-            subst (λ l. Stands out (family_of kind) last l pushed) (wait_list todo (on kind n s) h front back) st,
+            subst (λ l. OpenPagesStand out (family_of kind) last l pushed) (wait_list todo (on kind n s) h front back) st,
           )
       | in-Err w ↦ rw w.result-is tt
     ]
@@ -81,7 +81,7 @@ returns-in-Ok-true-clause-entered g c start well own covers todo s h front back 
     (c.in-Ok-true.ensures.settled start well own covers) items hold.has (pairs_more before kind old.usable hold.between c.args.pair s hold.pairs pair)
     (ap (λ l. l ++ on kind n s) hold.is ∙ append_assoc (steps hold.cells None) (waiting_steps kind before hold.between) (on kind n s)
     ∙ ap (λ l. steps hold.cells None ++ l) (sym (waiting_more before kind old.usable hold.between c.args.pair s hold.pairs)))
-    (subst (λ l. Stands old (family_of kind) last l pushed) (wait_list todo (on kind n s) h front back) st))
+    (subst (λ l. OpenPagesStand old (family_of kind) last l pushed) (wait_list todo (on kind n s) h front back) st))
     in
     let waits : List Step = waiting_steps kind (rest ++ c.args.pair ∷ []) next.between in
     let pairs : ArePairs c.push-2.new.self.items c.settle.new.page.kind old.usable next.between =
@@ -92,7 +92,7 @@ returns-in-Ok-true-clause-entered g c start well own covers todo s h front back 
     ap (λ k. waiting_steps k (rest ++ c.args.pair ∷ []) next.between) (sym c.in-Ok-true.ensures.shape.kind)
     ∙ ap (λ l. waiting_steps c.settle.new.page.kind l next.between) (sym c.in-Ok-push.ensures.items)
     in
-    let settled : IsSettled new c.settle.new.page c.settle.new.pair old.usable kind next.n next.cells next.s h front (at_height h waits ++ back) last pushed true = next.is in (
+    let settled : IsLevelSettled new c.settle.new.page c.settle.new.pair old.usable kind next.n next.cells next.s h front (at_height h waits ++ back) last pushed true = next.is in (
       waits,
       next.s,
       record { cells = []; between = next.between; has = settled.0; pairs = pairs; is = same },
@@ -117,7 +117,7 @@ returns-in-Ok-false-clause-entered g c start well own covers todo s h front back
     (c.in-Ok-false.ensures.settled start well own covers) items hold.has (pairs_more before kind old.usable hold.between c.args.pair s hold.pairs pair)
     (ap (λ l. l ++ on kind n s) hold.is ∙ append_assoc (steps hold.cells None) (waiting_steps kind before hold.between) (on kind n s)
     ∙ ap (λ l. steps hold.cells None ++ l) (sym (waiting_more before kind old.usable hold.between c.args.pair s hold.pairs)))
-    (subst (λ l. Stands old (family_of kind) last l pushed) (wait_list todo (on kind n s) h front back) st))
+    (subst (λ l. OpenPagesStand old (family_of kind) last l pushed) (wait_list todo (on kind n s) h front back) st))
     in
     let waits : List Step = waiting_steps kind (rest ++ c.args.pair ∷ []) next.between in
     let pairs : ArePairs c.push-2.new.self.items c.settle.new.page.kind old.usable next.between =
@@ -128,9 +128,9 @@ returns-in-Ok-false-clause-entered g c start well own covers todo s h front back
     ap (λ k. waiting_steps k (rest ++ c.args.pair ∷ []) next.between) (sym c.in-Ok-false.ensures.shape.kind)
     ∙ ap (λ l. waiting_steps c.settle.new.page.kind l next.between) (sym c.in-Ok-push.ensures.items)
     in
-    let settled : IsSettled new c.settle.new.page c.settle.new.pair old.usable kind next.n next.cells next.s h front (at_height h waits ++ back) last pushed false = next.is in
+    let settled : IsLevelSettled new c.settle.new.page c.settle.new.pair old.usable kind next.n next.cells next.s h front (at_height h waits ++ back) last pushed false = next.is in
     let begun : List Step = steps (next.cells ++ cell_on kind next.n next.s ∷ []) None in (
       begun ++ waits,
       record { cells = next.cells ++ cell_on kind next.n next.s ∷ []; between = next.between; has = settled.0; pairs = pairs; is = ap (λ l. begun ++ l) same },
-      subst (λ l. Stands new (family_of kind) last l pushed) (wait_list begun waits h front back) settled.1,
+      subst (λ l. OpenPagesStand new (family_of kind) last l pushed) (wait_list begun waits h front back) settled.1,
     )

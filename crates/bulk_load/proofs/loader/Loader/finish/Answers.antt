@@ -4,7 +4,7 @@ use Rattle.btree_page.specs.declared.kind.Kind.{Kind}
 use Rattle.btree_page.specs.Kind.{family_of}
 use Rattle.btree_page.specs.Step.{steps}
 use Rattle.load_model.specs.Open.{at_height}
-use Rattle.load_model.specs.Stands.{Stands}
+use Rattle.load_model.specs.Stands.{OpenPagesStand}
 use Rattle.page_build.specs.Written.{right_child}
 use Rattle.bulk_load.specs.Levels.{HoldLevels, opened}
 use Rattle.bulk_load.specs.Settle.{up_kind}
@@ -36,8 +36,8 @@ returns-clause-tree g c start well own covers pushed l =
     subst (λ f. IfOk c.end_levels.result (λ root. HasTree new f root pushed)) fam
     (c.end_levels.ensures.tree start well own covers l.todo l.todos 0 last pushed (omega arith) (sym is_up) l.hold
     (subst (λ k. HoldLevels c.args.self.levels.items old.usable k l.todos) (sym is_up) l.above)
-    (subst (λ f. Stands old f last (opened 1 l.todos ++ (at_height 0 l.todo ++ at_height 0 (steps [] (right_child here 0)))) pushed) (sym fam)
-    (subst (λ e. Stands old (family_of here) last (opened 1 l.todos ++ (at_height 0 l.todo ++ e)) pushed) (sym none) l.stands)))
+    (subst (λ f. OpenPagesStand old f last (opened 1 l.todos ++ (at_height 0 l.todo ++ at_height 0 (steps [] (right_child here 0)))) pushed) (sym fam)
+    (subst (λ e. OpenPagesStand old (family_of here) last (opened 1 l.todos ++ (at_height 0 l.todo ++ e)) pushed) (sym none) l.stands)))
 
 pub returns-clause-few : goal.returns-clause-few
 returns-clause-few g c from entries few =

@@ -2,7 +2,7 @@ use Rattle.std.proofs.Common.{◌∙◌, ◌+◌, ◌==◌, ℕ, Bool, ap, arith
 use Rattle.cipher_profile.specs.Profile.{usable}
 use Rattle.db_format.specs.Seen.{marked}
 use Rattle.page_codec.specs.Page.{FileKeys}
-use Rattle.fresh_file.specs.State.{held_page}
+use Rattle.fresh_file.specs.State.{page_as_held}
 use Rattle.fresh_file.proofs.FreshLaws.{accepts_here, accepts_others}
 use Rattle.fresh_file.proofs.HeldLaws.{once_as, page_as, page_but_first}
 use Rattle.fresh_file.proofs.fresh_out.FreshOutPageOut.put.Goals as goal
@@ -49,4 +49,4 @@ returns-then-n-eq1-clause-told g c start was k apart =
     let same = c.keep_first.ensures in
     let fresh = g.T.Side.fresh c.args.self.now.side.now in
     page_as old.codec new.codec old.held new.held old.put new.put same.codec same.held same.put new.first.items fresh k
-    ∙ page_but_first old.codec old.first.items new.first.items (marked old.put) (held_page old.codec old.held) fresh c.args.n k (omega arith) apart
+    ∙ page_but_first old.codec old.first.items new.first.items (marked old.put) (page_as_held old.codec old.held) fresh c.args.n k (omega arith) apart

@@ -4,10 +4,10 @@ use Rattle.db_format.specs.Header.{header_read}
 use Rattle.db_format.specs.Seen.{marked}
 use Rattle.db_format.specs.Pages.{also}
 use Rattle.page_codec.specs.Page.{FileKeys, magic}
-use Rattle.fresh_file.specs.Fresh.{IsFinished, IsWell, contents, sized, with_head}
+use Rattle.fresh_file.specs.Fresh.{IsFinished, IsWell, fresh_contents, sized_page, with_head}
 use Rattle.fresh_file.specs.Held.{held_or, plain_at}
 use Rattle.fresh_file.specs.Sealed.{plain_page}
-use Rattle.fresh_file.specs.State.{held_page, pages_of}
+use Rattle.fresh_file.specs.State.{page_as_held, fresh_pages}
 use Rattle.fresh_file.proofs.FreshLaws.{all_marked, finished, page_here}
 use Rattle.fresh_file.proofs.state.FreshState.finish.Goals as goal
 
@@ -20,8 +20,8 @@ returns-clause-file g c start was =
     let whole = side.fresh c.write_held.new.side in
     let mid = c.put_first.new.side in
     let new = c.sync_side.new.side in
-    let page : ℕ → List ℕ = (pages_of old fresh).page in
-    let accepts = (pages_of old fresh).accepts in
+    let page : ℕ → List ℕ = (fresh_pages old fresh).page in
+    let accepts = (fresh_pages old fresh).accepts in
     let header = c.args.header.now in
     let well = c.in_ok-write_held.ensures.well start was in
     let same = c.write_held.ensures in
@@ -36,8 +36,8 @@ returns-clause-file g c start was =
     (c.in_ok-put_first.ensures.here start well ∙ ap (λ (l : List ℕ). with_head c.write_header.new.out l) same.first.1)
     (λ m has other.
     c.in_ok-put_first.ensures.others start well m has other
-    ∙ sym (page_here written.codec written.first.items (marked written.put) (held_page written.codec written.held) whole m other has
-    ∙ ap (λ (h : ℕ). held_or written.held.numbers.items (plain_at written.codec written.held.room.items) h m (plain_page written.codec m (contents whole))) c.in_ok-write_held.ensures.none)
+    ∙ sym (page_here written.codec written.first.items (marked written.put) (page_as_held written.codec written.held) whole m other has
+    ∙ ap (λ (h : ℕ). held_or written.held.numbers.items (plain_at written.codec written.held.room.items) h m (plain_page written.codec m (fresh_contents whole))) c.in_ok-write_held.ensures.none)
     ∙ same.pages start was m)
     c.write_header.ensures.bytes
     all
@@ -51,4 +51,4 @@ returns-clause-file g c start was =
 pub returns-clause-reads_back : goal.returns-clause-reads_back
 returns-clause-reads_back g c =
     let header = c.args.header.now in
-    subst (λ (bytes : List ℕ). header_read bytes header.page_size header.reserve ≡ Ok (sized header (c.args.self.now.taken + 1))) c.write_header.ensures.bytes c.write_header.ensures.reads_back
+    subst (λ (bytes : List ℕ). header_read bytes header.page_size header.reserve ≡ Ok (sized_page header (c.args.self.now.taken + 1))) c.write_header.ensures.bytes c.write_header.ensures.reads_back

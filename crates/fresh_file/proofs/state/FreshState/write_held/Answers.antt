@@ -1,9 +1,9 @@
 use Rattle.std.proofs.Common.{◌≡◌, ◌∙◌, ◌+◌, ℕ, List, Option, refl, sym, subst}
 use Rattle.db_format.specs.Seen.{marked}
-use Rattle.fresh_file.specs.Fresh.{IsWell, contents}
+use Rattle.fresh_file.specs.Fresh.{IsWell, fresh_contents}
 use Rattle.fresh_file.specs.Held.{held_or, plain_at, settled}
 use Rattle.fresh_file.specs.Sealed.{plain_page}
-use Rattle.fresh_file.specs.State.{held_page}
+use Rattle.fresh_file.specs.State.{page_as_held}
 use Rattle.fresh_file.proofs.HeldLaws.{cut_as, done_as, once_written, page_moves, reads_settled, reads_torn, sealings}
 use Rattle.fresh_file.proofs.state.FreshState.write_held.Goals as goal
 
@@ -39,7 +39,7 @@ returns-clause-pages g c start was k =
     c.in_ok-write.ensures.done was.told
     ∙ done_as s.codec held.numbers.items held.room.items new.stored.items new.numbers.items held.count new.count new.size (c.seal.ensures.same.0 ∙ s.held_size) c.seal.ensures.held.0 c.seal.ensures.same.1
     c.seal.ensures.sealed fresh in
-    page_moves s.codec s.first.items (marked s.put) (held_page s.codec held) (λ n other. other) fresh after k
+    page_moves s.codec s.first.items (marked s.put) (page_as_held s.codec held) (λ n other. other) fresh after k
     (λ has. reads_settled s.codec held.numbers.items held.room.items held.count sealing fresh after was.file was.is k (λ none. was.whole k has none) done)
 
 pub returns-in_err-write-clause-pages : goal.returns-in_err-write-clause-pages
@@ -54,6 +54,6 @@ returns-in_err-write-clause-pages g c start was k =
     let cut =
     cut_as s.codec held.numbers.items held.room.items new.stored.items new.numbers.items held.count new.count new.size (c.seal.ensures.same.0 ∙ s.held_size) c.seal.ensures.held.0 c.seal.ensures.same.1
     c.seal.ensures.sealed fresh after (c.in_err-write.ensures.torn was.told) in
-    page_moves s.codec s.first.items (marked s.put) (held_page s.codec held) (held_page s.codec new) fresh after k
-    (λ has. (λ i. held_or (c.seal.ensures.held.0 i) (plain_at s.codec (c.seal.ensures.held.1 i)) (c.seal.ensures.same.1 i) k (plain_page s.codec k (contents after)))
+    page_moves s.codec s.first.items (marked s.put) (page_as_held s.codec held) (page_as_held s.codec new) fresh after k
+    (λ has. (λ i. held_or (c.seal.ensures.held.0 i) (plain_at s.codec (c.seal.ensures.held.1 i)) (c.seal.ensures.same.1 i) k (plain_page s.codec k (fresh_contents after)))
     ∙ reads_torn s.codec held.numbers.items held.room.items held.count sealing fresh after was.file was.is k (λ none. was.whole k has none) cut.at cut.within cut.torn)

@@ -1,8 +1,8 @@
 use Rattle.std.proofs.Common.{◌≡◌, false, length, sym, ◌∙◌, ap, rules}
 use Rattle.std.proofs.lemmas.List.{length-replicate}
 use Rattle.rollback_journal.specs.Writing.{Writing, at_first}
-use Rattle.transaction.specs.Marks.{marked_count}
-use Rattle.transaction.proofs.Batched.{count_none, ready_first, batches_first}
+use Rattle.atomic_commit.specs.Marks.{marked_count}
+use Rattle.atomic_commit.proofs.Batched.{count_none, ready_first, batches_first}
 use Rattle.journal_tests.proofs.batches.whole.change_in_batches.Goals as goal
 
 pub write_batch-requires : goal.write_batch-requires

@@ -1,7 +1,7 @@
 use Rattle.std.proofs.Common.{◌≡◌, ℕ, ◌+◌, ◌*◌, ◌-◌, ◌≤◌, max, List, length, refl, ap, sym, subst, ◌∙◌, arith}
 use Rattle.btree_page.specs.Page.{header_len}
-use Rattle.page_build.specs.Draft.{IsBuilt, draft_of, laid, room_of, with_cell}
-use Rattle.page_build.specs.Written.{two_bytes, used}
+use Rattle.page_build.specs.Draft.{draft_of, laid, room_of, with_cell}
+use Rattle.page_build.specs.Written.{two_bytes}
 use Rattle.page_build.proofs.Building.{add_built, added_draft, drafted}
 use Rattle.page_build.proofs.builder.PageBuilder.add.Goals.{then-cell-lt4, else-cell-lt4}
 use Rattle.page_build.proofs.builder.PageBuilder.add.Goals as goal

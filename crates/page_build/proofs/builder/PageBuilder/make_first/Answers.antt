@@ -1,4 +1,4 @@
-use Rattle.std.proofs.Common.{◌≡◌, ◌+◌, ◌*◌, ◌-◌, ◌≤◌, ℕ, List, ap, sym, subst, length, ◌∙◌, arith}
+use Rattle.std.proofs.Common.{◌≡◌, ◌+◌, ◌*◌, ◌-◌, ◌≤◌, ℕ, List, ap, sym, subst, length, ◌∙◌}
 use Rattle.btree_page.specs.Page.{header_len}
 use Rattle.page_build.specs.Draft.{IsBuilt, as_first, draft_of, room_of}
 use Rattle.page_build.specs.Written.{used}

@@ -39,7 +39,7 @@ use Rattle.std.specs.Prelude.{Some, None, option_map, length}
 use Rattle.std.specs.contracts.option.Option as O
 use Rattle.page_cache.proofs.Options.{none_in, some_in, is_on, is_off}
 use Rattle.page_cache.proofs.CallerLemmas.{not_held}
-use Rattle.page_cache.specs.Pages.{Pages, bytes_at, is_held, changed}
+use Rattle.page_cache.specs.Pages.{HeldPages, held_bytes, is_held, changed}
 use Rattle.page_cache.specs.Cache.{written_over}
 use Rattle.page_cache.specs.contracts.cache.Cache.{the_row as R}
 use Rattle.page_cache.specs.contracts.cache.Cache.get_mut as f
@@ -63,7 +63,7 @@ get_mut_spec 𝓤 𝓛 𝓜 𝓡 wired =
     let κ = κs.0 in let q = qs.0 in let s = a.0 in let n = a.1.0 in let b = s.ref_ptr.0 in let o = s.ref_ptr.1 in
     let vss : List Val × (List Val × Unit {0}) = (mut_vals s, (uint_vals w32 n, tt)) in
     let y : W.Ghost = ((κs, qs, bounds, a, vss), tt) in
-    let Ref = λ (κ' : List ℕ) (x : MutBor Pages). (MutRef (named 0) κ' R).own_val x (mut_vals s) in
+    let Ref = λ (κ' : List ℕ) (x : MutBor HeldPages). (MutRef (named 0) κ' R).own_val x (mut_vals s) in
     let Bytes : RattleType = MutSlice (named 0) κ u8 in
     qed 𝓛 (((‵ (flft κ q) ⊛ ‵ ftrue) ⊛ ‵ (Ref κ s) ⊛ ‵ (u32.own_val n (uint_vals w32 n)) ⊛ ‵ ftrue) ∷ ‵ ftrue ∷ []) ∵
     split ! $ split ! $ move ! (2 ∷ []) $ split ! $ keep ! (0 ∷ 2 ∷ []) $
@@ -77,7 +77,7 @@ get_mut_spec 𝓤 𝓛 𝓜 𝓡 wired =
     let G = triple_of 𝓛 g.signature (g.spec 𝓛 𝓜.mem 𝓡.returns) in
     let z : G.Ghost = (((α ∷ [], tt), (full_share, tt), tt, (record s { ghost_name = δ }, (n, tt)), vss), tt) in
     let Given : Val → Bool → Item 𝓤 = λ v r. ((‵ (flft (α ∷ []) full_share) ⊛ ‵ ftrue) ⊛ ‵ (bool.own_val r (v ∷ []))) ⊛
-    some (λ (ws : Pages × (Unit {0} × Unit {0})). ‵ (lasts g.ended z.0.0 z.0.3 ws) ⊛ raw (fact 𝓤 ((ws.0 ≡ s.now) × (r ≡ is_held n s.now.held)))) in
+    some (λ (ws : HeldPages × (Unit {0} × Unit {0})). ‵ (lasts g.ended z.0.0 z.0.3 ws) ⊛ raw (fact 𝓤 ((ws.0 ≡ s.now) × (r ≡ is_held n s.now.held)))) in
     owned ! u32 _ (uint_Makes 𝓛 w32) n _ (refl, are.1.0.1) $ nothing ! $ move ! (1 ∷ 0 ∷ []) $ join ! $ move ! (1 ∷ 0 ∷ []) $ join ! $
     nothing ! $ move ! (3 ∷ 0 ∷ []) $ join ! $ join ! $ nothing ! $ move ! (1 ∷ 0 ∷ []) $ use2 𝓛 (raw (G.pre z)) (id⊢ 𝓤 _) $
     calls_at ! (framed 𝓤 𝓛.H 𝓜 𝓣) G (g-met.met 𝓤 𝓛 𝓜 𝓡 (code.calls-page_cache::cache::Cache::has 𝓡.env wired)) z
@@ -85,7 +85,7 @@ get_mut_spec 𝓤 𝓛 𝓜 𝓡 wired =
     use1 𝓛 (later (some (Given v))) (id⊢ 𝓤 _) $ await ! tt $ pick ! (λ r. split ! $ split ! $ split ! $ lft_end ! tt $
     -- [α is over; nothing; the answer; the rest of the clauses; what the lender keeps]
     move ! (3 ∷ []) $ pick ! (λ ws. split ! $ move ! (1 ∷ []) $ heard ! _ (λ told. fsplit ! $ fsplit ! $
-    rewrite ! 0 (λ (w : Pages). ‵ (fres δ (R.coded.code w))) told.0 refl $
+    rewrite ! 0 (λ (w : HeldPages). ‵ (fres δ (R.coded.code w))) told.0 refl $
     -- [the loan's last value; its borrow; nothing; α is over; nothing; the answer; what the lender keeps]
     move ! (3 ∷ 6 ∷ 0 ∷ []) $ use3 𝓛 (later (‵ (Ref κ s) ⊛ ‵ (flft κ q))) (comes_back 𝓛 R (named 0) κ (α ∷ []) q s.ghost_name b o δ s.now s.now) $ await ! tt $ split ! $
     -- [the reference; the token of κ; the loan's borrow; nothing; nothing; the answer]
@@ -97,7 +97,7 @@ get_mut_spec 𝓤 𝓛 𝓜 𝓡 wired =
     let J = triple_of 𝓛 h.signature (h.spec 𝓛 𝓜.mem 𝓡.returns) in
     let w : J.Ghost = ((κs, qs, tt, a, vss), tt) in
     let held : is_held n s.now.held ≡ true = sym told.1 ∙ is_on r there in
-    let Shown : MutBor (List ℕ) → Type 0 = λ x. bytes_at n s.now.held ≡ Some x.now in
+    let Shown : MutBor (List ℕ) → Type 0 = λ x. held_bytes n s.now.held ≡ Some x.now in
     let Left : Val → MutBor (List ℕ) → Item 𝓤 = λ u x. ((‵ (flft κ q) ⊛ ‵ ftrue) ⊛ ‵ (Bytes.own_val x (u ∷ []))) ⊛
     some (λ (ws' : Unit {0} × (Unit {0} × Unit {0})). ‵ (lasts h.ended κs a ws') ⊛ (‵ (follows R (Array u8 0) s.ghost_name x.ghost_name (λ w. record s.now { held = changed n (written_over w) s.now.held }))
     ⊛ (raw (fact 𝓤 (Shown x)) ⊛ raw (fact 𝓤 (length x.now ≡ s.now.usable))))) in

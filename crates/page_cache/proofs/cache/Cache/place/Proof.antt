@@ -40,7 +40,7 @@ use Rattle.std.specs.Prelude.{Ok, Err, Some, replicate, length}
 use Rattle.std.specs.contracts.result.Result as res
 use Rattle.page_cache.proofs.Options.{ok_in, err_in, is_on, is_off}
 use Rattle.page_cache.proofs.CallerLemmas.{not_held, fresh_bytes, fresh_held, changed_fresh}
-use Rattle.page_cache.specs.Pages.{Pages, bytes_at, is_held, changed, fresh_page}
+use Rattle.page_cache.specs.Pages.{HeldPages, held_bytes, is_held, changed, fresh_frame}
 use Rattle.page_cache.specs.contracts.cache.Full.{the_row as Full-row}
 use Rattle.page_cache.specs.declared.cache.Full.{Full}
 use Rattle.page_cache.specs.Cache.{written_over}
@@ -66,9 +66,9 @@ place_spec 𝓤 𝓛 𝓜 𝓡 wired =
     let κ = κs.0 in let q = qs.0 in let s = a.0 in let n = a.1.0 in let b = s.ref_ptr.0 in let o = s.ref_ptr.1 in
     let vss : List Val × (List Val × Unit {0}) = (mut_vals s, (uint_vals w32 n, tt)) in
     let y : W.Ghost = ((κs, qs, bounds, a, vss), tt) in
-    let Ref = λ (κ' : List ℕ) (x : MutBor Pages). (MutRef (named 0) κ' R).own_val x (mut_vals s) in
+    let Ref = λ (κ' : List ℕ) (x : MutBor HeldPages). (MutRef (named 0) κ' R).own_val x (mut_vals s) in
     let Bytes : RattleType = MutSlice (named 0) κ u8 in let full : Full = record {} in
-    let Absent : Type 0 = is_held n s.now.held ≡ false in let placed : Pages = record s.now { held = fresh_page n s.now.usable ∷ s.now.held } in
+    let Absent : Type 0 = is_held n s.now.held ≡ false in let placed : HeldPages = record s.now { held = fresh_frame n s.now.usable ∷ s.now.held } in
     qed 𝓛 (((‵ (flft κ q) ⊛ ‵ ftrue) ⊛ ‵ (Ref κ s) ⊛ ‵ (u32.own_val n (uint_vals w32 n)) ⊛ ‵ ftrue) ∷ raw (fact 𝓤 Absent) ∷ []) ∵
     move ! (1 ∷ []) $ heard ! _ (λ absent.
     split ! $ split ! $ move ! (2 ∷ []) $ split ! $ keep ! (0 ∷ 2 ∷ []) $
@@ -82,7 +82,7 @@ place_spec 𝓤 𝓛 𝓜 𝓡 wired =
     let G = triple_of 𝓛 g.signature (g.spec 𝓛 𝓜.mem 𝓡.returns) in
     let z : G.Ghost = (((α ∷ [], tt), (full_share, tt), tt, (record s { ghost_name = δ }, (n, tt)), vss), tt) in
     let Given : Val → Bool → Item 𝓤 = λ v r. ((‵ (flft (α ∷ []) full_share) ⊛ ‵ ftrue) ⊛ ‵ (bool.own_val r (v ∷ []))) ⊛
-    some (λ (ws : Pages × (Unit {0} × Unit {0})). ‵ (lasts g.ended z.0.0 z.0.3 ws) ⊛ (raw (fact 𝓤 (r ≡ true → ws.0 ≡ placed)) ⊛ (raw (fact 𝓤 (r ≡ true → length s.now.held < s.now.frames))
+    some (λ (ws : HeldPages × (Unit {0} × Unit {0})). ‵ (lasts g.ended z.0.0 z.0.3 ws) ⊛ (raw (fact 𝓤 (r ≡ true → ws.0 ≡ placed)) ⊛ (raw (fact 𝓤 (r ≡ true → length s.now.held < s.now.frames))
     ⊛ (raw (fact 𝓤 (r ≡ false → length s.now.held ≡ s.now.frames)) ⊛ raw (fact 𝓤 (r ≡ false → ws.0 ≡ s.now)))))) in
     owned ! u32 _ (uint_Makes 𝓛 w32) n _ (refl, are.1.0.1) $ nothing ! $ move ! (1 ∷ 0 ∷ []) $ join ! $ move ! (1 ∷ 0 ∷ []) $ join ! $
     nothing ! $ move ! (3 ∷ 0 ∷ []) $ join ! $ join ! $ use0 𝓛 (raw (fact 𝓤 Absent)) (fact_i 𝓤 Absent (emp 𝓤) absent) $ move ! (1 ∷ 0 ∷ []) $ use2 𝓛 (raw (G.pre z)) (id⊢ 𝓤 _) $
@@ -98,13 +98,13 @@ place_spec 𝓤 𝓛 𝓜 𝓡 wired =
     lands_as ! (ap only word) refl (tt, tt) $
     first ! $ branches ! (get ! refl)
     (λ there.
-    rewrite ! 0 (λ (now : Pages). ‵ (Ref κ (record s { now = now }))) (put (is_on r there)) refl $
+    rewrite ! 0 (λ (now : HeldPages). ‵ (Ref κ (record s { now = now }))) (put (is_on r there)) refl $
     sets ! (addr ! (through ! refl (stop !))) refl (tt, tt) $
     let J = triple_of 𝓛 h.signature (h.spec 𝓛 𝓜.mem 𝓡.returns) in
-    let lent : MutBor Pages × (ℕ × Unit {0}) = (record s { now = placed }, (n, tt)) in
+    let lent : MutBor HeldPages × (ℕ × Unit {0}) = (record s { now = placed }, (n, tt)) in
     let w : J.Ghost = ((κs, qs, tt, lent, vss), tt) in
     let held : is_held n placed.held ≡ true = fresh_held n s.now.usable s.now.held in
-    let Shown : MutBor (List ℕ) → Type 0 = λ x. bytes_at n placed.held ≡ Some x.now in
+    let Shown : MutBor (List ℕ) → Type 0 = λ x. held_bytes n placed.held ≡ Some x.now in
     let Left : Val → MutBor (List ℕ) → Item 𝓤 = λ u x. ((‵ (flft κ q) ⊛ ‵ ftrue) ⊛ ‵ (Bytes.own_val x (u ∷ []))) ⊛
     some (λ (ws' : Unit {0} × (Unit {0} × Unit {0})). ‵ (lasts h.ended κs lent ws') ⊛ (‵ (follows R (Array u8 0) s.ghost_name x.ghost_name (λ w. record placed { held = changed n (written_over w) placed.held }))
     ⊛ (raw (fact 𝓤 (Shown x)) ⊛ raw (fact 𝓤 (length x.now ≡ placed.usable))))) in
@@ -122,7 +122,7 @@ place_spec 𝓤 𝓛 𝓜 𝓡 wired =
     exec ! 𝓣.C 𝓣.Λ (env code.Mir.locals l) code.Mir.t-4 (at_ret _ (W.post y)) $
     sets ! (of_opd ! (get ! refl)) refl (tt, (record { fits = lit< tt }, ((tt, (record { fits = shape.0.1.0 }, tt)), tt))) $
     returns ! (look_at ! 0 refl) $ free_all ! refl $
-    rewrite ! 0 (λ (ends : List ℕ → Pages). ‵ (follows R (Array u8 0) s.ghost_name x.ghost_name ends)) (λ i w. record s.now { held = changed_fresh n s.now.usable (written_over w) s.now.held (not_held n s.now.held absent) i }) refl $
+    rewrite ! 0 (λ (ends : List ℕ → HeldPages). ‵ (follows R (Array u8 0) s.ghost_name x.ghost_name ends)) (λ i w. record s.now { held = changed_fresh n s.now.usable (written_over w) s.now.held (not_held n s.now.held absent) i }) refl $
     move ! (2 ∷ []) $ split ! $ keep ! (3 ∷ 0 ∷ 2 ∷ []) $
     use1 𝓛 (‵ ((res.the_row Bytes Full-row).own_val (Ok x) (live 0 (of_list (v' ∷ [])) ∷ []))) (ok_in 𝓛 Bytes Full-row x v') $
     suffices ! _ (ends_at 𝓛 f.ended stayed c y (live 0 (of_list (v' ∷ []))) (Ok x) (tt, (tt, tt)) (tt, (tt, tt))) $
@@ -130,7 +130,7 @@ place_spec 𝓤 𝓛 𝓜 𝓡 wired =
     nothing ! $ nothing ! $ fjoin ! $ nothing ! $ fjoin ! $ join ! $ nothing ! $ move ! (2 ∷ 0 ∷ []) $ join ! $ join ! $ frame ! $ frame ! $ says ! (some_frame (is_on r there), tt) $
     use0 𝓛 (raw (fact 𝓤 (x.now ≡ replicate s.now.usable 0))) (fact_i 𝓤 (x.now ≡ replicate s.now.usable 0) (emp 𝓤) zeros) $ done !)))))))
     (λ none.
-    rewrite ! 0 (λ (now : Pages). ‵ (Ref κ (record s { now = now }))) (kept (is_off r none)) refl $
+    rewrite ! 0 (λ (now : HeldPages). ‵ (Ref κ (record s { now = now }))) (kept (is_off r none)) refl $
     sets ! (agg ! (no_more !)) refl (tt, tt) $
     sets_last ! (agg ! (and_then ! (lit ! tt) (and_then ! (get ! refl) (no_more !)))) refl (tt, (record { fits = lit< tt }, (tt, tt))) $
     exec ! 𝓣.C 𝓣.Λ (env code.Mir.locals l) code.Mir.t-4 (at_ret _ (W.post y)) $

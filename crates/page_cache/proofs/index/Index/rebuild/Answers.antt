@@ -1,7 +1,7 @@
 use Rattle.std.proofs.Common.{arith, ◌≡◌, Some, length, ◌∷◌, ◌∙◌, ap, subst}
 use Rattle.std.specs.Option.{option_or}
 use Rattle.page_cache.specs.Index.{named}
-use Rattle.page_cache.specs.Frames.{AreApart, frame_at}
+use Rattle.page_cache.specs.Frames.{HaveDistinctPages, frame_at}
 use Rattle.page_cache.proofs.Naming.{named_next}
 use Rattle.page_cache.proofs.index.Index.rebuild.Goals as goal
 
@@ -10,7 +10,7 @@ loop-frame-preserved-in-Some-held c =
     let rest = c.next.new.self in
     let first : c.loop-frame.frame-iterator ≡ (c.in-Some.frame.now, Some c.in-Some-held.held) ∷ rest = c.in-Some.ensures.steps ∙ ap (λ v. (c.in-Some.frame.now, v) ∷ rest) c.in-Some-held.is in
     let kept = c.loop-frame.invariant in
-    let apart : AreApart ((c.in-Some.frame.now, Some c.in-Some-held.held) ∷ rest) = subst AreApart first kept.2 in
+    let apart : HaveDistinctPages ((c.in-Some.frame.now, Some c.in-Some-held.held) ∷ rest) = subst HaveDistinctPages first kept.2 in
     let was = kept.3 in let left = kept.4 in let room = c.set.ensures.room in let spare = c.set.ensures.spare in let one = ap length first in (
       tt,
       tt,

@@ -6,7 +6,7 @@ use Rattle.cbc_mode.specs.Cbc.{IsText}
 use Rattle.cbc_mode.specs.Records.{encrypted_record}
 use Rattle.cipher_profile.specs.Profile.{IsLaidOut, is_plain, usable}
 use Rattle.page_codec.specs.Page.{FileKeys, deciphered}
-use Rattle.page_codec.specs.Pages.{page_at}
+use Rattle.page_codec.specs.Pages.{nth_page}
 use Rattle.page_codec.proofs.PageFacts.{encrypted_page, ends_by, length-page, opened_untagged, page_is_record, size_blocks, whole_blocks}
 use Rattle.page_codec.proofs.codec.Codec.encipher_pages.Goals as goal
 
@@ -37,14 +37,14 @@ returns-clause-value c i n hi le =
     page_is_record file.profile.page_size stride c.cbc_encrypt_records.new.records i blocks
     ∙ c.cbc_encrypt_records.ensures.value i hi
     ∙ (λ k. encrypted_record (cipher k) text (sym (page_is_record file.profile.page_size stride c.args.pages.now i blocks) k))
-    ∙ encrypted_page file text n (page_at file.profile.page_size c.args.pages.now i) whole le
+    ∙ encrypted_page file text n (nth_page file.profile.page_size c.args.pages.now i) whole le
 
 pub returns-clause-opens_to : goal.returns-clause-opens_to
 returns-clause-opens_to c i n hi le =
     let file = c.args.self.now in
     let size : ℕ = file.profile.page_size in
     let old : List ℕ = c.args.pages.now in
-    let page : List ℕ = page_at size old i in
+    let page : List ℕ = nth_page size old i in
     let layout : IsLaidOut file.profile = subst IsLaidOut (ap (λ (f : FileKeys). f.profile) c.self.view_is) c.usable-text.ensures.laid_out in
     let u : ℕ = usable file.profile in
     let within : size * i + size ≤ length old = omega (arith, ends_by size i c.args.count hi, c.requires.size) in

@@ -9,7 +9,7 @@ use Rattle.cipher_profile.specs.Hashes.{block_len, digest, digest_len}
 use Rattle.cipher_profile.specs.Profile.{IsLaidOut, usable}
 use Rattle.page_codec.specs.MacKey.{MacKey, at_once}
 use Rattle.page_codec.specs.Page.{FileKeys, accepts, stored_tag, tag}
-use Rattle.page_codec.specs.Pages.{page_at}
+use Rattle.page_codec.specs.Pages.{nth_page}
 use Rattle.page_codec.proofs.PageFacts.{ends_by}
 use Rattle.page_codec.proofs.SideBySide.{answered_more, answered_none, batch_within, cut_mac, cut_page, page_behind, side_tag}
 use Rattle.page_codec.proofs.codec.Codec.later_hold.Goals as goal
@@ -91,7 +91,7 @@ pages-preserved c =
     (message (take (length pages - s * at) (drop (s * at) pages)) s (c.usable-tag_at.result + 16) numbers 4 m) in
     let hashed = subst under c.requires.key c.tags-tags.ensures j less in
     let block : List ℕ = key_block (digest file.profile.hash) (block_len file.profile.hash) file.keys.mac in
-    let lane : take file.profile.tag_len mac ≡ tag file n (page_at size rest j) =
+    let lane : take file.profile.tag_len mac ≡ tag file n (nth_page size rest j) =
     side_tag file rest numbers mac n j (omega (arith, c.requires.later)) within laid_out.tag number
     (hashed ∙ (λ t. hmac_of_block (digest file.profile.hash) block (message (text t) (inner t) (used t + 16) numbers 4 j))) in
     let own = ap (λ (l : List ℕ). take file.profile.tag_len l) (cut_mac tags j) ∙ lane ∙ ap (tag file n) (page_behind size at j pages) in

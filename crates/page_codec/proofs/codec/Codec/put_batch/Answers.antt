@@ -8,7 +8,7 @@ use Rattle.cipher_profile.specs.Hashes.{block_len, digest, digest_len}
 use Rattle.cipher_profile.specs.Profile.{IsLaidOut, usable}
 use Rattle.page_codec.specs.MacKey.{MacKey, at_once}
 use Rattle.page_codec.specs.Page.{FileKeys, tag}
-use Rattle.page_codec.specs.Pages.{AreTagged, IsTagged, page_at}
+use Rattle.page_codec.specs.Pages.{AreTagged, IsTagged, nth_page}
 use Rattle.page_codec.proofs.PageFacts.{ends_by, replaced, tagged_one, tagged_then}
 use Rattle.page_codec.proofs.SideBySide.{batch_within, cut_mac, cut_page, page_behind, side_tag}
 use Rattle.page_codec.proofs.codec.Codec.put_batch.Goals as goal
@@ -72,7 +72,7 @@ pages-preserved c =
     ) in
     let whole : s * i + s - s * i ≡ size = omega (arith, place, inner) in
     let page = cut_page pages size i (s * i) (s * i + s - s * i) place whole in
-    let tagged : IsTagged file (slice_index numbers i) (page_at size pages i) c.place_tag.new.stored =
+    let tagged : IsTagged file (slice_index numbers i) (nth_page size pages i) c.place_tag.new.stored =
     subst (λ (l : List ℕ). IsTagged file (slice_index numbers i) l c.place_tag.new.stored) page (record {
       is = c.place_tag.ensures.value;
       accepted = c.place_tag.ensures.accepted;
@@ -117,10 +117,10 @@ place_tag-requires-clause-tag c =
     (message (take (length old - s * at) (drop (s * at) old)) s (c.usable-tag_at.result + 16) ends 4 m) in
     let hashed = subst under c.requires.key c.tags-tags.ensures j less in
     let block : List ℕ = key_block (digest file.profile.hash) (block_len file.profile.hash) file.keys.mac in
-    let lane : take file.profile.tag_len mac ≡ tag file n (page_at size rest j) =
+    let lane : take file.profile.tag_len mac ≡ tag file n (nth_page size rest j) =
     side_tag file rest ends mac n j later within laid_out.tag (c.numbers_at-ends.ensures j c.pages-test.true)
     (hashed ∙ (λ t. hmac_of_block (digest file.profile.hash) block (message (text t) (inner t) (used t + 16) ends 4 j))) in
-    let page : page_at size rest j ≡ take (s * i + s - s * i) (drop (s * i) c.pages.pages) =
+    let page : nth_page size rest j ≡ take (s * i + s - s * i) (drop (s * i) c.pages.pages) =
     page_behind size at j old ∙ sym (c.pages.invariant.left i (omega arith))
     ∙ sym (cut_page c.pages.pages size i (s * i) (s * i + s - s * i) from whole) in
     ap (take file.profile.tag_len) (cut_mac tags j) ∙ lane ∙ ap (tag file n) page

@@ -1,6 +1,6 @@
 use Rattle.std.proofs.Common.{◌≡◌, ◌≤◌, ◌+◌, ◌-◌, ◌*◌, ℕ, List, length, arith, ap, subst, slice_index}
 use Rattle.page_codec.specs.Page.{FileKeys}
-use Rattle.page_codec.specs.Pages.{IsTagged, page_at}
+use Rattle.page_codec.specs.Pages.{IsTagged, nth_page}
 use Rattle.page_codec.proofs.PageFacts.{ends_by, tagged_one, tagged_then}
 use Rattle.page_codec.proofs.SideBySide.{cut_page}
 use Rattle.page_codec.proofs.codec.Codec.put_tags.Goals as goal
@@ -19,7 +19,7 @@ rest-preserved c =
     (arith, ends_by size i (length numbers) c.rest-test.true, c.rest.invariant.length_kept, c.requires.size) in
     let whole : s * i + s - s * i ≡ size = omega (arith, place, inner) in
     let page = cut_page pages size i (s * i) (s * i + s - s * i) place whole in
-    let tagged : IsTagged file (slice_index numbers i) (page_at size pages i) c.put_tag.new.stored =
+    let tagged : IsTagged file (slice_index numbers i) (nth_page size pages i) c.put_tag.new.stored =
     subst (λ (l : List ℕ). IsTagged file (slice_index numbers i) l c.put_tag.new.stored) page (record {
       is = c.put_tag.ensures.value;
       accepted = c.put_tag.ensures.accepted;

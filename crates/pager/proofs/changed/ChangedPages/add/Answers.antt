@@ -1,5 +1,5 @@
 use Rattle.std.proofs.Common.{◌≡◌, ◌≤◌, ◌<◌, ◌∷◌, ◌∙◌, false, length, sym, subst}
-use Rattle.page_cache.specs.Pages.{fresh_page, is_held}
+use Rattle.page_cache.specs.Pages.{fresh_frame, is_held}
 use Rattle.pager.specs.Changed.{Changed}
 use Rattle.pager.proofs.ChangedLemmas.{listing_added}
 use Rattle.pager.proofs.Filling.{on_ok}
@@ -9,7 +9,7 @@ pub invariant_of-self : goal.invariant_of-self
 invariant_of-self c =
     let n = c.args.n in
     let old : Changed = Rattle.pager.specs.contracts.changed.ChangedPages.the_view c.self.inside in
-    let placed : c.hold.new.self ≡ record c.self.inside.cache { held = fresh_page n c.self.inside.cache.usable ∷ c.self.inside.cache.held } =
+    let placed : c.hold.new.self ≡ record c.self.inside.cache { held = fresh_frame n c.self.inside.cache.usable ∷ c.self.inside.cache.held } =
     on_ok c.hold.result (sym c.is_ok.ensures.value ∙ c.if-is_ok.true) c.hold.ensures.placed in
     let to : n ≤ old.pages = subst (λ (v : Changed). n ≤ v.pages) (sym c.self.view_is) c.requires.number.1 in
     let fresh : is_held n old.held ≡ false = subst (λ (v : Changed). is_held n v.held ≡ false) (sym c.self.view_is) c.requires.fresh in

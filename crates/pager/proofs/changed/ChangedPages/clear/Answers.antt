@@ -1,5 +1,5 @@
 use Rattle.std.proofs.Common.{◌≡◌, ◌==◌, ◌∙◌, List, ℕ, replicate, ap, if◌then◌else◌, Some}
-use Rattle.page_cache.specs.Pages.{Page, bytes_at}
+use Rattle.page_cache.specs.Pages.{Page, held_bytes}
 use Rattle.pager.specs.Changed.{Changed}
 use Rattle.pager.proofs.ChangedLemmas.{bytes_written, listing_written}
 use Rattle.pager.proofs.changed.ChangedPages.clear.Goals as goal
@@ -17,5 +17,5 @@ returns-clause-bytes c = λ m.
     let zeros : c.fill.new.self ≡ replicate c.args.self.now.usable 0 =
     c.fill.ensures.after (λ y is. is) ∙ ap (λ (k : ℕ). replicate k 0) (c.at_mut.ensures.size ∙ usable) in
     bytes_written n _ _ c.self.inside.cache.held c.at_mut.ensures.value c.fill.ensures.len m
-    ∙ ap (λ (w : List ℕ). if m == n then Some w else bytes_at m c.self.inside.cache.held) zeros
-    ∙ ap (λ (ps : List Page). if m == n then Some (replicate c.args.self.now.usable 0) else bytes_at m ps) same
+    ∙ ap (λ (w : List ℕ). if m == n then Some w else held_bytes m c.self.inside.cache.held) zeros
+    ∙ ap (λ (ps : List Page). if m == n then Some (replicate c.args.self.now.usable 0) else held_bytes m ps) same

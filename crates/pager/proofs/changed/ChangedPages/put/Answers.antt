@@ -1,5 +1,5 @@
 use Rattle.std.proofs.Common.{◌≡◌, ◌==◌, ◌∙◌, List, ℕ, length, sym, ap, arith, if◌then◌else◌, Some}
-use Rattle.page_cache.specs.Pages.{Page, bytes_at}
+use Rattle.page_cache.specs.Pages.{Page, held_bytes}
 use Rattle.pager.specs.Changed.{Changed, with_bytes}
 use Rattle.pager.specs.Held.{bytes_of_page}
 use Rattle.pager.proofs.ChangedLemmas.{bytes_written, length_over, listing_written, page_is, put_over}
@@ -22,5 +22,5 @@ returns-clause-bytes c = λ m.
     let long = ap length over ∙ length_over c.args.at src page (omega (arith, c.requires.within, usable, c.at_mut-page.ensures.size)) in
     let here : bytes_of_page n c.args.self.now.held ≡ page = ap (λ (ps : List Page). bytes_of_page n ps) (sym same) ∙ page_is n page c.self.inside.cache.held there in
     bytes_written n _ page c.self.inside.cache.held there long m
-    ∙ ap (λ (w : List ℕ). if m == n then Some w else bytes_at m c.self.inside.cache.held) (over ∙ ap (λ (l : List ℕ). with_bytes c.args.at src l) (sym here))
-    ∙ ap (λ (ps : List Page). if m == n then Some (with_bytes c.args.at src (bytes_of_page n c.args.self.now.held)) else bytes_at m ps) same
+    ∙ ap (λ (w : List ℕ). if m == n then Some w else held_bytes m c.self.inside.cache.held) (over ∙ ap (λ (l : List ℕ). with_bytes c.args.at src l) (sym here))
+    ∙ ap (λ (ps : List Page). if m == n then Some (with_bytes c.args.at src (bytes_of_page n c.args.self.now.held)) else held_bytes m ps) same

@@ -1,5 +1,5 @@
-use Rattle.pager.specs.File.{main_of}
-use Rattle.pager.specs.Held.{IsOpened}
+use Rattle.edge_model.specs.Files.{main_of}
+use Rattle.pager.specs.Held.{IsPageOpened}
 use Rattle.pager.proofs.OpeningLemmas.{none_held, opened_whole}
 use Rattle.pager.proofs.file.OpenedFile.into_pager.Goals as goal
 
@@ -9,4 +9,4 @@ invariant_of-result-clause-whole g c = λ told.
 
 pub invariant_of-result-clause-opened : goal.invariant_of-result-clause-opened
 invariant_of-result-clause-opened g c = λ told.
-    none_held (IsOpened c.args.self.codec (main_of (g.D.Disk.reads c.args.disk.now))) c.args.self.cache.held c.args.self.unread
+    none_held (IsPageOpened c.args.self.codec (main_of (g.D.Disk.reads c.args.disk.now))) c.args.self.cache.held c.args.self.unread

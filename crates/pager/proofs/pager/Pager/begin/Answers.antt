@@ -3,8 +3,8 @@ use Rattle.std.proofs.lemmas.List.{length-replicate}
 use Rattle.cipher_profile.specs.Profile.{usable}
 use Rattle.cipher_profile.specs.declared.profile.Profile.{Profile}
 use Rattle.rollback_journal.specs.Writing.{Writing, at_first}
-use Rattle.transaction.specs.Marks.{marked_count}
-use Rattle.transaction.proofs.Batched.{count_none, ready_first}
+use Rattle.atomic_commit.specs.Marks.{marked_count}
+use Rattle.atomic_commit.proofs.Batched.{count_none, ready_first}
 use Rattle.pager.specs.Changed.{Changed, same_layout}
 use Rattle.pager.specs.UnderWay.{IsUnderWay}
 use Rattle.pager.proofs.EndingLemmas.{listed_small}

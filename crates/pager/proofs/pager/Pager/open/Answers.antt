@@ -1,7 +1,6 @@
 use Rattle.std.proofs.Common.{◌∙◌, ap}
-use Rattle.edge_model.specs.Files.{Files}
+use Rattle.edge_model.specs.Files.{Files, main_of}
 use Rattle.page_codec.specs.Page.{FileKeys}
-use Rattle.pager.specs.File.{main_of}
 use Rattle.pager.specs.Opening.{file_opened}
 use Rattle.pager.proofs.pager.Pager.open.Goals as goal
 

@@ -1,6 +1,6 @@
 use Rattle.std.proofs.Common.{refl}
 use Rattle.std.proofs.Transfers.{starts_with_of_eq}
-use Rattle.disk_side.specs.OnlyFresh.{only_fresh_joins, run_joins}
+use Rattle.fresh_disk.specs.OnlyFresh.{only_fresh_joins, run_joins}
 use Rattle.pager.proofs.side.PagerSide.side_create.Goals as goal
 
 pub returns-clause-kept : goal.returns-clause-kept

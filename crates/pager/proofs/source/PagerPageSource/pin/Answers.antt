@@ -2,8 +2,8 @@ use Rattle.std.proofs.Common.{◌∙◌, ap, sym, take, Bool}
 use Rattle.std.specs.Prelude.{if◌then◌else◌}
 use Rattle.cipher_profile.specs.Profile.{usable}
 use Rattle.db_format.specs.Source.{one_more}
-use Rattle.page_cache.specs.Pages.{Pages}
-use Rattle.pager.specs.File.{main_of}
+use Rattle.page_cache.specs.Pages.{HeldPages}
+use Rattle.edge_model.specs.Files.{main_of}
 use Rattle.pager.specs.Held.{plain_of_page, pins_of}
 use Rattle.pager.proofs.Filling.{opened_pins}
 use Rattle.pager.proofs.Pins.{bytes_pinned, pins_more}
@@ -15,9 +15,9 @@ invariant_of-self-clause-opened g c = λ told.
 
 pub returns-clause-pins : goal.returns-clause-pins
 returns-clause-pins g c =
-    ap (λ (p : Pages). pins_of p.held) c.pin.ensures.more ∙ pins_more c.args.n c.args.self.now.cache.held
+    ap (λ (p : HeldPages). pins_of p.held) c.pin.ensures.more ∙ pins_more c.args.n c.args.self.now.cache.held
     ∙ ap (λ (b : Bool). if b then one_more c.args.n (pins_of c.args.self.now.cache.held) else pins_of c.args.self.now.cache.held) (sym c.pin.ensures.value)
 
 pub returns-clause-at_hand : goal.returns-clause-at_hand
 returns-clause-at_hand g c =
-    ap (λ (p : Pages). plain_of_page c.args.self.now.codec.profile c.args.self.now.last p.held) c.pin.ensures.more ∙ ap (take (usable c.args.self.now.codec.profile)) (bytes_pinned c.args.n c.args.self.now.last c.args.self.now.cache.held)
+    ap (λ (p : HeldPages). plain_of_page c.args.self.now.codec.profile c.args.self.now.last p.held) c.pin.ensures.more ∙ ap (take (usable c.args.self.now.codec.profile)) (bytes_pinned c.args.n c.args.self.now.last c.args.self.now.cache.held)

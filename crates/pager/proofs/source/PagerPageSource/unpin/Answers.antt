@@ -2,8 +2,8 @@ use Rattle.std.proofs.Common.{◌∙◌, ap, sym, take, Bool}
 use Rattle.std.specs.Prelude.{if◌then◌else◌}
 use Rattle.cipher_profile.specs.Profile.{usable}
 use Rattle.db_format.specs.Source.{one_less}
-use Rattle.page_cache.specs.Pages.{Pages}
-use Rattle.pager.specs.File.{main_of}
+use Rattle.page_cache.specs.Pages.{HeldPages}
+use Rattle.edge_model.specs.Files.{main_of}
 use Rattle.pager.specs.Held.{plain_of_page, pins_of}
 use Rattle.pager.proofs.Filling.{opened_pins}
 use Rattle.pager.proofs.Pins.{bytes_unpinned, has_pins, pins_less}
@@ -18,9 +18,9 @@ returns-clause-value g c = c.unpin.ensures.value ∙ has_pins c.args.n c.args.se
 
 pub returns-clause-pins : goal.returns-clause-pins
 returns-clause-pins g c =
-    ap (λ (p : Pages). pins_of p.held) c.unpin.ensures.less ∙ pins_less c.args.n c.args.self.now.cache.held
+    ap (λ (p : HeldPages). pins_of p.held) c.unpin.ensures.less ∙ pins_less c.args.n c.args.self.now.cache.held
     ∙ ap (λ (b : Bool). if b then one_less c.args.n (pins_of c.args.self.now.cache.held) else pins_of c.args.self.now.cache.held) (sym c.unpin.ensures.value)
 
 pub returns-clause-at_hand : goal.returns-clause-at_hand
 returns-clause-at_hand g c =
-    ap (λ (p : Pages). plain_of_page c.args.self.now.codec.profile c.args.self.now.last p.held) c.unpin.ensures.less ∙ ap (take (usable c.args.self.now.codec.profile)) (bytes_unpinned c.args.n c.args.self.now.last c.args.self.now.cache.held)
+    ap (λ (p : HeldPages). plain_of_page c.args.self.now.codec.profile c.args.self.now.last p.held) c.unpin.ensures.less ∙ ap (take (usable c.args.self.now.codec.profile)) (bytes_unpinned c.args.n c.args.self.now.last c.args.self.now.cache.held)

@@ -1,7 +1,7 @@
 use Rattle.std.proofs.Common.{ℕ, sym, subst}
 use Rattle.pager.specs.UnderWay.{HasNewPages, is_touched, seen_pages}
-use Rattle.rollback_journal.specs.Playing.{main_of}
-use Rattle.transaction.specs.Commit.{LeavesChanged}
+use Rattle.edge_model.specs.Files.{main_of}
+use Rattle.atomic_commit.specs.Commit.{LeavesChanged}
 use Rattle.pager.proofs.UnderWayLemmas.{ok_map}
 use Rattle.pager.proofs.txn.Txn.end.Goals as goal
 

@@ -1,6 +1,6 @@
 use Rattle.edge_model.specs.Moments.{started}
-use Rattle.transaction.specs.Database.{HoldsOld}
-use Rattle.transaction.proofs.Batched.{batches_hold_old}
+use Rattle.atomic_commit.specs.Database.{HoldsOld}
+use Rattle.atomic_commit.proofs.Batched.{batches_hold_old}
 use Rattle.pager.proofs.txn.Txn.make_room.Goals as goal
 
 -- the conditions, by their places: some, sizes, ready, under_way

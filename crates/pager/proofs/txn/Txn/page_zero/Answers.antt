@@ -1,10 +1,10 @@
 use Rattle.edge_model.specs.Moments.{started}
-use Rattle.transaction.specs.Database.{HoldsOld}
-use Rattle.transaction.proofs.Batched.{batches_hold_old}
+use Rattle.atomic_commit.specs.Database.{HoldsOld}
+use Rattle.atomic_commit.proofs.Batched.{batches_hold_old}
 use Rattle.std.proofs.Common.{◌∙◌, ◌||◌, ◌==◌, ℕ, Bool, true, if◌then◌else◌, replicate, ap, sym}
 use Rattle.cipher_profile.specs.Profile.{usable}
 use Rattle.page_codec.specs.Page.{FileKeys}
-use Rattle.transaction.specs.Marks.{is_marked}
+use Rattle.atomic_commit.specs.Marks.{is_marked}
 use Rattle.pager.specs.Reads.{untouched_read}
 use Rattle.pager.proofs.TxnLemmas.{magic_other}
 use Rattle.pager.proofs.UnderWayLemmas.{held_again, held_put, put_same, seen_put, touched_again, touched_put}

@@ -1,7 +1,7 @@
 use Rattle.std.proofs.Common.{◌≡◌, ◌==◌, ◌∙◌, ℕ, true, false, List, Some, if◌then◌else◌, ap, sym, arith, take}
 use Rattle.cipher_profile.specs.declared.profile.Profile.{Profile}
 use Rattle.cipher_profile.specs.Profile.{is_plain}
-use Rattle.page_cache.specs.Pages.{bytes_at, is_held}
+use Rattle.page_cache.specs.Pages.{held_bytes, is_held}
 use Rattle.pager.proofs.UnderWayLemmas.{first_put, held_again, held_put}
 use Rattle.pager.proofs.txn.Txn.place.Goals as goal
 
@@ -15,7 +15,7 @@ returns-then-not-is_plain-clause-bytes g c begins m =
     let ciphered : is_plain c.args.self.now.write.profile ≡ false =
     sym (ap (λ (p : Profile). is_plain p) c.profile.ensures.value) ∙ sym c.is_plain.ensures ∙ c.if-not-is_plain.true in
     first_put c.args.n c.deref.result.now c.args.self.now.changed.held c.bring.new.self.held c.put.new.self.held is (ap (λ (l : List ℕ). take 16 l) same ∙ begins is ciphered) c.bring.ensures.bytes c.put.ensures.bytes m
-    ∙ ap (λ (l : List ℕ). if m == c.args.n then Some l else bytes_at m c.args.self.now.changed.held) same
+    ∙ ap (λ (l : List ℕ). if m == c.args.n then Some l else held_bytes m c.args.self.now.changed.held) same
 
 pub returns-then-not-is_plain-clause-listed : goal.returns-then-not-is_plain-clause-listed
 returns-then-not-is_plain-clause-listed g c m =

@@ -1,7 +1,7 @@
 use Rattle.std.proofs.Common.{◌≡◌, ◌*◌, ◌≤◌, ◌∙◌, ℕ, List, true, length, ap, sym, subst, arith, rules}
 use Rattle.page_codec.specs.Page.{opened}
 use Rattle.pager.specs.File.{page_stored}
-use Rattle.rollback_journal.specs.Playing.{main_of}
+use Rattle.edge_model.specs.Files.{main_of}
 use Rattle.pager.proofs.BatchLemmas.{number_is}
 use Rattle.pager.proofs.UnderWayLemmas.{batches_long, laid_whole, ok_map, same_main, seen_free, there_page, under_way_read}
 use Rattle.pager.proofs.txn.Txn.read_in.Goals as goal

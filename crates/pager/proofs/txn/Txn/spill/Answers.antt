@@ -1,9 +1,9 @@
 use Rattle.std.proofs.Common.{◌≡◌, ◌∙◌, ℕ, List, [], true, ap, sym, subst}
 use Rattle.page_cache.specs.Pages.{Page}
 use Rattle.pager.specs.Changed.{Changed}
-use Rattle.pager.specs.Pages.{is_number}
+use Rattle.pager.specs.Pages.{is_page_number}
 use Rattle.pager.specs.UnderWay.{is_touched, seen_pages}
-use Rattle.rollback_journal.specs.Playing.{main_of}
+use Rattle.edge_model.specs.Files.{main_of}
 use Rattle.pager.proofs.EndingLemmas.{are_changes}
 use Rattle.pager.proofs.UnderWayLemmas.{seen_after, touched_after}
 use Rattle.pager.proofs.txn.Txn.spill.Goals as goal
@@ -31,4 +31,4 @@ returns-in-Ok-clause-touched g c m num =
     let listing = c.len-listed.ensures.listing in
     let free : c.free.new.self.held ≡ [] = ap (λ (v : Changed). v.held) c.free.ensures in
     subst (λ (hs : List Page). is_touched marks hs m ≡ is_touched s.written s.changed.held m) (sym free)
-    (touched_after g.start.base.pages s.written marks s.changed listing c.in-Ok.ensures.marks m (subst (λ (p : ℕ). is_number p m ≡ true) r.1.0.1 num))
+    (touched_after g.start.base.pages s.written marks s.changed listing c.in-Ok.ensures.marks m (subst (λ (p : ℕ). is_page_number p m ≡ true) r.1.0.1 num))

@@ -1,19 +1,18 @@
 use Rattle.std.proofs.Common.{◌≡◌, ◌==◌, ◌<◌, ◌∙◌, ℕ, Bool, true, false, List, if◌then◌else◌, length, take, ap, sym, subst, refl}
-use Rattle.edge_model.specs.Files.{Files}
+use Rattle.edge_model.specs.Files.{Files, main_of}
 use Rattle.cipher_profile.specs.declared.profile.Profile.{Profile}
 use Rattle.cipher_profile.specs.Profile.{IsListed, is_plain}
 use Rattle.page_codec.specs.Page.{FileKeys}
 use Rattle.pager.proofs.TxnLemmas.{ciphered_alike}
 use Rattle.pager.specs.Changed.{Changed}
-use Rattle.pager.specs.Pages.{is_number}
+use Rattle.pager.specs.Pages.{is_page_number}
 use Rattle.pager.specs.Reads.{disk_then_read, then_untouched, untouched_read}
 use Rattle.pager.specs.UnderWay.{is_touched, seen_pages}
 use Rattle.edge_model.specs.Images.{From, LeavesOnly}
-use Rattle.rollback_journal.specs.Playing.{main_of}
 use Rattle.edge_model.specs.Moments.{started, started_from, goes_less, and_then, then_from}
-use Rattle.transaction.specs.Database.{HoldsOld}
-use Rattle.transaction.specs.Facts.{SameFresh}
-use Rattle.transaction.proofs.Batched.{batches_hold_old}
+use Rattle.atomic_commit.specs.Database.{HoldsOld}
+use Rattle.atomic_commit.specs.Facts.{SameFresh}
+use Rattle.atomic_commit.proofs.Batched.{batches_hold_old}
 use Rattle.pager.proofs.BatchLemmas.{number_is}
 use Rattle.pager.proofs.UnderWayLemmas.{put_same, same_at, seen_as, seen_begins, seen_put, touched_put}
 use Rattle.pager.proofs.txn.Txn.take_in.Goals as goal
@@ -84,7 +83,7 @@ returns-clause-touched g c m num =
     let p = c.place.new.self in
     let was : is_touched q.written q.changed.held m ≡ is_touched s.written s.changed.held m =
     ap (λ (ms : List Bool). is_touched ms q.changed.held m) c.read_in.ensures.kept.3 ∙ ap (λ (v : Changed). is_touched s.written v.held m) c.read_in.ensures.kept.0 in
-    let made = c.in_ok-make_room.ensures.touched m (subst (λ (k : ℕ). is_number k m ≡ true) (sym c.read_in.ensures.file.2) num) in
+    let made = c.in_ok-make_room.ensures.touched m (subst (λ (k : ℕ). is_page_number k m ≡ true) (sym c.read_in.ensures.file.2) num) in
     ap (λ (ms : List Bool). is_touched ms p.changed.held m) c.place.ensures.kept.3
     ∙ touched_put mid.written mid.changed.held p.changed.held c.args.n c.place.ensures.listed m
     ∙ ap (λ (b : Bool). if m == c.args.n then true else b) (made ∙ was)

@@ -1,10 +1,10 @@
 use Rattle.edge_model.specs.Moments.{started}
-use Rattle.transaction.specs.Database.{HoldsOld}
-use Rattle.transaction.proofs.Batched.{batches_hold_old}
+use Rattle.atomic_commit.specs.Database.{HoldsOld}
+use Rattle.atomic_commit.proofs.Batched.{batches_hold_old}
 use Rattle.std.proofs.Common.{◌∙◌, ◌||◌, ℕ, Bool, List, ap, refl, sym}
 use Rattle.pager.specs.Changed.{with_bytes}
-use Rattle.transaction.specs.Marks.{is_marked}
-use Rattle.rollback_journal.specs.Playing.{main_of}
+use Rattle.atomic_commit.specs.Marks.{is_marked}
+use Rattle.edge_model.specs.Files.{main_of}
 use Rattle.pager.proofs.TxnLemmas.{magic_put}
 use Rattle.pager.proofs.UnderWayLemmas.{held_again, put_same, seen_held, seen_put, touched_again}
 use Rattle.pager.proofs.txn.Txn.write.Goals as goal

@@ -1,7 +1,7 @@
 use Rattle.std.proofs.Common.{sym, refl, subst}
 use Rattle.edge_model.specs.Moments.{weaker}
 use Rattle.rollback_journal.specs.declared.stage.Stage.TheVariants.{Closed}
-use Rattle.rollback_journal.specs.Writing.{Writing, Stands, with_stage}
+use Rattle.rollback_journal.specs.Writing.{Writing, WriterStands, with_stage}
 use Rattle.rollback_journal.proofs.WriterSteps.{shut_keeps, shut_stands, closed_cold}
 use Rattle.rollback_journal.proofs.writer.JournalWriter.close_gate.Goals as goal
 
@@ -30,7 +30,7 @@ returns-then-begun-clause-stands g c told =
     let new = g.D.Disk.reads c.put.new.disk in
     let after = g.D.Disk.images c.put.new.disk in
     let shut = shut_stands w old images stands new (c.in_ok-put.ensures.done told) after (c.put.ensures.crash told) (c.in_ok-put.ensures.synced told) in
-    subst (λ (u : Writing). Stands (with_stage Closed u) new after) (sym c.self.view_is) shut
+    subst (λ (u : Writing). WriterStands (with_stage Closed u) new after) (sym c.self.view_is) shut
 
 pub returns-then-begun-clause-cold : goal.returns-then-begun-clause-cold
 returns-then-begun-clause-cold g c told =

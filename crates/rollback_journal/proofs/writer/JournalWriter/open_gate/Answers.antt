@@ -1,7 +1,7 @@
 use Rattle.std.proofs.Common.{List, subst}
 use Rattle.edge_model.specs.Images.{From, LeavesOnly}
 use Rattle.journal_format.specs.Records.{Record}
-use Rattle.rollback_journal.specs.Playing.{contents}
+use Rattle.edge_model.specs.Files.{contents}
 use Rattle.rollback_journal.specs.Plays.{PlaysAsBeforeOrAll}
 use Rattle.rollback_journal.specs.Writing.{all_records}
 use Rattle.rollback_journal.proofs.WriterRuns.{then_other}

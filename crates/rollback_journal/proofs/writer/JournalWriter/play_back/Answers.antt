@@ -1,12 +1,12 @@
 use Rattle.std.proofs.Common.{ℕ, List, sym, ◌∙◌, ap, subst}
-use Rattle.edge_model.specs.Files.{Files}
+use Rattle.edge_model.specs.Files.{Files, main_of}
 use Rattle.edge_model.specs.Images.{From, LeavesOnly}
 use Rattle.edge_model.specs.Moments.{started_from, goes_less, then_from}
 use Rattle.journal_format.specs.Records.{Record}
 use Rattle.journal_format.specs.Segments.{played}
 use Rattle.rollback_journal.specs.Laying.{laid}
-use Rattle.rollback_journal.specs.Recovery.{Keeps}
-use Rattle.rollback_journal.specs.Playing.{main_of, journal_of, IsInPlay}
+use Rattle.rollback_journal.specs.Recovery.{KeepsRecovered}
+use Rattle.rollback_journal.specs.Playing.{journal_of, IsInPlay}
 use Rattle.rollback_journal.proofs.Kept.{keeps_none, keeps_joins}
 use Rattle.rollback_journal.specs.Writing.{Writing}
 use Rattle.rollback_journal.proofs.LayingBack.{in_play, now_played}
@@ -24,10 +24,10 @@ play-requires-clause-in_play g c told f here =
 pub returns-in_err-play-clause-any_moment : goal.returns-in_err-play-clause-any_moment
 returns-in_err-play-clause-any_moment g c told =
     let size = c.args.self.now.page_size in
-    let start = started_from g.met.D.Disk.only_now c.args.disk.now (Keeps size) (keeps_none size) in
+    let start = started_from g.met.D.Disk.only_now c.args.disk.now (KeepsRecovered size) (keeps_none size) in
     let measured = goes_less g.met.D.Disk.counts_now start (c.length.ensures.time told) (c.length.ensures.crash told).no_more in
     then_from g.met.D.Disk.counts_now (keeps_joins size) measured
-    (subst (λ (n : ℕ). LeavesOnly g.D.Disk.moment g.D.Disk.since c.length.new.self c.play.new.disk (From (Keeps n) (g.D.Disk.images c.length.new.self))) (ap (λ (s : Writing). s.page_size) c.self.view_is) (c.play.ensures.any_moment told))
+    (subst (λ (n : ℕ). LeavesOnly g.D.Disk.moment g.D.Disk.since c.length.new.self c.play.new.disk (From (KeepsRecovered n) (g.D.Disk.images c.length.new.self))) (ap (λ (s : Writing). s.page_size) c.self.view_is) (c.play.ensures.any_moment told))
 
 pub returns-clause-laid : goal.returns-clause-laid
 returns-clause-laid g c told =
@@ -42,7 +42,7 @@ returns-clause-laid g c told =
 pub returns-clause-any_moment : goal.returns-clause-any_moment
 returns-clause-any_moment g c told =
     let size = c.args.self.now.page_size in
-    let start = started_from g.met.D.Disk.only_now c.args.disk.now (Keeps size) (keeps_none size) in
+    let start = started_from g.met.D.Disk.only_now c.args.disk.now (KeepsRecovered size) (keeps_none size) in
     let measured = goes_less g.met.D.Disk.counts_now start (c.length.ensures.time told) (c.length.ensures.crash told).no_more in
     then_from g.met.D.Disk.counts_now (keeps_joins size) measured
-    (subst (λ (n : ℕ). LeavesOnly g.D.Disk.moment g.D.Disk.since c.length.new.self c.play.new.disk (From (Keeps n) (g.D.Disk.images c.length.new.self))) (ap (λ (s : Writing). s.page_size) c.self.view_is) (c.play.ensures.any_moment told))
+    (subst (λ (n : ℕ). LeavesOnly g.D.Disk.moment g.D.Disk.since c.length.new.self c.play.new.disk (From (KeepsRecovered n) (g.D.Disk.images c.length.new.self))) (ap (λ (s : Writing). s.page_size) c.self.view_is) (c.play.ensures.any_moment told))

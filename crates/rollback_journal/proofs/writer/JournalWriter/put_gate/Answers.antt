@@ -1,5 +1,5 @@
 use Rattle.std.proofs.Common.{◌≡◌, ◌∷◌, [], ℕ, ap, subst}
-use Rattle.edge_model.specs.Files.{with_bytes, written}
+use Rattle.edge_model.specs.Files.{with_file_bytes, written}
 use Rattle.edge_model.specs.Moments.{weaker}
 use Rattle.rollback_journal.specs.Writing.{Writing}
 use Rattle.rollback_journal.proofs.WriterRuns.{ok_one, ok_two, torn_at}
@@ -15,7 +15,7 @@ returns-clause-stands g c =
     let e = ap (λ (s : Writing). s.at) c.self.view_is in
     ok_two c.put.result (λ done synced told.
     gate_stands w old images c.requires.stage.0 (c.requires.stands told) (c.requires.headed told) (c.requires.whole told) c.requires.stage.1 new
-    (subst (λ (k : ℕ). new.journal ≡ with_bytes (written k (217 ∷ [])) old.journal) e (done told)) (g.D.Disk.images c.put.new.disk) (λ f here. torn_at c.self.inside.at w.at 1 old images e f (c.put.ensures.crash told f here)) (synced told))
+    (subst (λ (k : ℕ). new.journal ≡ with_file_bytes (written k (217 ∷ [])) old.journal) e (done told)) (g.D.Disk.images c.put.new.disk) (λ f here. torn_at c.self.inside.at w.at 1 old images e f (c.put.ensures.crash told f here)) (synced told))
     c.put.ensures.done c.put.ensures.synced
 
 pub returns-clause-records : goal.returns-clause-records
@@ -27,7 +27,7 @@ returns-clause-records g c =
     let e = ap (λ (s : Writing). s.at) c.self.view_is in
     ok_one c.put.result (λ done told.
     gate_all w old images c.requires.stage.0 (c.requires.stands told) (c.requires.headed told) (c.requires.whole told) c.requires.stage.1 new
-    (subst (λ (k : ℕ). new.journal ≡ with_bytes (written k (217 ∷ [])) old.journal) e (done told)))
+    (subst (λ (k : ℕ). new.journal ≡ with_file_bytes (written k (217 ∷ [])) old.journal) e (done told)))
     c.put.ensures.done
 
 pub returns-clause-any_moment : goal.returns-clause-any_moment

@@ -1,5 +1,5 @@
 use Rattle.std.proofs.Common.{◌≡◌, ◌+◌, ℕ, ap, subst, length, take, drop, arith}
-use Rattle.edge_model.specs.Files.{with_bytes, written}
+use Rattle.edge_model.specs.Files.{with_file_bytes, written}
 use Rattle.edge_model.specs.Moments.{weaker}
 use Rattle.rollback_journal.specs.Writing.{Writing}
 use Rattle.rollback_journal.proofs.WriterRuns.{ok_one, ok_two, torn_at}
@@ -17,7 +17,7 @@ returns-clause-stands g c =
     let tail_is = sector_tail w c.first_sector-sector.result c.first_sector-sector.ensures in
     let e = ap (λ (s : Writing). s.at + 1) c.self.view_is in
     ok_two c.put.result (λ done synced told.
-    let is = subst (λ (k : ℕ). new.journal ≡ with_bytes (written k tail) old.journal) e (done told) in
+    let is = subst (λ (k : ℕ). new.journal ≡ with_file_bytes (written k tail) old.journal) e (done told) in
     head_stands w old images c.requires.stage.0 (c.requires.stands told) tail tail_is c.requires.stage.1 new is (g.D.Disk.images c.put.new.disk)
     (λ f here. head_synced w old images c.requires.stage.0 (c.requires.stands told) tail tail_is c.requires.stage.1 new is f (torn_at (c.self.inside.at + 1) (w.at + 1) (length tail) old images e f (c.put.ensures.crash told f here)) (synced told f here)))
     c.put.ensures.done c.put.ensures.synced
@@ -32,7 +32,7 @@ returns-clause-headed g c =
     let tail_is = sector_tail w c.first_sector-sector.result c.first_sector-sector.ensures in
     let e = ap (λ (s : Writing). s.at + 1) c.self.view_is in
     ok_one c.put.result (λ done told.
-    head_is_there w old images c.requires.stage.0 (c.requires.stands told) tail tail_is c.requires.stage.1 new (subst (λ (k : ℕ). new.journal ≡ with_bytes (written k tail) old.journal) e (done told)))
+    head_is_there w old images c.requires.stage.0 (c.requires.stands told) tail tail_is c.requires.stage.1 new (subst (λ (k : ℕ). new.journal ≡ with_file_bytes (written k tail) old.journal) e (done told)))
     c.put.ensures.done
 
 pub returns-clause-whole : goal.returns-clause-whole
@@ -45,7 +45,7 @@ returns-clause-whole g c =
     let tail_is = sector_tail w c.first_sector-sector.result c.first_sector-sector.ensures in
     let e = ap (λ (s : Writing). s.at + 1) c.self.view_is in
     ok_two c.put.result (λ done synced told f here.
-    head_synced w old images c.requires.stage.0 (c.requires.stands told) tail tail_is c.requires.stage.1 new (subst (λ (k : ℕ). new.journal ≡ with_bytes (written k tail) old.journal) e (done told)) f
+    head_synced w old images c.requires.stage.0 (c.requires.stands told) tail tail_is c.requires.stage.1 new (subst (λ (k : ℕ). new.journal ≡ with_file_bytes (written k tail) old.journal) e (done told)) f
     (torn_at (c.self.inside.at + 1) (w.at + 1) (length tail) old images e f (c.put.ensures.crash told f here)) (synced told f here))
     c.put.ensures.done c.put.ensures.synced
 
@@ -59,7 +59,7 @@ returns-clause-records g c =
     let tail_is = sector_tail w c.first_sector-sector.result c.first_sector-sector.ensures in
     let e = ap (λ (s : Writing). s.at + 1) c.self.view_is in
     ok_one c.put.result (λ done told.
-    head_all w old images c.requires.stage.0 (c.requires.stands told) tail tail_is c.requires.stage.1 new (subst (λ (k : ℕ). new.journal ≡ with_bytes (written k tail) old.journal) e (done told)))
+    head_all w old images c.requires.stage.0 (c.requires.stands told) tail tail_is c.requires.stage.1 new (subst (λ (k : ℕ). new.journal ≡ with_file_bytes (written k tail) old.journal) e (done told)))
     c.put.ensures.done
 
 pub returns-clause-any_moment : goal.returns-clause-any_moment

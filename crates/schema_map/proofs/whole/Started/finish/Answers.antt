@@ -6,7 +6,7 @@ use Rattle.btree_model.specs.Parts.{trees_from}
 use Rattle.btree_model.specs.Schema.{schema_part}
 use Rattle.btree_walk.proofs.CauseLemmas.{given_later}
 use Rattle.space_map.proofs.TrunkLemmas.{open_most}
-use Rattle.schema_map.specs.Census.{IsBegun}
+use Rattle.schema_map.specs.Census.{IsCensusBegun}
 use Rattle.schema_map.specs.Started.{FreeMarks}
 use Rattle.schema_map.specs.Parts.{AreSound, IsEarliest, open_pages}
 use Rattle.schema_map.specs.Schema.{IsSchema, tree_roots}
@@ -18,7 +18,7 @@ pub returns-in-Err-clause-found : goal.returns-in-Err-clause-found
 returns-in-Err-clause-found g c told =
     let pages : Pages = g.S.PageSource.plain c.args.source.now in
     let started : FreeMarks = record { marks = c.self.inside.seen; free = c.self.inside.leaves } in
-    let begun : IsBegun pages started = subst (λ s. IsBegun pages s) (sym c.self.view_is) (c.requires.begun told) in
+    let begun : IsCensusBegun pages started = subst (λ s. IsCensusBegun pages s) (sym c.self.view_is) (c.requires.begun told) in
     schema_stop pages started begun g.S.PageSource.refuses c.in-Err.error (c.in-Err.ensures.found told)
 
 pub returns-in-Err-check_trees-clause-given : goal.returns-in-Err-check_trees-clause-given
@@ -30,7 +30,7 @@ pub returns-in-Err-check_trees-clause-found : goal.returns-in-Err-check_trees-cl
 returns-in-Err-check_trees-clause-found g c told =
     let pages : Pages = g.S.PageSource.plain c.args.source.now in
     let started : FreeMarks = record { marks = c.self.inside.seen; free = c.self.inside.leaves } in
-    let begun : IsBegun pages started = subst (λ s. IsBegun pages s) (sym c.self.view_is) (c.requires.begun told) in
+    let begun : IsCensusBegun pages started = subst (λ s. IsCensusBegun pages s) (sym c.self.view_is) (c.requires.begun told) in
     let same : g.S.PageSource.plain c.read_schema.new.source ≡ pages = g.met.S.PageSource.same_pages c.args.source.now c.read_schema.new.source c.in-Ok.ensures.reads told in
     let stopped : IsEarliest g.S.PageSource.refuses pages (trees_from pages (marked c.read_schema.new.seen) (tree_roots c.rows.result.now)) c.in-Err-check_trees.error =
     subst (λ p. IsEarliest g.S.PageSource.refuses p (trees_from p (marked c.read_schema.new.seen) (tree_roots c.rows.result.now)) c.in-Err-check_trees.error) same (c.in-Err-check_trees.ensures.on told)
@@ -42,7 +42,7 @@ pub returns-clause-found : goal.returns-clause-found
 returns-clause-found g c told =
     let pages : Pages = g.S.PageSource.plain c.args.source.now in
     let started : FreeMarks = record { marks = c.self.inside.seen; free = c.self.inside.leaves } in
-    let begun : IsBegun pages started = subst (λ s. IsBegun pages s) (sym c.self.view_is) (c.requires.begun told) in
+    let begun : IsCensusBegun pages started = subst (λ s. IsCensusBegun pages s) (sym c.self.view_is) (c.requires.begun told) in
     let middle : List Bool = c.read_schema.new.seen in
     let new : List Bool = c.check_trees.new.seen in
     let trees : ℕ = c.in-Ok-check_trees.counts.trees in

@@ -1,4 +1,0 @@
-pub mod OnlyFresh
-pub mod Place
-pub mod Published
-pub mod Torn

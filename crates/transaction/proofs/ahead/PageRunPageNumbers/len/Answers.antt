@@ -1,6 +1,0 @@
-use Rattle.std.proofs.Common.{sym}
-use Rattle.transaction.proofs.Runs.{run_length}
-use Rattle.transaction.proofs.ahead.PageRunPageNumbers.len.Goals as goal
-
-pub returns : goal.returns
-returns c = sym (run_length c.args.self.now.first c.args.self.now.count)

@@ -1,4 +1,0 @@
-use Rattle.transaction.proofs.batches.undo_batches.Given as goal
-
-abbrev pub ghost-abandon : goal.ghost-abandon
-ghost-abandon g a = g.base

@@ -1,4 +1,0 @@
-use Rattle.transaction.proofs.recording.keep_marked.Given as goal
-
-abbrev pub ghost-keep_old : goal.ghost-keep_old
-ghost-keep_old g a = g.base
