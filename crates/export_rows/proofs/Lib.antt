@@ -2,7 +2,6 @@ pub mod ColumnSteps
 pub mod CursorSteps
 pub mod Handing
 pub mod ItemText
-pub mod PartSteps
 pub mod SchemaText
 pub mod TreeText
 pub mod Zeros

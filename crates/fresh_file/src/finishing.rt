@@ -9,8 +9,9 @@ ghost use Rattle.bulk_load.specs.Out.{AreAllPut};
 ghost use Rattle.fresh_file.specs.Fresh.{IsFinished, IsWell, fresh_contents, sized_page, with_head};
 ghost use Rattle.fresh_file.specs.Sealed.{plain_page};
 
-use crate::sealing::{CommitFault, seal_page_to};
+use crate::sealing::seal_page_to;
 use crate::state::FreshState;
+use atomic_commit::CommitFault;
 use db_format::{Header, write_header};
 use fresh_disk::Side;
 use page_build::lay;

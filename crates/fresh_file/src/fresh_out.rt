@@ -1,8 +1,8 @@
 // Where a loader puts the pages of a new file.
 ghost use Rattle.std.specs.Prelude.{◌≡◌, ◌≤◌, ◌+◌, ℕ, refl};
 
-use crate::sealing::CommitFault;
 use crate::state::FreshState;
+use atomic_commit::CommitFault;
 use bulk_load::{OutError, PageOut};
 use fresh_disk::Side;
 

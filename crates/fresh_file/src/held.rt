@@ -5,7 +5,8 @@ ghost use Rattle.edge_model.specs.Causes.{Rose};
 ghost use Rattle.page_codec.specs.Pages.{nth_page};
 ghost use Rattle.fresh_file.specs.Held.{IsCutShort, IsSealedAs, with_pages};
 
-use crate::sealing::{CommitFault, write_to};
+use crate::sealing::write_to;
+use atomic_commit::CommitFault;
 use db_format::OutOfMemory;
 use fresh_disk::Side;
 use page_codec::Codec;

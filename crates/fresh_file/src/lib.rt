@@ -9,6 +9,6 @@ mod held;
 mod sealing;
 mod state;
 
+pub use atomic_commit::CommitFault;
 pub use fresh_out::FreshOut;
-pub use sealing::CommitFault;
 pub use state::{FreshState, StartError};

@@ -8,17 +8,9 @@ ghost use Rattle.page_codec.specs.Page.{magic, sealed};
 ghost use Rattle.fresh_disk.specs.Torn.{MayTear};
 ghost use Rattle.fresh_file.specs.Sealed.{IsSealing};
 
+use atomic_commit::CommitFault;
 use fresh_disk::Side;
 use page_codec::Codec;
-
-/// Why a page was not written, or a file not finished.
-#[derive(Clone, Copy, Debug, PartialEq, Eq)]
-pub enum CommitFault {
-    /// The disk failed.
-    DiskFault,
-    /// The entropy failed.
-    EntropyFault,
-}
 
 /// Draws the page's own bytes, seals it as page n and writes it. `stored` is room for the stored page.
 pub(crate) fn seal_page_to<T: Side>(

@@ -8,16 +8,14 @@ ghost use Rattle.fresh_file.specs.Fresh.{IsWell};
 
 use crate::fresh_out::FreshOut;
 use crate::held::{HeldPages, zeros};
-use crate::sealing::{CommitFault, draw_for};
+use crate::sealing::draw_for;
+use atomic_commit::CommitFault;
 use bulk_load::OutError;
 use cipher_profile::Profile;
-use db_format::{OutOfMemory, Seen};
+use db_format::{LARGEST_DATABASE, OutOfMemory, Seen};
 use fresh_disk::Side;
 use page_codec::Codec;
 use std::alloc::Global;
-
-/// The largest file that is served, in bytes.
-pub const LARGEST_FILE: u32 = 1 << 30;
 
 /// Why a new file was not begun.
 #[derive(Clone, Copy, Debug, PartialEq, Eq)]
@@ -291,7 +289,7 @@ fn most_pages(profile: &Profile) -> u32
     ensures small { result ≤ 2 ^ 21 }
 {
     let _usable = profile.usable();
-    LARGEST_FILE / profile.page_size
+    (LARGEST_DATABASE / u64::from(profile.page_size)) as u32
 }
 
 // How many bytes of a page hold content.

@@ -18,7 +18,7 @@ use Rattle.schema_map.specs.Alone.{tree_rows}
 use Rattle.export_rows.proofs.Handing.{if_among_later, if_given_later}
 use Rattle.export_rows.proofs.ItemText.{tree_count, tree_text}
 use Rattle.row_text.proofs.Moving.{cut, restated, restated_part, then, then_part}
-use Rattle.export_rows.proofs.PartSteps.{among_joined}
+use Rattle.schema_map.proofs.PartLemmas.{among_joined}
 use Rattle.export_rows.proofs.TreeText.{none_put}
 use Rattle.export_rows.proofs.item.put_item.Goals as goal
 

@@ -17,7 +17,7 @@ use Rattle.row_text.specs.Lines.{row_text}
 use Rattle.schema_map.specs.Alone.{tree_rows}
 use Rattle.export_rows.proofs.CursorSteps.{walked_is, work_first}
 use Rattle.row_text.proofs.Moving.{restated, restated_part}
-use Rattle.export_rows.proofs.PartSteps.{among_joined, no_record}
+use Rattle.schema_map.proofs.PartLemmas.{among_joined, no_record}
 use Rattle.export_rows.proofs.TreeText.{none_put, so_far_all, so_far_count, so_far_failed, so_far_made, so_far_on, so_far_stopped, row_order}
 use Rattle.export_rows.proofs.tree.put_tree.Goals as goal
 
