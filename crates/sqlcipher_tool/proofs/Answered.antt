@@ -2,7 +2,7 @@
 use Rattle.std.proofs.Common.{◌≡◌, ◌≢◌, ◌⊎◌, ⊎_elim, inl, inr, ℕ, suc, Bool, IsTrue, List, [], ◌∷◌, length, ◌<◌, ◌*◌, Result, Ok, Err, refl, sym, ap, ◌∙◌, subst, arith}
 use Rattle.std.specs.List.{Contains}
 use Rattle.std.specs.Prelude.{IsErr}
-use Rattle.edge_model.specs.Files.{Files}
+use Rattle.edge_model.specs.Files.{Files, main_of}
 use Rattle.edge_model.specs.Images.{Each, From}
 use Rattle.rollback_journal.specs.Recovery.{Recovers, KeepsRecovered}
 use Rattle.cipher_profile.specs.declared.key_line.KeyError.{KeyError}
@@ -13,16 +13,16 @@ use Rattle.sqlcipher_tool.specs.Answer.{Answer, IsAnswer, IsAnswered, IsFault, I
 use Rattle.sqlcipher_tool.specs.Crash.{KeepsHeld}
 use Rattle.sqlcipher_tool.specs.Due.{and_secrets, key_answer, key_lines, keyed_answers, rest_line, secret_answers, secret_line}
 use Rattle.sqlcipher_tool.specs.declared.command.Command.{Command}
-use Rattle.sqlcipher_tool.specs.declared.command.Command.TheVariants.{Tags, Header, Verify, Export, Salvage, Find, Probe, Recover, Stamp, Rekey, Migrate, Make}
-use Rattle.sqlcipher_tool.specs.declared.job.Job.TheVariants.{Verify as VerifyPages, Export as ExportPages, Find as FindRows}
+use Rattle.sqlcipher_tool.specs.declared.command.Command.TheVariants.{Probe, Recover, Read, Change as ChangeFile, Make}
 use Rattle.sqlcipher_tool.specs.declared.status.Status.{Status}
 use Rattle.sqlcipher_tool.specs.declared.status.Status.TheVariants.{Done, Usage, Refused, KeyRefused, DiskFault, OutputFault, InputFault, EntropyFault, OutOfMemory}
 use Rattle.sqlcipher_tool.specs.Holding.{AreOfSize, DiskRun, Held, HoldsOneOf, HoldsOnly}
-use Rattle.sqlcipher_tool.specs.Promises.{AnswersOne, IsAnsweredEarly, PutsSo, TakesAtMost, TakesLines, after_lines, left_after, lines_read}
+use Rattle.sqlcipher_tool.specs.Promises.{AnswersOne, IsAnsweredEarly, PutsSo, TakesAtMost, TakesLines, after_lines, lines_read}
 use Rattle.sqlcipher_tool.specs.Recovered.{recovered_main, recovery_of}
+use Rattle.sqlcipher_tool.specs.Renewal.{renewed}
 use Rattle.sqlcipher_tool.specs.Words.{asked_keys}
 use Rattle.sqlcipher_tool.proofs.Conclusions.{no_part}
-use Rattle.sqlcipher_tool.proofs.SomeDue.{after_some, make_some, migrated_some, recovered_some, rekeyed_some}
+use Rattle.sqlcipher_tool.proofs.SomeDue.{after_some, change_some, make_some, reading_some}
 
 -- what was printed of the answer
 puts_so : (status : Status) (answer : Answer) (before after : List ℕ) → Puts status answer.text before after
@@ -135,29 +135,16 @@ lines_many (asks ∷ more) left secrets is =
 
 -- some answer is due to as many secrets as the command takes
 secrets_due : (command : Command) (secrets : List Secret) (files last : Files) → length secrets ≡ length (asked_keys command) → 0 < length (secret_answers command secrets files last)
-secrets_due (Tags profile) [] files last is = absurd (omega (arith, is))
-secrets_due (Tags profile) (secret ∷ rest) files last is = omega arith
-secrets_due (Header profile) [] files last is = absurd (omega (arith, is))
-secrets_due (Header profile) (secret ∷ rest) files last is = omega arith
-secrets_due (Verify profile) [] files last is = absurd (omega (arith, is))
-secrets_due (Verify profile) (secret ∷ rest) files last is = recovered_some VerifyPages profile secret files
-secrets_due (Export profile) [] files last is = absurd (omega (arith, is))
-secrets_due (Export profile) (secret ∷ rest) files last is = recovered_some ExportPages profile secret files
-secrets_due (Salvage profile) [] files last is = absurd (omega (arith, is))
-secrets_due (Salvage profile) (secret ∷ rest) files last is = after_some (recovery_of profile files) _ (omega arith)
-secrets_due (Find profile name low high) [] files last is = absurd (omega (arith, is))
-secrets_due (Find profile name low high) (secret ∷ rest) files last is = recovered_some (FindRows name low high) profile secret files
 secrets_due Probe [] files last is = absurd (omega (arith, is))
 secrets_due Probe (secret ∷ rest) files last is = omega arith
 secrets_due (Recover profile) secrets files last is = omega arith
-secrets_due (Stamp profile field value) [] files last is = absurd (omega (arith, is))
-secrets_due (Stamp profile field value) (secret ∷ rest) files last is = after_some (recovery_of profile files) _ (omega arith)
-secrets_due (Rekey old new) [] files last is = absurd (omega (arith, is))
-secrets_due (Rekey old new) (first ∷ []) files last is = absurd (omega (arith, is))
-secrets_due (Rekey old new) (first ∷ second ∷ rest) files last is = after_some (recovery_of old files) _ (rekeyed_some old first (recovered_main old files))
-secrets_due (Migrate old new) [] files last is = absurd (omega (arith, is))
-secrets_due (Migrate old new) (first ∷ []) files last is = absurd (omega (arith, is))
-secrets_due (Migrate old new) (first ∷ second ∷ rest) files last is = after_some (recovery_of old files) _ (migrated_some old first new _ (recovered_main old files))
+secrets_due (Read profile reading) [] files last is = absurd (omega (arith, is))
+secrets_due (Read profile reading) (secret ∷ rest) files last is =
+    after_some (recovery_of profile files) _ (reading_some reading profile secret (recovered_main profile files))
+secrets_due (ChangeFile profile change) [] files last is = absurd (omega (arith, is))
+secrets_due (ChangeFile profile change) (first ∷ []) files last is = absurd (omega (arith, is))
+secrets_due (ChangeFile profile change) (first ∷ second ∷ rest) files last is =
+    after_some (recovery_of profile files) _ (change_some change (renewed profile change first second) (recovered_main profile files) (main_of last))
 secrets_due (Make profile rows) [] files last is = absurd (omega (arith, is))
 secrets_due (Make profile rows) (secret ∷ rest) files last is = make_some profile rows files
 
@@ -244,11 +231,6 @@ takes_key error asked InputFault before after is failed rest most = most
 takes_key error asked EntropyFault before after is failed rest most = absurd is
 takes_key error asked OutOfMemory before after is failed rest most = absurd is
 
--- after one line, whatever it gave
-pub one_line : (line : Result Secret KeyError) (rest : List ℕ) → left_after line rest rest ≡ rest
-one_line (Ok secret) rest = refl
-one_line (Err error) rest = refl
-
 -- what a key line that gives no secret says of its line
 pub unless_fault : (T : Type 0) (error : KeyError) (P : KeyError → Type 0) → UnlessFault {T = T} (Err error) (P error) → error ≢ SourceFault → P error
 unless_fault T KeyMissing P holds other = holds
@@ -260,19 +242,6 @@ unless_fault T SourceFault P holds other = absurd (other refl)
 -- it was not carried out
 pub key_not_done : (status : Status) → IsKeyStatus status → status ≡ Done → ⊥
 key_not_done status is done = subst IsKeyStatus done is
-
--- ---- a command with one secret
-
--- what was read for it gives the secrets
-pub one_gave : (asked : List Bool) (asks : Bool) (left : List ℕ) (line : Result Secret KeyError) → asked ≡ asks ∷ [] → line ≡ secret_line asks left
-    → key_lines asked left ≡ and_secrets line (Ok [])
-one_gave asked asks left line is gave =
-    ap (λ (l : List Bool). key_lines l left) is ∙ ap (λ (given : Result Secret KeyError). and_secrets given (Ok [])) (sym gave)
-
--- and leaves the input behind it
-pub one_rest : (asked : List Bool) (asks : Bool) (left after : List ℕ) → asked ≡ asks ∷ [] → after ≡ rest_line asks left → after ≡ after_lines asked left
-one_rest asked asks left after is rest =
-    rest ∙ (sym (one_line (secret_line asks left) (rest_line asks left)) ∙ sym (ap (λ (l : List Bool). after_lines l left) is))
 
 -- ---- secrets that were given
 

@@ -1,23 +1,21 @@
 -- What a command that was asked for keeps, changes and draws, by cases on the command.
-use Rattle.std.proofs.Common.{◌≡◌, ◌⊎◌, ⊎_elim, inl, ◌==◌, ◌&&◌, ◌||◌, not, if◌then◌else◌, rules, ℕ, Bool, true, false, List, [], ◌∷◌, length, Option, Some, None, Ok, IsTrue, refl, sym, ap, subst, ◌∙◌, arith}
+use Rattle.std.proofs.Common.{◌≡◌, ◌⊎◌, ⊎_elim, inl, ◌==◌, ◌&&◌, ◌||◌, not, if◌then◌else◌, rules, ℕ, Bool, true, false, List, [], ◌∷◌, Option, Some, None, Ok, IsTrue, refl, sym, ap, subst, ◌∙◌, arith}
 use Rattle.cipher_profile.specs.declared.keys.Secret.{Secret}
 use Rattle.cipher_profile.specs.declared.profile.Profile.{Profile}
 use Rattle.cipher_profile.specs.Profile.{is_plain}
-use Rattle.edge_model.specs.Files.{Files, main_of}
+use Rattle.edge_model.specs.Files.{Files}
 use Rattle.sqlcipher_tool.specs.Answer.{HasCauses, HasDrawnCauses}
-use Rattle.sqlcipher_tool.specs.Change.{IsChangeBetween, change_answers, command_of, is_in_place}
 use Rattle.sqlcipher_tool.specs.Crash.{ChangesBy, GaveKeys, DrewOwn, IsDrawnFor, IsSafely, Keeps, KeepsFresh, KeepsHeld, MakesWith, Stays}
 use Rattle.sqlcipher_tool.specs.Holding.{DiskRun, disk_run}
-use Rattle.sqlcipher_tool.specs.Renewal.{Renewal, renewal, same_key, two_keys}
-use Rattle.sqlcipher_tool.specs.Due.{key_lines, secret_answers, word_refusal}
-use Rattle.sqlcipher_tool.specs.Recovered.{recovered_answers}
+use Rattle.sqlcipher_tool.specs.Renewal.{Renewal, renewal, renewed_with}
+use Rattle.sqlcipher_tool.specs.Due.{key_lines, word_refusal}
 use Rattle.sqlcipher_tool.specs.declared.change.Change.{Change}
-use Rattle.sqlcipher_tool.specs.declared.change.Change.TheVariants.{Stamp as StampOf, Rekey as RekeyOf, Migrate as MigrateOf}
-use Rattle.sqlcipher_tool.specs.Promises.{asks_some, lines_read, takes_keys}
-use Rattle.sqlcipher_tool.specs.Words.{alters, asked_keys, lacks_tags, layouts_differ, writes_beside}
+use Rattle.sqlcipher_tool.specs.declared.change.Change.TheVariants.{Stamp, Rekey, Migrate}
+use Rattle.sqlcipher_tool.specs.Promises.{asks_some}
+use Rattle.sqlcipher_tool.specs.Words.{alters, changes_layout, is_in_place, lacks_tags, layouts_differ, writes_beside}
 use Rattle.sqlcipher_tool.specs.declared.status.Refusal.TheVariants.{NoTags, LayoutDiffers}
 use Rattle.sqlcipher_tool.specs.declared.command.Command.{Command}
-use Rattle.sqlcipher_tool.specs.declared.command.Command.TheVariants.{Tags, Header, Verify, Export, Salvage, Find, Probe, Recover, Stamp, Rekey, Migrate, Make}
+use Rattle.sqlcipher_tool.specs.declared.command.Command.TheVariants.{Probe, Recover, Read, Change as ChangeFile, Make}
 use Rattle.sqlcipher_tool.specs.declared.status.Refusal.{Refusal}
 use Rattle.sqlcipher_tool.specs.declared.status.Status.{Status}
 use Rattle.sqlcipher_tool.specs.declared.status.Status.TheVariants.{Done, Refused, OutputFault}
@@ -44,17 +42,10 @@ same_secrets tells asked left these is secrets gave = ok_same secrets these (sym
 -- what holds of all secrets that may have been given holds of those that were
 pub changes_of : (status : Status) (command : Command) (tells : Bool) (drawn : List ℕ) (run : DiskRun) (gave given : List Secret → Type 0) → ((secrets : List Secret) → given secrets → gave secrets)
     → ChangesBy status command gave tells drawn run → ChangesBy status command given tells drawn run
-changes_of status (Tags profile) tells drawn run gave given more was = was
-changes_of status (Header profile) tells drawn run gave given more was = was
-changes_of status (Verify profile) tells drawn run gave given more was = was
-changes_of status (Export profile) tells drawn run gave given more was = was
-changes_of status (Salvage profile) tells drawn run gave given more was = was
-changes_of status (Find profile name low high) tells drawn run gave given more was = was
 changes_of status Probe tells drawn run gave given more was = was
 changes_of status (Recover profile) tells drawn run gave given more was = was
-changes_of status (Stamp profile field value) tells drawn run gave given more was = λ secrets has. was secrets (more secrets has)
-changes_of status (Rekey old new) tells drawn run gave given more was = λ secrets has. was secrets (more secrets has)
-changes_of status (Migrate old new) tells drawn run gave given more was = λ secrets has. was secrets (more secrets has)
+changes_of status (Read profile reading) tells drawn run gave given more was = was
+changes_of status (ChangeFile profile change) tells drawn run gave given more was = λ secrets has. was secrets (more secrets has)
 changes_of status (Make profile rows) tells drawn run gave given more was = λ secrets has. was secrets (more secrets has)
 
 pub draws_of : (command : Command) (file drawn : List ℕ) (gave given : List Secret → Type 0) → ((secrets : List Secret) → given secrets → gave secrets)
@@ -92,23 +83,6 @@ undrawn status draws a b d e f g causes same = record {
   entropy_later = omega (arith, same);
 }
 
--- of a command with one secret it is said once whether a key line is read for it
-pub one_asked : (command : Command) → length (asked_keys command) ≡ 1 → asked_keys command ≡ takes_keys command ∷ []
-one_asked command is = by_list (asked_keys command) is
-  where
-    by_list : (asked : List Bool) → length asked ≡ 1 → asked ≡ not (lines_read asked == 0) ∷ []
-    by_list [] one = cc
-    by_list (true ∷ []) one = refl
-    by_list (false ∷ []) one = refl
-    by_list (true ∷ other ∷ rest) one = absurd (omega (arith, one))
-    by_list (false ∷ other ∷ rest) one = absurd (omega (arith, one))
-
--- and of a change from one key to another of each
-pub two_asked : (change : Change) (old new : Profile) → length (asked_keys (command_of change old new)) ≡ 2 → asked_keys (command_of change old new) ≡ not (is_plain old) ∷ not (is_plain new) ∷ []
-two_asked (StampOf field value) old new keyed = cc
-two_asked RekeyOf old new keyed = refl
-two_asked MigrateOf old new keyed = refl
-
 -- ---- what the words refuse
 
 -- a command that they don't refuse has the tags that it asks for, and pages of one layout
@@ -120,53 +94,29 @@ none_refused command is = both (lacks_tags command) (layouts_differ command) is
     both false true is = cc
     both false false is = (refl, refl)
 
-pub same_layout : (old new : Profile) → layouts_differ (Rekey old new) ≡ false → (new.page_size ≡ old.page_size) × (new.reserve ≡ old.reserve)
+pub same_layout : (old new : Profile) → changes_layout old (Rekey new) ≡ false → (new.page_size ≡ old.page_size) × (new.reserve ≡ old.reserve)
 same_layout old new is = equal (is_plain old) old.page_size new.page_size old.reserve new.reserve is
   where
     equal : (plain : Bool) (a b d e : ℕ) → (plain || not (a == b && d == e)) ≡ false → (b ≡ a) × (e ≡ d)
     equal true a b d e is = cc
     equal false a b d e is = (search (rules, is), search (rules, is))
 
--- ---- a change from one key to another
+-- ---- a change of a file
 
--- the layouts do not differ where the key alone changes
-pub two_between : (change : Change) (renewal : Renewal) → layouts_differ (command_of change renewal.old_profile renewal.new_profile) ≡ false
-    → length (asked_keys (command_of change renewal.old_profile renewal.new_profile)) ≡ 2 → IsChangeBetween change renewal
-two_between (StampOf field value) renewal layout keyed = cc
-two_between RekeyOf renewal layout keyed = same_layout renewal.old_profile renewal.new_profile layout
-two_between MigrateOf renewal layout keyed = tt
+-- one in place keeps Fresh
+pub change_keeps : (profile : Profile) (change : Change) (run : DiskRun) → (is_in_place change ≡ true → KeepsFresh run) → Keeps (ChangeFile profile change) run
+change_keeps profile (Stamp field value) run fresh = fresh refl
+change_keeps profile (Rekey new) run fresh = fresh refl
+change_keeps profile (Migrate new) run fresh = tt
 
-pub two_answers : (change : Change) (renewal : Renewal) (files last : Files) → length (asked_keys (command_of change renewal.old_profile renewal.new_profile)) ≡ 2
-    → secret_answers (command_of change renewal.old_profile renewal.new_profile) (renewal.old_secret ∷ renewal.new_secret ∷ []) files last
-    ≡ recovered_answers renewal.old_profile files (λ file. change_answers change renewal file (main_of last))
-two_answers (StampOf field value) renewal files last keyed = cc
-two_answers RekeyOf renewal files last keyed = refl
-two_answers MigrateOf renewal files last keyed = refl
-
-pub two_renewal : (change : Change) (old new : Profile) (secrets : List Secret) → length (asked_keys (command_of change old new)) ≡ 2 → renewal (command_of change old new) secrets ≡ two_keys old new secrets
-two_renewal (StampOf field value) old new secrets keyed = cc
-two_renewal RekeyOf old new secrets keyed = refl
-two_renewal MigrateOf old new secrets keyed = refl
-
-pub two_keeps : (change : Change) (old new : Profile) (run : DiskRun) → length (asked_keys (command_of change old new)) ≡ 2 → (is_in_place change ≡ true → KeepsFresh run) → Keeps (command_of change old new) run
-two_keeps (StampOf field value) old new run keyed fresh = cc
-two_keeps RekeyOf old new run keyed fresh = fresh refl
-two_keeps MigrateOf old new run keyed fresh = tt
-
-pub two_beside : (change : Change) (old new : Profile) → writes_beside (command_of change old new) ≡ true → is_in_place change ≡ false
-two_beside (StampOf field value) old new beside = cc
-two_beside RekeyOf old new beside = cc
-two_beside MigrateOf old new beside = refl
+-- and another writes beside
+pub not_in_place : (in_place : Bool) → not in_place ≡ true → in_place ≡ false
+not_in_place true beside = cc
+not_in_place false beside = refl
 
 -- a command that writes nothing beside
 pub none_beside : (command other : Command) → command ≡ other → writes_beside other ≡ false → writes_beside command ≡ true → ⊥
 none_beside command other is none beside = let no = sym none ∙ (sym (ap writes_beside is) ∙ beside) in cc
-
-pub two_changes : (status : Status) (change : Change) (old new : Profile) (gave : List Secret → Type 0) (tells : Bool) (drawn : List ℕ) (run : DiskRun) → length (asked_keys (command_of change old new)) ≡ 2
-    → ((secrets : List Secret) → gave secrets → IsSafely status (command_of change old new) tells drawn run (two_keys old new secrets)) → ChangesBy status (command_of change old new) gave tells drawn run
-two_changes status (StampOf field value) old new gave tells drawn run keyed safe = cc
-two_changes status RekeyOf old new gave tells drawn run keyed safe = safe
-two_changes status MigrateOf old new gave tells drawn run keyed safe = safe
 
 -- ---- no call of the disk
 
@@ -185,17 +135,10 @@ module _ {D : Type 0} (reads : D → Files) (images : D → Files → Type 0) (m
   stays disk = record { reads = refl; no_more = λ c ever. only_now disk c ever; no_fewer = λ c now. now }
 
   pub unchanged_keeps : (command : Command) (disk : D) → Keeps command (still disk)
-  unchanged_keeps (Tags profile) disk = held profile.page_size disk
-  unchanged_keeps (Header profile) disk = held profile.page_size disk
-  unchanged_keeps (Verify profile) disk = held profile.page_size disk
-  unchanged_keeps (Export profile) disk = held profile.page_size disk
-  unchanged_keeps (Salvage profile) disk = held profile.page_size disk
-  unchanged_keeps (Find profile name low high) disk = held profile.page_size disk
   unchanged_keeps Probe disk = stays disk
   unchanged_keeps (Recover profile) disk = held profile.page_size disk
-  unchanged_keeps (Stamp profile field value) disk = λ c ever. (c, only_now disk c ever, refl)
-  unchanged_keeps (Rekey old new) disk = λ c ever. (c, only_now disk c ever, refl)
-  unchanged_keeps (Migrate old new) disk = tt
+  unchanged_keeps (Read profile reading) disk = held profile.page_size disk
+  unchanged_keeps (ChangeFile profile change) disk = change_keeps profile change (still disk) (λ in_place c ever. (c, only_now disk c ever, refl))
   unchanged_keeps (Make profile rows) disk = record { in_the_way = λ there. stays disk; journal = λ c ever. (c, only_now disk c ever, refl) }
 
   safely : (status : Status) (command : Command) (tells : Bool) (drawn : List ℕ) (disk : D) (renewal : Option Renewal) → (status ≡ Done → ⊥)
@@ -213,15 +156,9 @@ module _ {D : Type 0} (reads : D → Files) (images : D → Files → Type 0) (m
 
   pub unchanged_changes : (status : Status) (command : Command) (gave : List Secret → Type 0) (tells : Bool) (drawn : List ℕ) (disk : D) → (status ≡ Done → ⊥)
       → ChangesBy status command gave tells drawn (still disk)
-  unchanged_changes status (Tags profile) gave tells drawn disk never = tt
-  unchanged_changes status (Header profile) gave tells drawn disk never = tt
-  unchanged_changes status (Verify profile) gave tells drawn disk never = tt
-  unchanged_changes status (Export profile) gave tells drawn disk never = tt
-  unchanged_changes status (Salvage profile) gave tells drawn disk never = tt
-  unchanged_changes status (Find profile name low high) gave tells drawn disk never = tt
   unchanged_changes status Probe gave tells drawn disk never = tt
   unchanged_changes status (Recover profile) gave tells drawn disk never = tt
-  unchanged_changes status (Stamp profile field value) gave tells drawn disk never = λ secrets has. safely status (Stamp profile field value) tells drawn disk (same_key profile secrets) never
-  unchanged_changes status (Rekey old new) gave tells drawn disk never = λ secrets has. safely status (Rekey old new) tells drawn disk (two_keys old new secrets) never
-  unchanged_changes status (Migrate old new) gave tells drawn disk never = λ secrets has. safely status (Migrate old new) tells drawn disk (two_keys old new secrets) never
+  unchanged_changes status (Read profile reading) gave tells drawn disk never = tt
+  unchanged_changes status (ChangeFile profile change) gave tells drawn disk never =
+      λ secrets has. safely status (ChangeFile profile change) tells drawn disk (renewed_with profile change secrets) never
   unchanged_changes status (Make profile rows) gave tells drawn disk never = λ secrets has. makes status profile rows tells drawn disk secrets never

@@ -16,14 +16,12 @@ use Rattle.rekey_job.specs.declared.error.RekeyError.TheVariants.{LayoutDiffers 
 use Rattle.rollback_journal.specs.Recovery.{IsPlaybackDone}
 use Rattle.sqlcipher_tool.specs.Answer.{Answer, IsAnswer, IsFault, is_early_refusal}
 use Rattle.sqlcipher_tool.specs.Behind.{HasOnlyRead, IsOfRecovery, IsRefusal, IsRefusedChange, LeavesRecovered}
-use Rattle.sqlcipher_tool.specs.Change.{change_status, command_of, rekey_error, stop_status}
+use Rattle.sqlcipher_tool.specs.Change.{change_status, rekey_error, stop_status}
 use Rattle.sqlcipher_tool.specs.Due.{key_answer, word_refusal}
 use Rattle.sqlcipher_tool.specs.Holding.{DiskRun}
 use Rattle.sqlcipher_tool.specs.Migrate.{migrate_error}
 use Rattle.sqlcipher_tool.specs.Stop.{outcome_answer}
-use Rattle.sqlcipher_tool.specs.Words.{alters, lacks_tags, layouts_differ}
-use Rattle.sqlcipher_tool.specs.declared.change.Change.{Change}
-use Rattle.sqlcipher_tool.specs.declared.change.Change.TheVariants.{Stamp as StampOf, Rekey as RekeyOf, Migrate as MigrateOf}
+use Rattle.sqlcipher_tool.specs.Words.{lacks_tags, layouts_differ}
 use Rattle.sqlcipher_tool.specs.declared.command.Command.{Command}
 use Rattle.sqlcipher_tool.specs.declared.opening.ChangeError.{ChangeError}
 use Rattle.sqlcipher_tool.specs.declared.opening.ChangeError.TheVariants.{Stopped, EntropyFault as EntropyFails}
@@ -134,11 +132,6 @@ unread status drawing None run never = tt
 unread status drawing (Some profile) run never = λ has. absurd (never has)
 
 -- ---- the changes
-
-pub change_alters : (change : Change) (old new : Profile) → alters (command_of change old new) ≡ true
-change_alters (StampOf field value) old new = refl
-change_alters RekeyOf old new = refl
-change_alters MigrateOf old new = refl
 
 -- behind the opening nothing refuses a stamp
 pub unrefused : {told : Type 0} (P : Type 0) (r : Result (List ℕ) ChangeError) (report : List ℕ) → (told → IsFault (change_status r) ⊎ (r ≡ Ok report))

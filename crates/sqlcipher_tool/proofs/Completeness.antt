@@ -36,28 +36,32 @@ use Rattle.salvage_scan.specs.Salvage.{salvage_lines}
 use Rattle.salvage_scan.specs.Text.{salvage_report}
 use Rattle.sqlcipher_tool.specs.Answer.{Answer, IsFault, done, first_answer, key_refused, refused}
 use Rattle.sqlcipher_tool.specs.declared.command.Command.{Command}
-use Rattle.sqlcipher_tool.specs.declared.command.Command.TheVariants.{Tags, Header, Verify, Export, Salvage, Find, Probe, Recover, Stamp, Rekey, Migrate, Make}
-use Rattle.sqlcipher_tool.specs.declared.job.Job.TheVariants.{Verify as VerifyPages, Export as ExportPages, Find as FindRows}
+use Rattle.sqlcipher_tool.specs.declared.command.Command.TheVariants.{Probe, Recover, Read, Change as ChangeFile, Make}
+use Rattle.sqlcipher_tool.specs.declared.change.Change.{Change}
+use Rattle.sqlcipher_tool.specs.declared.change.Change.TheVariants.{Stamp, Rekey, Migrate}
+use Rattle.sqlcipher_tool.specs.declared.reading.Job.TheVariants.{Verify, Export, Find}
+use Rattle.sqlcipher_tool.specs.declared.reading.Reading.{Reading}
+use Rattle.sqlcipher_tool.specs.declared.reading.Reading.TheVariants.{Tags, Header, Salvage, OnPages}
 use Rattle.sqlcipher_tool.specs.declared.status.Refusal.{Refusal}
 use Rattle.sqlcipher_tool.specs.declared.status.Refusal.TheVariants.{FileThere, JournalThere}
 use Rattle.sqlcipher_tool.specs.declared.status.Status.{Status}
 use Rattle.sqlcipher_tool.specs.declared.status.Status.TheVariants.{Done, Usage, Refused, KeyRefused, DiskFault, OutputFault, InputFault, EntropyFault, OutOfMemory}
-use Rattle.sqlcipher_tool.specs.Due.{asked_answers, command_answers, due, keyed_answers, secret_answers, with_one, with_two}
+use Rattle.sqlcipher_tool.specs.Due.{asked_answers, change_answers, command_answers, due, keyed_answers, secret_answers, with_one, with_two}
 use Rattle.sqlcipher_tool.specs.Find.{find_answers}
-use Rattle.sqlcipher_tool.specs.Header.{header_answer, opened_answer}
-use Rattle.sqlcipher_tool.specs.Job.{job_answers}
+use Rattle.sqlcipher_tool.specs.Header.{opened_answer}
+use Rattle.sqlcipher_tool.specs.Reading.{job_answers, reading_answers}
 use Rattle.sqlcipher_tool.specs.Make.{made_answers, make_answers}
 use Rattle.sqlcipher_tool.specs.Migrate.{migrate_answers}
 use Rattle.sqlcipher_tool.specs.Opening.{opened_with}
 use Rattle.sqlcipher_tool.specs.Plain.{IsClean, Opens}
 use Rattle.sqlcipher_tool.specs.Probe.{first_fitting, found_answer, is_fitting, probe_answer}
 use Rattle.sqlcipher_tool.specs.Promises.{AnswersOne}
-use Rattle.sqlcipher_tool.specs.Recovered.{after_recovery, answers_after, recovered_answer, recovered_answers, recovered_main, recovery_answer, recovery_of}
+use Rattle.sqlcipher_tool.specs.Recovered.{answers_after, recovered_answers, recovered_main, recovery_answer, recovery_of}
 use Rattle.sqlcipher_tool.specs.Rekey.{rekey_answers}
-use Rattle.sqlcipher_tool.specs.Renewal.{pages_under}
+use Rattle.sqlcipher_tool.specs.Renewal.{pages_under, renewed}
 use Rattle.sqlcipher_tool.specs.Salvage.{file_pages, salvage_answer, salvage_causes, salvaged_answer}
-use Rattle.sqlcipher_tool.specs.Servable.{AfterRecovery, CanBeServed, ForOne, ForTwo, HasFewPages, HasServablePages, HasTable, HasTags, IsDoneAlone, IsDoneOrStarved, CanMake, IsProbed, IsServable, NoneRose}
-use Rattle.sqlcipher_tool.specs.Stamp.{stamp_answer, stamped_answer}
+use Rattle.sqlcipher_tool.specs.Servable.{AfterRecovery, CanBeServed, ForOne, ForTwo, HasFewPages, HasServablePages, HasTable, HasTags, IsChangeable, IsDoneAlone, IsDoneOrStarved, CanMake, IsProbed, IsReadable, IsServable, NoneRose}
+use Rattle.sqlcipher_tool.specs.Stamp.{stamped_answer}
 use Rattle.sqlcipher_tool.specs.Tags.{file_answer, is_refused, pages_answer, refused_pages, tags_answer, tags_causes}
 use Rattle.sqlcipher_tool.specs.Text.{header_report, made_report, migrated_report, probe_report, recovery_line, rekeyed_report, stamped_report, tags_report, verify_report}
 use Rattle.sqlcipher_tool.specs.Verify.{opened_answers}
@@ -123,20 +127,11 @@ recovery_alone : (r : Result Recovery RecoverError) → IsOk r → IsDoneAlone (
 recovery_alone (Ok recovery) ok = (recovery_line recovery, refl)
 recovery_alone (Err error) ok = cc
 
-after_alone : (r : Result Recovery RecoverError) (answer : Answer) → IsOk r → IsDoneAlone (answer ∷ []) → IsDoneAlone (after_recovery r answer ∷ [])
-after_alone (Ok recovery) answer ok is = is
-after_alone (Err error) answer ok is = cc
-
 answers_alone : (r : Result Recovery RecoverError) (answers : List Answer) → IsOk r → IsDoneAlone answers → IsDoneAlone (answers_after r answers)
 answers_alone (Ok recovery) answers ok is = is
 answers_alone (Err error) answers ok is = cc
 
 -- what is due on the recovered file is due to the files
-one_alone : (profile : Profile) (files : Files) (P : List ℕ → Type 0) (answer : List ℕ → Answer) → ((file : List ℕ) → P file → IsDoneAlone (answer file ∷ []))
-    → AfterRecovery profile files P → IsDoneAlone (recovered_answer profile files answer ∷ [])
-one_alone profile files P answer alone way =
-    after_alone (recovery_of profile files) (answer (recovered_main profile files)) way.recovers (alone (recovered_main profile files) way.holds)
-
 all_alone : (profile : Profile) (files : Files) (P : List ℕ → Type 0) (answers : List ℕ → List Answer) → ((file : List ℕ) → P file → IsDoneAlone (answers file))
     → AfterRecovery profile files P → IsDoneAlone (recovered_answers profile files answers)
 all_alone profile files P answers alone way =
@@ -155,26 +150,26 @@ stamp_alone (Err error) ok = cc
 -- ---- verify, export, rekey, migrate
 
 verify_alone : (profile : Profile) (secret : Secret) (file : List ℕ) → IsListed profile → IsClean (keys_of profile secret file) file
-    → IsDoneAlone (job_answers VerifyPages profile secret file)
+    → IsDoneAlone (job_answers Verify profile secret file)
 verify_alone profile secret file listed clean =
     let opened = opens_so profile secret file clean.held listed clean.opens in
     (verify_report (counts (opened_pages (keys_of profile secret file) file opened.0.count)), verify_done profile secret file opened.0 opened.1 clean)
 
 export_alone : (profile : Profile) (secret : Secret) (file : List ℕ) → IsListed profile → (held : Content) × Opens (keys_of profile secret file) file held
-    → IsDoneAlone (job_answers ExportPages profile secret file)
+    → IsDoneAlone (job_answers Export profile secret file)
 export_alone profile secret file listed has =
     let opened = opens_so profile secret file has.0 listed has.1 in
     (export_report has.0, export_done profile secret file opened.0 has.0 opened.1 has.1)
 
 pub find_due : (profile : Profile) (secret : Secret) (file name : List ℕ) (low high : ℤ) (has : HasTable profile secret name file)
-    → job_answers (FindRows name low high) profile secret file
+    → job_answers (Find name low high) profile secret file
     ≡ done (found_report (found_rows (opened_pages (keys_of profile secret file) file has.opened.count) has.root low high)) ∷ []
 find_due profile secret file name low high has =
     ap (λ (r : Result Opened OpenError). opened_answers r (λ n. find_answers (opened_pages (keys_of profile secret file) file n) name low high)) has.opens
     ∙ find_done (opened_pages (keys_of profile secret file) file has.opened.count) name has.root low high has.schema has.table has.tree
 
 find_alone : (profile : Profile) (secret : Secret) (file name : List ℕ) (low high : ℤ) → HasTable profile secret name file
-    → IsDoneAlone (job_answers (FindRows name low high) profile secret file)
+    → IsDoneAlone (job_answers (Find name low high) profile secret file)
 find_alone profile secret file name low high has =
     (found_report (found_rows (opened_pages (keys_of profile secret file) file has.opened.count) has.root low high), find_due profile secret file name low high has)
 
@@ -387,30 +382,32 @@ both_secrets [] P answers alone way = absurd way
 both_secrets (first ∷ []) P answers alone way = absurd way
 both_secrets (first ∷ second ∷ rest) P answers alone way = alone first second way
 
+reading_alone : (reading : Reading) (profile : Profile) (secret : Secret) (file : List ℕ) → IsListed profile → IsReadable reading profile secret file
+    → IsDoneAlone (reading_answers reading profile secret file)
+reading_alone Tags profile secret file served way = tags_alone profile secret file served way
+reading_alone Header profile secret file served way = header_alone (opened_with profile secret file) way
+reading_alone Salvage profile secret file served way = salvage_alone profile secret file served way
+reading_alone (OnPages Verify) profile secret file served way = verify_alone profile secret file served way
+reading_alone (OnPages Export) profile secret file served way = export_alone profile secret file served way
+reading_alone (OnPages (Find name low high)) profile secret file served way = find_alone profile secret file name low high way
+
+change_alone : (change : Change) (profile : Profile) (first second : Secret) (file after : List ℕ) → IsListed profile → IsChangeable change profile first file
+    → IsDoneAlone (change_answers change (renewed profile change first second) file after)
+change_alone (Stamp field value) profile first second file after served way = stamp_alone (opened_with profile first file) way
+change_alone (Rekey new) profile first second file after served way = rekey_alone profile first file served way
+change_alone (Migrate new) profile first second file after served way =
+    migrate_alone profile new first (pages_under new second after) file served way
+
 -- Done alone is due to a command with its secrets
 pub servable_done : (command : Command) (secrets : List Secret) (files after : Files) → IsServed command → IsServable command secrets files
     → IsDoneAlone (secret_answers command secrets files after)
-servable_done (Tags profile) secrets files after served = one_secret secrets _ _ (λ secret. one_alone profile files _ (tags_answer profile secret) (λ file. tags_alone profile secret file served))
-servable_done (Header profile) secrets files after served =
-    one_secret secrets _ _ (λ secret. one_alone profile files _ (header_answer profile secret) (λ file. header_alone (opened_with profile secret file)))
-servable_done (Verify profile) secrets files after served =
-    one_secret secrets _ _ (λ secret. all_alone profile files _ (job_answers VerifyPages profile secret) (λ file. verify_alone profile secret file served))
-servable_done (Export profile) secrets files after served =
-    one_secret secrets _ _ (λ secret. all_alone profile files _ (job_answers ExportPages profile secret) (λ file. export_alone profile secret file served))
-servable_done (Salvage profile) secrets files after served =
-    one_secret secrets _ _ (λ secret. all_alone profile files _ (λ file. salvage_answer profile secret file ∷ []) (λ file. salvage_alone profile secret file served))
-servable_done (Find profile name low high) secrets files after served =
-    one_secret secrets _ _ (λ secret. all_alone profile files _ (job_answers (FindRows name low high) profile secret) (λ file. find_alone profile secret file name low high))
 servable_done Probe secrets files after served = one_secret secrets _ _ (λ secret. probe_alone secret files)
 servable_done (Recover profile) secrets files after served = recovery_alone (recovery_of profile files)
-servable_done (Stamp profile field value) secrets files after served =
-    one_secret secrets _ _ (λ secret. all_alone profile files _ (λ file. stamp_answer profile secret file ∷ []) (λ file. stamp_alone (opened_with profile secret file)))
-servable_done (Rekey old new) secrets files after served =
-    both_secrets secrets _ _ (λ first second. all_alone old files _ (rekey_answers old first) (λ file. rekey_alone old first file served.0))
-servable_done (Migrate old new) secrets files after served =
-    both_secrets secrets _ _
-    (λ first second. all_alone old files _ (migrate_answers old first new (pages_under new second (main_of after)))
-    (λ file. migrate_alone old new first (pages_under new second (main_of after)) file served.0))
+servable_done (Read profile reading) secrets files after served =
+    one_secret secrets _ _ (λ secret. all_alone profile files _ (reading_answers reading profile secret) (λ file. reading_alone reading profile secret file served))
+servable_done (ChangeFile profile change) secrets files after served =
+    both_secrets secrets _ _ (λ first second. all_alone profile files _ (λ file. change_answers change (renewed profile change first second) file (main_of after))
+    (λ file. change_alone change profile first second file (main_of after) served.0))
 servable_done (Make profile rows) secrets files after served = one_secret secrets _ _ (λ secret. make_alone profile rows files)
 
 -- Done alone is due to the words

@@ -2,12 +2,12 @@
 use Rattle.std.proofs.Common.{◌≡◌, ◌⊎◌, ⊎_elim, inl, inr, ℕ, List, [], Option, Some, Result, Ok, Err, unwrap_or, refl, sym, ap, ◌∙◌, subst, append-nil}
 use Rattle.rollback_journal.specs.declared.recovery.Recovery.{Recovery}
 use Rattle.rollback_journal.specs.declared.recovery.RecoverError.{RecoverError}
-use Rattle.sqlcipher_tool.specs.Answer.{Answer, IsAnswered, IsFault, Puts, PutsPart, refused, key_refused}
+use Rattle.sqlcipher_tool.specs.Answer.{Answer, Puts, PutsPart, refused, key_refused}
 use Rattle.sqlcipher_tool.specs.declared.opening.Stop.{Stop}
 use Rattle.sqlcipher_tool.specs.declared.opening.Stop.TheVariants.{Refused as StopRefused, KeyRefused as StopKey, DiskFault as StopDisk, OutOfMemory as StopMemory}
 use Rattle.sqlcipher_tool.specs.declared.status.Status.{Status}
 use Rattle.sqlcipher_tool.specs.declared.status.Status.TheVariants.{DiskFault, OutOfMemory}
-use Rattle.sqlcipher_tool.specs.Recovered.{after_recovery, recovery_answer, refused_answer}
+use Rattle.sqlcipher_tool.specs.Recovered.{recovery_answer, refused_answer}
 use Rattle.sqlcipher_tool.specs.Stop.{IsOutside, stop_answer, outcome_answer}
 
 -- where nothing was put, that is a part of any text
@@ -54,11 +54,6 @@ outcome_text outcome due status before after is text failed starved =
     (λ rest. ⊎_elim (λ (memory : outcome ≡ Err StopMemory). nothing_fed due.text before after status (starved memory))
     (λ (same : outcome_answer outcome ≡ Some due). text due same) rest) is
 
--- what is answered to a recovery that stops
-pub refused_is : (r : Result Recovery RecoverError) (given : Answer) (otherwise : Answer) → Some given ≡ refused_answer r → given ≡ after_recovery r otherwise
-refused_is (Ok did) given otherwise is = cc
-refused_is (Err error) given otherwise is = cc
-
 -- what a recovery that stops comes to
 pub stop_told : (stop : Stop) (r : Result Recovery RecoverError) → IsOutside stop ⊎ (stop_answer stop ≡ refused_answer r)
     → (stop ≡ StopDisk) ⊎ ((stop ≡ StopMemory) ⊎ (stop_answer stop ≡ Some (recovery_answer r)))
@@ -82,43 +77,3 @@ pub outcome_told : (stop : Stop) (r : Result Recovery RecoverError) → IsOutsid
     → (stopped stop ≡ Err StopDisk) ⊎ ((stopped stop ≡ Err StopMemory) ⊎ (outcome_answer (stopped stop) ≡ Some (recovery_answer r)))
 outcome_told stop r is =
     ⊎_elim (λ disk. inl (ap stopped disk)) (λ rest. ⊎_elim (λ memory. inr (inl (ap stopped memory))) (λ same. inr (inr same)) rest) (stop_told stop r is)
-
-pub recovery_text : (stop : Stop) (r : Result Recovery RecoverError) (otherwise : Answer) (status : Status) (before after : List ℕ)
-    → IsOutside stop ⊎ (stop_answer stop ≡ refused_answer r)
-    → ((answer : Answer) → stop_answer stop ≡ Some answer → Puts status answer.text before after)
-    → (stop ≡ StopDisk → (status ≡ DiskFault) × (after ≡ before))
-    → (stop ≡ StopMemory → (status ≡ OutOfMemory) × (after ≡ before))
-    → Puts status (after_recovery r otherwise).text before after
-recovery_text StopDisk r otherwise status before after is text failed starved =
-    nothing_put (after_recovery r otherwise).text before after status (failed refl)
-recovery_text StopMemory r otherwise status before after is text failed starved =
-    nothing_fed (after_recovery r otherwise).text before after status (starved refl)
-recovery_text StopKey r otherwise status before after is text failed starved =
-    ⊎_elim (λ (outside : IsOutside StopKey). ⊎_elim (λ (disk : StopKey ≡ StopDisk). cc) (λ (memory : StopKey ≡ StopMemory). cc) outside)
-    (λ (same : Some key_refused ≡ refused_answer r).
-    subst (λ (a : Answer). Puts status a.text before after) (refused_is r key_refused otherwise same) (text key_refused refl)) is
-recovery_text (StopRefused refusal) r otherwise status before after is text failed starved =
-    ⊎_elim
-    (λ (outside : IsOutside (StopRefused refusal)).
-    ⊎_elim (λ (disk : StopRefused refusal ≡ StopDisk). cc) (λ (memory : StopRefused refusal ≡ StopMemory). cc) outside)
-    (λ (same : Some (refused refusal) ≡ refused_answer r).
-    subst (λ (a : Answer). Puts status a.text before after) (refused_is r (refused refusal) otherwise same) (text (refused refusal) refl)) is
-
--- and its status
-pub recovery_status : (stop : Stop) (r : Result Recovery RecoverError) (otherwise : Answer) (status : Status)
-    → IsOutside stop ⊎ (stop_answer stop ≡ refused_answer r)
-    → ((answer : Answer) → stop_answer stop ≡ Some answer → IsAnswered status answer)
-    → (stop ≡ StopDisk → status ≡ DiskFault) → (stop ≡ StopMemory → status ≡ OutOfMemory)
-    → IsAnswered status (after_recovery r otherwise)
-recovery_status StopDisk r otherwise status is answered failed starved = inr (subst IsFault (sym (failed refl)) tt)
-recovery_status StopMemory r otherwise status is answered failed starved = inr (subst IsFault (sym (starved refl)) tt)
-recovery_status StopKey r otherwise status is answered failed starved =
-    ⊎_elim (λ (outside : IsOutside StopKey). ⊎_elim (λ (disk : StopKey ≡ StopDisk). cc) (λ (memory : StopKey ≡ StopMemory). cc) outside)
-    (λ (same : Some key_refused ≡ refused_answer r).
-    subst (λ (a : Answer). IsAnswered status a) (refused_is r key_refused otherwise same) (answered key_refused refl)) is
-recovery_status (StopRefused refusal) r otherwise status is answered failed starved =
-    ⊎_elim
-    (λ (outside : IsOutside (StopRefused refusal)).
-    ⊎_elim (λ (disk : StopRefused refusal ≡ StopDisk). cc) (λ (memory : StopRefused refusal ≡ StopMemory). cc) outside)
-    (λ (same : Some (refused refusal) ≡ refused_answer r).
-    subst (λ (a : Answer). IsAnswered status a) (refused_is r (refused refusal) otherwise same) (answered (refused refusal) refl)) is

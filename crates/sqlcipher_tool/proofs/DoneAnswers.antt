@@ -32,10 +32,10 @@ use Rattle.db_maker.specs.Rows.{total_len}
 use Rattle.sqlcipher_tool.specs.Make.{made_answers}
 use Rattle.fresh_file.specs.State.{most_pages}
 use Rattle.migrate_job.specs.Bound.{pages_at_most}
-use Rattle.sqlcipher_tool.specs.Job.{job_answers}
+use Rattle.sqlcipher_tool.specs.Reading.{job_answers}
 use Rattle.sqlcipher_tool.specs.Verify.{opened_answers, pages_answers, rest_answers, tags_or}
 use Rattle.sqlcipher_tool.specs.Export.{content_answers}
-use Rattle.sqlcipher_tool.specs.declared.job.Job.TheVariants.{Verify, Export}
+use Rattle.sqlcipher_tool.specs.declared.reading.Job.TheVariants.{Verify, Export}
 use Rattle.sqlcipher_tool.specs.Rekey.{rekey_answers, rekey_due}
 use Rattle.sqlcipher_tool.proofs.Migrating.{whole_pages_due}
 use Rattle.sqlcipher_tool.proofs.Rekeying.{report_alone}

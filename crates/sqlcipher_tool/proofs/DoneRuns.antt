@@ -11,24 +11,25 @@ use Rattle.rollback_journal.specs.declared.recovery.RecoverError.{RecoverError}
 use Rattle.rollback_journal.specs.declared.recovery.RecoverError.TheVariants.{JournalPageSize, SuperJournal, DiskFault, OutOfMemory}
 use Rattle.sqlcipher_tool.specs.Answer.{Answer}
 use Rattle.sqlcipher_tool.specs.Due.{asked_answers, command_answers, due, key_lines, keyed_answers, secret_answers, word_refusal}
-use Rattle.sqlcipher_tool.specs.Job.{job_answers}
+use Rattle.sqlcipher_tool.specs.Reading.{job_answers}
 use Rattle.sqlcipher_tool.specs.Promises.{AnswersOne}
 use Rattle.sqlcipher_tool.specs.Recovered.{answers_after, recovered_answers, recovered_main, recovery_answer, recovery_of}
 use Rattle.sqlcipher_tool.specs.Reported.{IsExported, IsVerified, Reports}
 use Rattle.sqlcipher_tool.specs.Words.{asked_keys, form}
 use Rattle.sqlcipher_tool.specs.declared.command.Command.{Command}
-use Rattle.sqlcipher_tool.specs.declared.command.Command.TheVariants.{Export, Verify}
-use Rattle.sqlcipher_tool.specs.declared.job.Job.{Job}
-use Rattle.sqlcipher_tool.specs.declared.job.Job.TheVariants.{Export as ExportPages, Verify as VerifyPages}
+use Rattle.sqlcipher_tool.specs.declared.command.Command.TheVariants.{Read}
+use Rattle.sqlcipher_tool.specs.declared.reading.Reading.TheVariants.{OnPages}
+use Rattle.sqlcipher_tool.specs.declared.reading.Job.{Job}
+use Rattle.sqlcipher_tool.specs.declared.reading.Job.TheVariants.{Export as ExportPages, Verify as VerifyPages}
 use Rattle.sqlcipher_tool.specs.declared.status.Refusal.{Refusal}
 use Rattle.sqlcipher_tool.specs.declared.status.Status.TheVariants.{Done}
 use Rattle.sqlcipher_tool.proofs.Completeness.{one_is}
 use Rattle.sqlcipher_tool.proofs.DueReports.{done_exports, done_verifies}
 
--- what is due to a command that takes one key
-one_due : (words : List (List ℕ)) (left : List ℕ) (files after : Files) (command : Command) (secret : Secret) → word_refusal command ≡ None → form words ≡ Some command
-    → key_lines (asked_keys command) left ≡ Ok (secret ∷ []) → due words left files after ≡ secret_answers command (secret ∷ []) files after
-one_due words left files after command secret unrefused is gave =
+-- what is due to a command with its secrets
+one_due : (words : List (List ℕ)) (left : List ℕ) (files after : Files) (command : Command) (secret : Secret) (rest : List Secret) → word_refusal command ≡ None → form words ≡ Some command
+    → key_lines (asked_keys command) left ≡ Ok (secret ∷ rest) → due words left files after ≡ secret_answers command (secret ∷ rest) files after
+one_due words left files after command secret rest unrefused is gave =
     ap (λ (c : Option Command). command_answers c left files after) is
     ∙ ap (λ (r : Option Refusal). asked_answers r command left files after) unrefused
     ∙ ap (λ (lines : Result (List Secret) KeyError). keyed_answers command lines files after) gave
@@ -56,16 +57,16 @@ job_done job profile secret says holds files tells before after one =
     let due_so = recovered_done (recovery_of profile files) (job_answers job profile secret file) one.answer one.is_due done in
     (one.answer.text, holds file one.answer due_so done, λ printed. one.puts printed)
 
-pub verify_done_run : (words : List (List ℕ)) (left : List ℕ) (files after : Files) (profile : Profile) (secret : Secret) (tells : Bool) (was now : List ℕ)
-    → form words ≡ Some (Verify profile) → key_lines (asked_keys (Verify profile)) left ≡ Ok (secret ∷ []) → AnswersOne (due words left files after) Done tells was now
+pub verify_done_run : (words : List (List ℕ)) (left : List ℕ) (files after : Files) (profile : Profile) (secret : Secret) (rest : List Secret) (tells : Bool) (was now : List ℕ)
+    → form words ≡ Some (Read profile (OnPages VerifyPages)) → key_lines (asked_keys (Read profile (OnPages VerifyPages))) left ≡ Ok (secret ∷ rest) → AnswersOne (due words left files after) Done tells was now
     → Reports profile files (λ file text. IsVerified (keys_of profile secret file) file text) tells was now
-verify_done_run words left files after profile secret tells was now is gave one =
+verify_done_run words left files after profile secret rest tells was now is gave one =
     job_done VerifyPages profile secret (λ file text. IsVerified (keys_of profile secret file) file text) (done_verifies profile secret) files tells was now
-    (subst (λ (l : List Answer). AnswersOne l Done tells was now) (one_due words left files after (Verify profile) secret refl is gave) one)
+    (subst (λ (l : List Answer). AnswersOne l Done tells was now) (one_due words left files after (Read profile (OnPages VerifyPages)) secret rest refl is gave) one)
 
-pub export_done_run : (words : List (List ℕ)) (left : List ℕ) (files after : Files) (profile : Profile) (secret : Secret) (tells : Bool) (was now : List ℕ)
-    → form words ≡ Some (Export profile) → key_lines (asked_keys (Export profile)) left ≡ Ok (secret ∷ []) → AnswersOne (due words left files after) Done tells was now
+pub export_done_run : (words : List (List ℕ)) (left : List ℕ) (files after : Files) (profile : Profile) (secret : Secret) (rest : List Secret) (tells : Bool) (was now : List ℕ)
+    → form words ≡ Some (Read profile (OnPages ExportPages)) → key_lines (asked_keys (Read profile (OnPages ExportPages))) left ≡ Ok (secret ∷ rest) → AnswersOne (due words left files after) Done tells was now
     → Reports profile files (λ file text. IsExported (keys_of profile secret file) file text) tells was now
-export_done_run words left files after profile secret tells was now is gave one =
+export_done_run words left files after profile secret rest tells was now is gave one =
     job_done ExportPages profile secret (λ file text. IsExported (keys_of profile secret file) file text) (done_exports profile secret) files tells was now
-    (subst (λ (l : List Answer). AnswersOne l Done tells was now) (one_due words left files after (Export profile) secret refl is gave) one)
+    (subst (λ (l : List Answer). AnswersOne l Done tells was now) (one_due words left files after (Read profile (OnPages ExportPages)) secret rest refl is gave) one)

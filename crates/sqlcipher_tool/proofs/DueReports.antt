@@ -16,7 +16,7 @@ use Rattle.pager.specs.declared.opening.OpenError.{OpenError}
 use Rattle.pager.specs.declared.opening.OpenError.TheVariants.{Empty, Short, KeyRefused as NoKey, HeaderFault, WalMode, AutoVacuum, Ragged, TooLarge, DiskFault as DiskFails, OutOfMemory as MemoryEnds}
 use Rattle.sqlcipher_tool.specs.Answer.{Answer, done, refused}
 use Rattle.sqlcipher_tool.specs.Export.{content_answers}
-use Rattle.sqlcipher_tool.specs.Job.{job_answers}
+use Rattle.sqlcipher_tool.specs.Reading.{job_answers}
 use Rattle.sqlcipher_tool.specs.Migrate.{migrate_answers, migrate_due}
 use Rattle.sqlcipher_tool.specs.Opening.{open_answer, opened_with}
 use Rattle.sqlcipher_tool.specs.Plain.{IsClean, Opens, content_of, refused_in_use}
@@ -25,7 +25,7 @@ use Rattle.sqlcipher_tool.specs.Reported.{CanBeMigrated, CanBeRekeyed, IsExporte
 use Rattle.sqlcipher_tool.specs.Tags.{tags_of}
 use Rattle.sqlcipher_tool.specs.Text.{migrated_report, rekeyed_report, verify_report}
 use Rattle.sqlcipher_tool.specs.Verify.{else_answers, opened_answers, pages_answers, rest_answers, stop_answers, tags_or}
-use Rattle.sqlcipher_tool.specs.declared.job.Job.TheVariants.{Verify, Export}
+use Rattle.sqlcipher_tool.specs.declared.reading.Job.TheVariants.{Verify, Export}
 use Rattle.sqlcipher_tool.specs.declared.status.Refusal.{Refusal}
 use Rattle.sqlcipher_tool.specs.declared.status.Refusal.TheVariants.{PageTag, Defect as RefusedDefect, TooManyPages}
 use Rattle.sqlcipher_tool.specs.declared.status.Status.TheVariants.{Done, Refused}

@@ -15,13 +15,10 @@ use Rattle.rollback_journal.specs.declared.recovery.Recovery.TheVariants.{Nothin
 use Rattle.rollback_journal.specs.declared.recovery.RecoverError.{RecoverError}
 use Rattle.rollback_journal.specs.declared.recovery.RecoverError.TheVariants.{JournalPageSize, SuperJournal}
 use Rattle.rollback_journal.specs.Recovery.{answer_of, changes_nothing}
-use Rattle.sqlcipher_tool.specs.Change.{command_of}
 use Rattle.sqlcipher_tool.specs.Holding.{DiskRun, disk_run}
 use Rattle.sqlcipher_tool.specs.Opening.{opened_with}
 use Rattle.sqlcipher_tool.specs.Recovered.{recovery_of}
-use Rattle.sqlcipher_tool.specs.Untouched.{HasNoFile, IsUnwritten, LeavesAlone, recovers_by}
-use Rattle.sqlcipher_tool.specs.declared.change.Change.{Change}
-use Rattle.sqlcipher_tool.specs.declared.change.Change.TheVariants.{Stamp as StampOf, Rekey as RekeyOf, Migrate as MigrateOf}
+use Rattle.sqlcipher_tool.specs.Untouched.{HasNoFile, IsUnwritten, LeavesAlone}
 
 -- ---- a recovery that is done where there is no file
 
@@ -107,9 +104,3 @@ left_idle reads images profile {old} same only none =
 pub left_alone : (profile : Option Profile) (run : DiskRun) → IsUnwritten run → LeavesAlone profile run
 left_alone None run is = tt
 left_alone (Some profile) run is = λ none. is
-
--- a change recovers the old file
-pub change_recovers : (change : Change) (old new : Profile) → recovers_by (command_of change old new) ≡ Some old
-change_recovers (StampOf field value) old new = refl
-change_recovers RekeyOf old new = refl
-change_recovers MigrateOf old new = refl

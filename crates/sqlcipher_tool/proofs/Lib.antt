@@ -39,6 +39,7 @@ pub mod Numbers
 pub mod Rowids
 pub mod Served
 pub mod Salvaging
+pub mod Readings
 pub mod Completeness
 pub mod MadeServable
 pub mod MigrateServable

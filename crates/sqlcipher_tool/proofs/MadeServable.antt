@@ -5,6 +5,7 @@ use Rattle.std.proofs.lemmas.Nat.{le-div}
 use Rattle.std.specs.Prelude.{IsOk, codes, is_ok}
 use Rattle.std.specs.Cmp.Derive.{both_true}
 use Rattle.cipher_profile.specs.declared.keys.Secret.{Secret}
+use Rattle.cipher_profile.specs.declared.keys.Secret.TheVariants.{NoKey}
 use Rattle.cipher_profile.specs.declared.profile.Profile.{Profile}
 use Rattle.cipher_profile.specs.Profile.{IsListed, is_plain, profile_named, sqlcipher_4}
 use Rattle.db_format.specs.Count.{largest_database}
@@ -17,7 +18,10 @@ use Rattle.pager.specs.Pages.{is_page_number}
 use Rattle.pager.specs.declared.opening.OpenError.{OpenError}
 use Rattle.pager.proofs.BatchLemmas.{number_is}
 use Rattle.sqlcipher_tool.specs.declared.command.Command.{Command}
-use Rattle.sqlcipher_tool.specs.declared.command.Command.TheVariants.{Tags, Header, Verify, Export, Salvage, Find, Probe, Recover, Stamp, Rekey, Migrate, Make}
+use Rattle.sqlcipher_tool.specs.declared.command.Command.TheVariants.{Probe, Recover, Read, Change as ChangeFile, Make}
+use Rattle.sqlcipher_tool.specs.declared.change.Change.TheVariants.{Stamp, Rekey, Migrate}
+use Rattle.sqlcipher_tool.specs.declared.reading.Job.TheVariants.{Verify, Export, Find}
+use Rattle.sqlcipher_tool.specs.declared.reading.Reading.TheVariants.{Tags, Header, Salvage, OnPages}
 use Rattle.sqlcipher_tool.specs.Opening.{opened_with}
 use Rattle.sqlcipher_tool.specs.Plain.{IsClean}
 use Rattle.sqlcipher_tool.specs.Servable.{CanBeServed, HasServablePages, HasTags, IsProbed, IsReadCommand, IsServable, standing}
@@ -67,22 +71,27 @@ module _ (profile : Profile) (secret : Secret) (rows : ℕ) (file : File) (fresh
   }
 
   pub made_servable : (second : Secret) (command : Command) → IsReadCommand profile command → IsServable command (secret ∷ second ∷ []) (standing file fresh)
-  made_servable second (Tags other) is = subst (λ (p : Profile). IsServable (Tags p) (secret ∷ second ∷ []) (standing file fresh)) (sym is) (record { recovers = refl; holds = has_tags })
-  made_servable second (Header other) is = subst (λ (p : Profile). IsServable (Header p) (secret ∷ second ∷ []) (standing file fresh)) (sym is) (record { recovers = refl; holds = opens })
-  made_servable second (Verify other) is = subst (λ (p : Profile). IsServable (Verify p) (secret ∷ second ∷ []) (standing file fresh)) (sym is) (record { recovers = refl; holds = clean })
-  made_servable second (Export other) is =
-      subst (λ (p : Profile). IsServable (Export p) (secret ∷ second ∷ []) (standing file fresh)) (sym is) (record { recovers = refl; holds = (clean.held, clean.opens) })
-  made_servable second (Salvage other) is = subst (λ (p : Profile). IsServable (Salvage p) (secret ∷ second ∷ []) (standing file fresh)) (sym is) (record { recovers = refl; holds = has_pages })
-  made_servable second (Find other name low high) is = absurd is
   made_servable second Probe is = probed is
   made_servable second (Recover other) is = refl
-  made_servable second (Stamp other field value) is =
-      subst (λ (p : Profile). IsServable (Stamp p field value) (secret ∷ second ∷ []) (standing file fresh)) (sym is) (record { recovers = refl; holds = opens })
-  made_servable second (Rekey old new) is = subst (λ (p : Profile). IsServable (Rekey p new) (secret ∷ second ∷ []) (standing file fresh)) (sym is) (record { recovers = refl; holds = clean })
-  made_servable second (Migrate old new) is = absurd is
+  made_servable second (Read other Tags) is =
+      subst (λ (p : Profile). IsServable (Read p Tags) (secret ∷ second ∷ []) (standing file fresh)) (sym is) (record { recovers = refl; holds = has_tags })
+  made_servable second (Read other Header) is =
+      subst (λ (p : Profile). IsServable (Read p Header) (secret ∷ second ∷ []) (standing file fresh)) (sym is) (record { recovers = refl; holds = opens })
+  made_servable second (Read other Salvage) is =
+      subst (λ (p : Profile). IsServable (Read p Salvage) (secret ∷ second ∷ []) (standing file fresh)) (sym is) (record { recovers = refl; holds = has_pages })
+  made_servable second (Read other (OnPages Verify)) is =
+      subst (λ (p : Profile). IsServable (Read p (OnPages Verify)) (secret ∷ second ∷ []) (standing file fresh)) (sym is) (record { recovers = refl; holds = clean })
+  made_servable second (Read other (OnPages Export)) is =
+      subst (λ (p : Profile). IsServable (Read p (OnPages Export)) (secret ∷ second ∷ []) (standing file fresh)) (sym is) (record { recovers = refl; holds = (clean.held, clean.opens) })
+  made_servable second (Read other (OnPages (Find name low high))) is = absurd is
+  made_servable second (ChangeFile other (Stamp field value)) is =
+      subst (λ (p : Profile). IsServable (ChangeFile p (Stamp field value)) (secret ∷ second ∷ []) (standing file fresh)) (sym is) (record { recovers = refl; holds = opens })
+  made_servable second (ChangeFile other (Rekey new)) is =
+      subst (λ (p : Profile). IsServable (ChangeFile p (Rekey new)) (secret ∷ second ∷ []) (standing file fresh)) (sym is) (record { recovers = refl; holds = clean })
+  made_servable second (ChangeFile other (Migrate new)) is = absurd is
   made_servable second (Make other count) is = absurd is
 
--- where no file is there, `recover` has no_files to do
+-- where no file is there, `recover` has nothing to do
 pub nothing_servable : (left : List ℕ) → CanBeServed (codes "recover" ∷ codes "4" ∷ []) left no_files
 unfolding profile_named
-nothing_servable left = record { command = Recover sqlcipher_4; is_form = refl; no_refusal = refl; secrets = []; gave = refl; servable = refl }
+nothing_servable left = record { command = Recover sqlcipher_4; is_form = refl; no_refusal = refl; secrets = NoKey ∷ NoKey ∷ []; gave = refl; servable = refl }

@@ -20,7 +20,8 @@ use Rattle.edge_model.specs.Files.{File}
 use Rattle.fresh_file.specs.State.{most_pages}
 use Rattle.make_job.specs.Made.{IsMade, made_content}
 use Rattle.migrate_job.specs.Bound.{most_of, row_chain}
-use Rattle.sqlcipher_tool.specs.declared.command.Command.TheVariants.{Migrate}
+use Rattle.sqlcipher_tool.specs.declared.command.Command.TheVariants.{Change as ChangeFile}
+use Rattle.sqlcipher_tool.specs.declared.change.Change.TheVariants.{Migrate}
 use Rattle.sqlcipher_tool.specs.Servable.{HasFewPages, IsServable, standing}
 use Rattle.sqlcipher_tool.proofs.MadeFile.{made_clean}
 
@@ -105,7 +106,7 @@ module _ (new : Profile) (listed : IsListed new) where
       counted t u v a b d e limit one two three four five six seven large = omega (arith, one, two, three, four, five, six, seven, large)
 
 pub migrate_servable : (old new : Profile) (secret second : Secret) (file : File) (fresh : Option File) → IsListed new → IsMade old secret 0 file.bytes
-    → IsServable (Migrate old new) (secret ∷ second ∷ []) (standing file fresh)
+    → IsServable (ChangeFile old (Migrate new)) (secret ∷ second ∷ []) (standing file fresh)
 migrate_servable old new secret second file fresh listed made =
     let clean = made_clean old secret 0 file.bytes made in
     record { recovers = refl; holds = (clean.0.held, clean.0.opens, subst (λ (held : Content). HasFewPages new held) (sym clean.1) (few_pages new listed)) }

@@ -1,21 +1,18 @@
 -- Of a command that draws nothing the new file is plain, and nothing is asked of the bytes that were drawn.
-use Rattle.std.proofs.Common.{◌≡◌, ⊎_elim, inl, inr, ℕ, Bool, true, false, not, List, [], ◌∷◌, length, Some, sym, ◌∙◌, arith}
+use Rattle.std.proofs.Common.{◌≡◌, ⊎_elim, inl, inr, ℕ, Bool, true, false, not, List, [], ◌∷◌, Some, arith}
 use Rattle.cipher_profile.specs.declared.keys.Secret.{Secret}
-use Rattle.cipher_profile.specs.declared.profile.Profile.{Profile}
 use Rattle.cipher_profile.specs.Profile.{is_plain}
 use Rattle.fresh_disk.specs.Published.{IsAlone}
 use Rattle.edge_model.specs.Files.{Files}
 use Rattle.make_job.specs.Made.{IsMade}
 use Rattle.sqlcipher_tool.specs.Answer.{HasDrawnCauses}
-use Rattle.sqlcipher_tool.specs.Change.{command_of}
-use Rattle.sqlcipher_tool.specs.Crash.{ChangesBy, HasNoMain, DrewOwn, IsDrawnFor, IsSafely, MakesWith, Renews, StaysOrRenews}
+use Rattle.sqlcipher_tool.specs.Crash.{ChangesBy, DrewOwn, HasNoMain, IsDrawnFor, IsSafely, MakesWith, Renews, StaysOrRenews}
 use Rattle.sqlcipher_tool.specs.Holding.{DiskRun}
-use Rattle.sqlcipher_tool.specs.Renewal.{AreDrawnBy, Renewal, WithDraws, from_to, renewal}
-use Rattle.sqlcipher_tool.specs.Words.{asked_keys, draws}
-use Rattle.sqlcipher_tool.specs.declared.change.Change.{Change}
-use Rattle.sqlcipher_tool.specs.declared.change.Change.TheVariants.{Stamp as StampOf, Rekey as RekeyOf, Migrate as MigrateOf}
+use Rattle.sqlcipher_tool.specs.Renewal.{AreDrawnBy, Renewal, WithDraws, renewal, renewed, renewed_with}
+use Rattle.sqlcipher_tool.specs.Words.{draws}
+use Rattle.sqlcipher_tool.specs.declared.change.Change.TheVariants.{Stamp, Rekey, Migrate}
 use Rattle.sqlcipher_tool.specs.declared.command.Command.{Command}
-use Rattle.sqlcipher_tool.specs.declared.command.Command.TheVariants.{Tags, Header, Verify, Export, Salvage, Find, Probe, Recover, Stamp, Rekey, Migrate, Make}
+use Rattle.sqlcipher_tool.specs.declared.command.Command.TheVariants.{Probe, Recover, Read, Change as ChangeFile, Make}
 use Rattle.sqlcipher_tool.specs.declared.status.Status.{Status}
 
 -- ---- the new file
@@ -25,36 +22,20 @@ never_both true one two = cc
 never_both false one two = cc
 
 plain_drawn : (command : Command) (secrets : List Secret) (file drawn : List ℕ) → draws command ≡ false → IsDrawnFor command (renewal command secrets) file drawn
-plain_drawn (Tags profile) secrets file drawn none = tt
-plain_drawn (Header profile) secrets file drawn none = tt
-plain_drawn (Verify profile) secrets file drawn none = tt
-plain_drawn (Export profile) secrets file drawn none = tt
-plain_drawn (Salvage profile) secrets file drawn none = tt
-plain_drawn (Find profile name low high) secrets file drawn none = tt
 plain_drawn Probe secrets file drawn none = tt
 plain_drawn (Recover profile) secrets file drawn none = tt
-plain_drawn (Stamp profile field value) [] file drawn none = tt
-plain_drawn (Stamp profile field value) (secret ∷ rest) file drawn none =
+plain_drawn (Read profile reading) secrets file drawn none = tt
+plain_drawn (ChangeFile profile change) [] file drawn none = tt
+plain_drawn (ChangeFile profile change) (first ∷ []) file drawn none = tt
+plain_drawn (ChangeFile profile (Stamp field value)) (first ∷ second ∷ rest) file drawn none =
     λ ciphered. absurd (never_both (is_plain profile) none ciphered)
-plain_drawn (Rekey old new) [] file drawn none = tt
-plain_drawn (Rekey old new) (first ∷ []) file drawn none = tt
-plain_drawn (Rekey old new) (first ∷ second ∷ rest) file drawn none =
-    λ ciphered. absurd (never_both (is_plain new) none ciphered)
-plain_drawn (Migrate old new) [] file drawn none = tt
-plain_drawn (Migrate old new) (first ∷ []) file drawn none = tt
-plain_drawn (Migrate old new) (first ∷ second ∷ rest) file drawn none = λ ciphered. absurd (never_both (is_plain new) none ciphered)
+plain_drawn (ChangeFile profile (Rekey new)) (first ∷ second ∷ rest) file drawn none = λ ciphered. absurd (never_both (is_plain new) none ciphered)
+plain_drawn (ChangeFile profile (Migrate new)) (first ∷ second ∷ rest) file drawn none = λ ciphered. absurd (never_both (is_plain new) none ciphered)
 plain_drawn (Make profile rows) [] file drawn none = tt
 plain_drawn (Make profile rows) (secret ∷ rest) file drawn none = λ ciphered. absurd (never_both (is_plain profile) none ciphered)
 
 pub plain_own : (command : Command) (gave : List Secret → Type 0) (file drawn : List ℕ) → draws command ≡ false → DrewOwn command gave file drawn
 plain_own command gave file drawn none = λ secrets has. plain_drawn command secrets file drawn none
-
--- and so of a change into a plain file
-pub plain_renewed : (change : Change) (old new : Profile) (first second : Secret) (file drawn : List ℕ) → is_plain new ≡ true
-    → length (asked_keys (command_of change old new)) ≡ 2 → AreDrawnBy (command_of change old new) (from_to old first new second) file drawn
-plain_renewed (StampOf field value) old new first second file drawn plain two = cc
-plain_renewed RekeyOf old new first second file drawn plain two = λ ciphered. let never : true ≡ false = sym plain ∙ ciphered in cc
-plain_renewed MigrateOf old new first second file drawn plain two = λ ciphered. let never : true ≡ false = sym plain ∙ ciphered in cc
 
 -- ---- every moment of the run
 
@@ -72,40 +53,24 @@ renews_as status is_new own_was own old new tells run all was = ⊎_elim (λ sta
       no_journal = renews.no_journal;
     }
 
-pub safely_as : (status : Status) (command : Command) (tells : Bool) (was drawn : List ℕ) (run : DiskRun) (renewal : Renewal) → ((file : List ℕ) → AreDrawnBy command renewal file drawn)
+safely_as : (status : Status) (command : Command) (tells : Bool) (was drawn : List ℕ) (run : DiskRun) (renewal : Renewal) → ((file : List ℕ) → AreDrawnBy command renewal file drawn)
     → IsSafely status command false was run (Some renewal) → IsSafely status command tells drawn run (Some renewal)
 safely_as status command tells was drawn run renewal all safe = λ start. renews_as status _ _ _ _ _ tells run all (safe start)
 
 pub plain_changes : (status : Status) (command : Command) (gave : List Secret → Type 0) (tells : Bool) (was drawn : List ℕ) (run : DiskRun) → draws command ≡ false
     → ChangesBy status command gave false was run → ChangesBy status command gave tells drawn run
-plain_changes status (Tags profile) gave tells was drawn run none change = tt
-plain_changes status (Header profile) gave tells was drawn run none change = tt
-plain_changes status (Verify profile) gave tells was drawn run none change = tt
-plain_changes status (Export profile) gave tells was drawn run none change = tt
-plain_changes status (Salvage profile) gave tells was drawn run none change = tt
-plain_changes status (Find profile name low high) gave tells was drawn run none change = tt
 plain_changes status Probe gave tells was drawn run none change = tt
 plain_changes status (Recover profile) gave tells was drawn run none change = tt
-plain_changes status (Stamp profile field value) gave tells was drawn run none change = λ secrets has. by_secrets secrets (change secrets has)
+plain_changes status (Read profile reading) gave tells was drawn run none change = tt
+plain_changes status (ChangeFile profile what) gave tells was drawn run none change = λ secrets has. by_secrets secrets (change secrets has)
   where
-    by_secrets : (secrets : List Secret) → IsSafely status (Stamp profile field value) false was run (renewal (Stamp profile field value) secrets) → IsSafely status (Stamp profile field value) tells drawn run (renewal (Stamp profile field value) secrets)
-    by_secrets [] safe = tt
-    by_secrets (secret ∷ rest) safe =
-        safely_as status (Stamp profile field value) tells was drawn run (from_to profile secret profile secret) (λ file. plain_drawn (Stamp profile field value) (secret ∷ rest) file drawn none) safe
-plain_changes status (Rekey old new) gave tells was drawn run none change = λ secrets has. by_secrets secrets (change secrets has)
-  where
-    by_secrets : (secrets : List Secret) → IsSafely status (Rekey old new) false was run (renewal (Rekey old new) secrets) → IsSafely status (Rekey old new) tells drawn run (renewal (Rekey old new) secrets)
+    by_secrets : (secrets : List Secret) → IsSafely status (ChangeFile profile what) false was run (renewed_with profile what secrets)
+        → IsSafely status (ChangeFile profile what) tells drawn run (renewed_with profile what secrets)
     by_secrets [] safe = tt
     by_secrets (first ∷ []) safe = tt
     by_secrets (first ∷ second ∷ rest) safe =
-        safely_as status (Rekey old new) tells was drawn run (from_to old first new second) (λ file. plain_drawn (Rekey old new) (first ∷ second ∷ rest) file drawn none) safe
-plain_changes status (Migrate old new) gave tells was drawn run none change = λ secrets has. by_secrets secrets (change secrets has)
-  where
-    by_secrets : (secrets : List Secret) → IsSafely status (Migrate old new) false was run (renewal (Migrate old new) secrets) → IsSafely status (Migrate old new) tells drawn run (renewal (Migrate old new) secrets)
-    by_secrets [] safe = tt
-    by_secrets (first ∷ []) safe = tt
-    by_secrets (first ∷ second ∷ rest) safe =
-        safely_as status (Migrate old new) tells was drawn run (from_to old first new second) (λ file. plain_drawn (Migrate old new) (first ∷ second ∷ rest) file drawn none) safe
+        safely_as status (ChangeFile profile what) tells was drawn run (renewed profile what first second)
+        (λ file. plain_drawn (ChangeFile profile what) (first ∷ second ∷ rest) file drawn none) safe
 plain_changes status (Make profile rows) gave tells was drawn run none change = λ secrets has. by_secrets secrets (change secrets has)
   where
     by_secrets : (secrets : List Secret) → MakesWith status profile rows false was run secrets → MakesWith status profile rows tells drawn run secrets

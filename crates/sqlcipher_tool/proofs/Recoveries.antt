@@ -1,5 +1,5 @@
 -- A command that reads the recovered file.
-use Rattle.std.proofs.Common.{◌≡◌, ⊎_elim, ◌≤◌, ◌<◌, ◌*◌, ◌==◌, not, ℕ, Bool, true, false, List, [], ◌∷◌, length, Option, Some, None, Result, Ok, Err, IsTrue, refl, sym, ap, ◌∙◌, subst, arith}
+use Rattle.std.proofs.Common.{◌≡◌, ◌≤◌, ◌<◌, ◌*◌, ◌==◌, not, ℕ, Bool, true, false, List, [], ◌∷◌, length, Option, Some, None, Result, Ok, Err, IsTrue, refl, sym, ap, ◌∙◌, subst, arith}
 use Rattle.std.specs.Prelude.{nat_lt, unwrap_or}
 use Rattle.db_format.specs.Count.{largest_database}
 use Rattle.page_codec.specs.Page.{fits, keys_of}
@@ -12,24 +12,16 @@ use Rattle.cipher_profile.specs.declared.profile.Profile.{Profile}
 use Rattle.pager.specs.Opening.{Opened}
 use Rattle.pager.specs.declared.opening.OpenError.{OpenError}
 use Rattle.pager.specs.declared.opening.OpenError.TheVariants.{Empty, Short, KeyRefused as NoKey, HeaderFault, WalMode, AutoVacuum, Ragged, TooLarge, DiskFault as DiskFails, OutOfMemory as MemoryEnds}
-use Rattle.rollback_journal.specs.declared.recovery.Recovery.{Recovery}
-use Rattle.rollback_journal.specs.declared.recovery.RecoverError.{RecoverError}
 use Rattle.rollback_journal.specs.Recovery.{HasByte, IsPlaybackDone, answer_of, answer_to, changes_nothing, recovered}
 use Rattle.pager.specs.File.{first_page, whole_pages}
-use Rattle.sqlcipher_tool.specs.Answer.{Answer, Cause, IsAnswered, IsFault, first_answer}
+use Rattle.sqlcipher_tool.specs.Answer.{Answer, Cause, IsFault, first_answer}
 use Rattle.sqlcipher_tool.specs.declared.status.Status.{Status}
 use Rattle.sqlcipher_tool.specs.declared.status.Status.TheVariants.{Done, Usage, Refused, KeyRefused, DiskFault, OutputFault, InputFault, EntropyFault, OutOfMemory}
 use Rattle.sqlcipher_tool.specs.Header.{header_answer, opened_answer}
 use Rattle.sqlcipher_tool.specs.Opening.{open_answer, opened_with}
 use Rattle.sqlcipher_tool.specs.Tags.{file_answer, pages_answer, refused_pages, tags_answer}
 use Rattle.sqlcipher_tool.specs.Promises.{IsUnrecovered}
-use Rattle.sqlcipher_tool.specs.Recovered.{after_recovery, recovered_answer, recovered_main, recovery_of}
-
--- what is answered on the file that was recovered
-pub recovered_is : (profile : Profile) (files : Files) (answer : List ℕ → Answer) (did : Recovery) (main : List ℕ)
-    → recovery_of profile files ≡ Ok did → main ≡ recovered_main profile files → answer main ≡ recovered_answer profile files answer
-recovered_is profile files answer did main is same =
-    ap answer same ∙ sym (ap (λ (r : Result Recovery RecoverError). after_recovery r (answer (recovered_main profile files))) is)
+use Rattle.sqlcipher_tool.specs.Recovered.{recovered_main}
 
 -- a recovery, and then a run that only reads
 pub read_after : {D : Type 0} {reads : D → Files} {images : D → Files → Type 0} {moment : D → ℕ} {since : D → ℕ → Files → Type 0}
@@ -56,7 +48,7 @@ opened_of_file (Err (TooLarge pages)) is = is
 opened_of_file (Err DiskFails) is = is
 opened_of_file (Err MemoryEnds) is = is
 
-header_of_file : (profile : Profile) (secret : Secret) (file : List ℕ) → IsOfFile (header_answer profile secret file)
+pub header_of_file : (profile : Profile) (secret : Secret) (file : List ℕ) → IsOfFile (header_answer profile secret file)
 header_of_file profile secret file = opened_of_file (opened_with profile secret file)
 
 pub fault_of_file : (status : Status) → IsFault status → IsUnrecovered status → ⊥
@@ -69,12 +61,6 @@ fault_of_file OutputFault fault is = is
 fault_of_file InputFault fault is = is
 fault_of_file EntropyFault fault is = is
 fault_of_file OutOfMemory fault is = is
-
-pub header_recovered : (profile : Profile) (secret : Secret) (file : List ℕ) (status : Status)
-    → IsAnswered status (header_answer profile secret file) → IsUnrecovered status → ⊥
-header_recovered profile secret file status answered is =
-    ⊎_elim (λ (same : status ≡ (header_answer profile secret file).status). header_of_file profile secret file (subst IsUnrecovered same is))
-    (λ (fault : IsFault status). fault_of_file status fault is) answered
 
 pages_of_file : (count : ℕ) (refused : List ℕ) → IsOfFile (pages_answer count refused)
 pages_of_file count [] is = is
@@ -92,18 +78,12 @@ first_of_file false false true e len pages answer other is = is
 first_of_file false false false true len pages answer other is = is
 first_of_file false false false false len pages answer other is = other is
 
-tags_of_file : (profile : Profile) (secret : Secret) (file : List ℕ) → IsOfFile (tags_answer profile secret file)
+pub tags_of_file : (profile : Profile) (secret : Secret) (file : List ℕ) → IsOfFile (tags_answer profile secret file)
 tags_of_file profile secret file =
     let keys = keys_of profile secret file in
     let pages = whole_pages profile file in
     first_of_file (length file == 0) (nat_lt (length file) profile.page_size) (nat_lt largest_database (pages * profile.page_size))
     (not (fits keys (first_page profile file))) (length file) pages (file_answer keys file) (pages_of_file pages (refused_pages keys file pages))
-
-pub tags_recovered : (profile : Profile) (secret : Secret) (file : List ℕ) (status : Status)
-    → IsAnswered status (tags_answer profile secret file) → IsUnrecovered status → ⊥
-tags_recovered profile secret file status answered is =
-    ⊎_elim (λ (same : status ≡ (tags_answer profile secret file).status). tags_of_file profile secret file (subst IsUnrecovered same is))
-    (λ (fault : IsFault status). fault_of_file status fault is) answered
 
 -- ---- what a recovery leaves beside Main
 

@@ -7,8 +7,12 @@ use Rattle.cipher_profile.specs.declared.profile.Profile.{Profile}
 use Rattle.cipher_profile.specs.Profile.{IsListed, profile_named}
 use Rattle.cipher_profile.proofs.Names.{named_listed}
 use Rattle.sqlcipher_tool.specs.declared.command.Command.{Command}
-use Rattle.sqlcipher_tool.specs.declared.command.Command.TheVariants.{Tags, Header, Verify, Export, Salvage, Probe, Recover, Rekey, Migrate}
-use Rattle.sqlcipher_tool.specs.Words.{IsServed, field_named, find_form, form, make_form, number_named, rowid_named, stamp_form, two_profiles}
+use Rattle.sqlcipher_tool.specs.declared.command.Command.TheVariants.{Probe, Recover, Read}
+use Rattle.sqlcipher_tool.specs.declared.change.Change.{Change}
+use Rattle.sqlcipher_tool.specs.declared.change.Change.TheVariants.{Rekey, Migrate}
+use Rattle.sqlcipher_tool.specs.declared.reading.Job.TheVariants.{Verify, Export}
+use Rattle.sqlcipher_tool.specs.declared.reading.Reading.TheVariants.{Tags, Header, Salvage, OnPages}
+use Rattle.sqlcipher_tool.specs.Words.{IsChangeServed, IsServed, field_named, find_form, form, make_form, number_named, rowid_named, stamp_form, two_profiles}
 
 -- none, or a command that is served
 abbrev MaybeServed : Option Command → Type 0
@@ -29,17 +33,17 @@ either false one other first second = second
 
 stamp_served : (first second third : List ℕ) → MaybeServed (stamp_form first second third)
 stamp_served first second third =
-    followed _ (profile_named first) (λ profile named. followed _ (field_named second) (λ field is. mapped _ (number_named third) (λ value known. named_listed first profile named)))
+    followed _ (profile_named first) (λ profile named. followed _ (field_named second) (λ field is. mapped _ (number_named third) (λ value known. (named_listed first profile named, tt))))
 
 find_served : (first second third fourth : List ℕ) → MaybeServed (find_form first second third fourth)
 find_served first second third fourth =
     followed _ (profile_named first) (λ profile named. followed _ (rowid_named third) (λ low is. mapped _ (rowid_named fourth) (λ high known. named_listed first profile named)))
 
-two_served : (command : Profile → Profile → Command) → ((old new : Profile) → IsListed old → IsListed new → IsServed (command old new)) → (first second : List ℕ)
-    → MaybeServed (two_profiles command first second)
-two_served command served first second =
+two_served : (change : Profile → Change) → ((new : Profile) → IsListed new → IsChangeServed (change new)) → (first second : List ℕ)
+    → MaybeServed (two_profiles change first second)
+two_served change served first second =
     followed _ (profile_named first)
-    (λ old named. mapped _ (profile_named second) (λ new other. served old new (named_listed first old named) (named_listed second new other)))
+    (λ old named. mapped _ (profile_named second) (λ new other. (named_listed first old named, served new (named_listed second new other))))
 
 make_served : (first second : List ℕ) → MaybeServed (make_form first second)
 make_served first second =
@@ -51,15 +55,15 @@ maybe_served (name ∷ []) = either (bytes_eq name (codes "probe")) (Some Probe)
 maybe_served (name ∷ word ∷ []) =
     let listed = named_listed word in
     let profile = profile_named word in
-    either (bytes_eq name (codes "tags")) _ _ (mapped Tags profile listed)
-    (either (bytes_eq name (codes "header")) _ _ (mapped Header profile listed)
-    (either (bytes_eq name (codes "verify")) _ _ (mapped Verify profile listed)
-    (either (bytes_eq name (codes "export")) _ _ (mapped Export profile listed)
-    (either (bytes_eq name (codes "salvage")) _ _ (mapped Salvage profile listed)
+    either (bytes_eq name (codes "tags")) _ _ (mapped (λ p. Read p Tags) profile listed)
+    (either (bytes_eq name (codes "header")) _ _ (mapped (λ p. Read p Header) profile listed)
+    (either (bytes_eq name (codes "verify")) _ _ (mapped (λ p. Read p (OnPages Verify)) profile listed)
+    (either (bytes_eq name (codes "export")) _ _ (mapped (λ p. Read p (OnPages Export)) profile listed)
+    (either (bytes_eq name (codes "salvage")) _ _ (mapped (λ p. Read p Salvage) profile listed)
     (either (bytes_eq name (codes "recover")) _ _ (mapped Recover profile listed) tt)))))
 maybe_served (name ∷ first ∷ second ∷ []) =
-    either (bytes_eq name (codes "rekey")) _ _ (two_served Rekey (λ old new one other. (one, other)) first second)
-    (either (bytes_eq name (codes "migrate")) _ _ (two_served Migrate (λ old new one other. (one, other)) first second)
+    either (bytes_eq name (codes "rekey")) _ _ (two_served Rekey (λ new listed. listed) first second)
+    (either (bytes_eq name (codes "migrate")) _ _ (two_served Migrate (λ new listed. listed) first second)
     (either (bytes_eq name (codes "make")) _ _ (make_served first second) tt))
 maybe_served (name ∷ first ∷ second ∷ third ∷ []) = either (bytes_eq name (codes "stamp")) _ _ (stamp_served first second third) tt
 maybe_served (name ∷ first ∷ second ∷ third ∷ fourth ∷ []) = either (bytes_eq name (codes "find")) _ _ (find_served first second third fourth) tt

@@ -21,17 +21,19 @@ use Rattle.sqlcipher_tool.specs.Answer.{Answer, done, refused}
 use Rattle.export_rows.specs.Report.{export_report}
 use Rattle.sqlcipher_tool.specs.Export.{content_answers}
 use Rattle.sqlcipher_tool.specs.Find.{find_answers, table_answer}
-use Rattle.sqlcipher_tool.specs.Job.{job_answers, job_due}
-use Rattle.sqlcipher_tool.specs.Change.{change_answers}
+use Rattle.sqlcipher_tool.specs.Reading.{job_due, reading_answers}
+use Rattle.sqlcipher_tool.specs.Due.{change_answers}
 use Rattle.sqlcipher_tool.specs.declared.change.Change.{Change}
-use Rattle.sqlcipher_tool.specs.declared.change.Change.TheVariants.{Stamp as StampOf, Rekey as RekeyOf, Migrate as MigrateOf}
-use Rattle.sqlcipher_tool.specs.declared.job.Job.{Job}
-use Rattle.sqlcipher_tool.specs.declared.job.Job.TheVariants.{Verify, Export, Find}
+use Rattle.sqlcipher_tool.specs.declared.change.Change.TheVariants.{Stamp, Rekey, Migrate}
+use Rattle.sqlcipher_tool.specs.declared.reading.Job.{Job}
+use Rattle.sqlcipher_tool.specs.declared.reading.Job.TheVariants.{Verify, Export, Find}
+use Rattle.sqlcipher_tool.specs.declared.reading.Reading.{Reading}
+use Rattle.sqlcipher_tool.specs.declared.reading.Reading.TheVariants.{Tags, Header, Salvage, OnPages}
 use Rattle.sqlcipher_tool.specs.Make.{made_answers, make_answers}
 use Rattle.sqlcipher_tool.specs.Migrate.{migrate_answers, migrate_due, too_many}
 use Rattle.sqlcipher_tool.specs.Opening.{opened_with}
 use Rattle.sqlcipher_tool.specs.Plain.{refused_in_use}
-use Rattle.sqlcipher_tool.specs.Recovered.{answers_after, recovered_answers, recovered_main, recovery_of}
+use Rattle.sqlcipher_tool.specs.Recovered.{answers_after}
 use Rattle.sqlcipher_tool.specs.Renewal.{Renewal}
 use Rattle.sqlcipher_tool.specs.Text.{migrated_report, rekeyed_report, verify_report}
 use Rattle.sqlcipher_tool.specs.Rekey.{rekey_answers, rekey_due}
@@ -88,12 +90,14 @@ job_some Verify pages = pages_some pages
 job_some Export pages = content_some pages
 job_some (Find name low high) pages = find_some pages name low high
 
-pub recovered_some : (job : Job) (profile : Profile) (secret : Secret) (files : Files) → 0 < length (recovered_answers profile files (job_answers job profile secret))
-recovered_some job profile secret files =
-    let main = recovered_main profile files in
-    let keys = keys_of profile secret main in
-    after_some (recovery_of profile files) (job_answers job profile secret main)
-    (opened_some (opened_with profile secret main) (λ n. job_due job (opened_pages keys main n)) (λ n. job_some job (opened_pages keys main n)))
+-- to a reading
+pub reading_some : (reading : Reading) (profile : Profile) (secret : Secret) (file : List ℕ) → 0 < length (reading_answers reading profile secret file)
+reading_some Tags profile secret file = omega arith
+reading_some Header profile secret file = omega arith
+reading_some Salvage profile secret file = omega arith
+reading_some (OnPages job) profile secret file =
+    let keys = keys_of profile secret file in
+    opened_some (opened_with profile secret file) (λ n. job_due job (opened_pages keys file n)) (λ n. job_some job (opened_pages keys file n))
 
 pub rekeyed_some : (profile : Profile) (secret : Secret) (file : List ℕ) → 0 < length (rekey_answers profile secret file)
 rekeyed_some profile secret file =
@@ -111,9 +115,9 @@ migrated_some old secret new count file =
     opened_some (opened_with old secret file) (λ n. migrate_due new count (opened_pages keys file n)) (λ n. migrate_some new count (opened_pages keys file n))
 
 pub change_some : (change : Change) (renewal : Renewal) (file last : List ℕ) → 0 < length (change_answers change renewal file last)
-change_some (StampOf field value) renewal file last = omega arith
-change_some RekeyOf renewal file last = rekeyed_some renewal.old_profile renewal.old_secret file
-change_some MigrateOf renewal file last = migrated_some renewal.old_profile renewal.old_secret renewal.new_profile _ file
+change_some (Stamp field value) renewal file last = omega arith
+change_some (Rekey new) renewal file last = rekeyed_some renewal.old_profile renewal.old_secret file
+change_some (Migrate new) renewal file last = migrated_some renewal.old_profile renewal.old_secret renewal.new_profile _ file
 
 -- to `make`
 pub make_some : (profile : Profile) (rows : ℕ) (files : Files) → 0 < length (make_answers profile rows files)

@@ -36,19 +36,19 @@ use Rattle.rowid_find.specs.Table.{Table, at_root, no_table, unaccepted, no_kind
 use Rattle.export_rows.specs.Report.{export_report}
 use Rattle.sqlcipher_tool.specs.Export.{content_answers}
 use Rattle.sqlcipher_tool.specs.Find.{before_stop, ended_answer, find_answers, first_stop, table_answer}
-use Rattle.sqlcipher_tool.specs.Job.{job_due}
-use Rattle.sqlcipher_tool.specs.declared.job.Job.{Job}
-use Rattle.sqlcipher_tool.specs.declared.job.Job.TheVariants.{Verify, Export, Find}
+use Rattle.sqlcipher_tool.specs.Reading.{job_due}
+use Rattle.sqlcipher_tool.specs.declared.reading.Job.{Job}
+use Rattle.sqlcipher_tool.specs.declared.reading.Job.TheVariants.{Verify, Export, Find}
 use Rattle.sqlcipher_tool.specs.Opening.{open_answer, unopened_answer}
 use Rattle.sqlcipher_tool.specs.Plain.{refused_in_use}
 use Rattle.sqlcipher_tool.specs.Promises.{AnswersOne, IsUnrecovered}
 use Rattle.sqlcipher_tool.specs.Recovered.{answers_after, recovery_answer, refused_answer}
-use Rattle.sqlcipher_tool.specs.Change.{change_answers}
+use Rattle.sqlcipher_tool.specs.Due.{change_answers}
 use Rattle.sqlcipher_tool.specs.Rekey.{rekey_due}
 use Rattle.sqlcipher_tool.specs.Stamp.{stamped_answer}
 use Rattle.sqlcipher_tool.specs.Opening.{opened_with}
 use Rattle.sqlcipher_tool.specs.declared.change.Change.{Change}
-use Rattle.sqlcipher_tool.specs.declared.change.Change.TheVariants.{Stamp as StampOf, Rekey as RekeyOf, Migrate as MigrateOf}
+use Rattle.sqlcipher_tool.specs.declared.change.Change.TheVariants.{Stamp, Rekey, Migrate}
 use Rattle.cipher_profile.specs.Profile.{usable}
 use Rattle.cipher_profile.specs.declared.profile.Profile.{Profile}
 use Rattle.sqlcipher_tool.specs.Stop.{IsOutside, stop_answer}
@@ -202,7 +202,7 @@ open_of_file (TooLarge pages) is = is
 open_of_file DiskFails is = is
 open_of_file MemoryEnds is = is
 
-opened_of_file : (job : Job) (opened : Result Opened OpenError) (pages : ℕ → Pages) → AreOfFile (opened_answers opened (λ n. job_due job (pages n)))
+pub opened_of_file : (job : Job) (opened : Result Opened OpenError) (pages : ℕ → Pages) → AreOfFile (opened_answers opened (λ n. job_due job (pages n)))
 opened_of_file job (Ok opened) pages = job_of_file job (pages opened.count)
 opened_of_file job (Err error) pages = (open_of_file error, tt)
 
@@ -234,10 +234,10 @@ migrated_of_file profile count (Ok opened) pages = migrate_of_file profile count
 migrated_of_file profile count (Err error) pages = (open_of_file error, tt)
 
 pub change_of_file : (change : Change) (renewal : Renewal) (file last : List ℕ) → AreOfFile (change_answers change renewal file last)
-change_of_file (StampOf field value) renewal file last = (stamped_of_file (opened_with renewal.old_profile renewal.old_secret file), tt)
-change_of_file RekeyOf renewal file last =
+change_of_file (Stamp field value) renewal file last = (stamped_of_file (opened_with renewal.old_profile renewal.old_secret file), tt)
+change_of_file (Rekey new) renewal file last =
     rekeyed_of_file (opened_with renewal.old_profile renewal.old_secret file) (λ n. opened_pages (keys_of renewal.old_profile renewal.old_secret file) file n)
-change_of_file MigrateOf renewal file last =
+change_of_file (Migrate new) renewal file last =
     migrated_of_file renewal.new_profile _ (opened_with renewal.old_profile renewal.old_secret file) (λ n. opened_pages (keys_of renewal.old_profile renewal.old_secret file) file n)
 
 pub make_of_file : (profile : Profile) (rows : ℕ) (files : Files) → AreOfFile (make_answers profile rows files)
@@ -253,7 +253,3 @@ pub answers_recovered : (answers : List Answer) → AreOfFile answers → (statu
 answers_recovered answers all status tells before after one is =
     ⊎_elim (λ (same : status ≡ one.answer.status). of_file_at answers one.answer all one.is_due.0 one.is_due.1 one.is_due.2 (subst IsUnrecovered same is))
     (λ (fault : IsFault status). fault_of_file status fault is) one.answered
-
-pub job_recovered : (job : Job) (opened : Result Opened OpenError) (pages : ℕ → Pages) (status : Status) (tells : Bool) (before after : List ℕ)
-    → AnswersOne (opened_answers opened (λ n. job_due job (pages n))) status tells before after → IsUnrecovered status → ⊥
-job_recovered job opened pages = answers_recovered (opened_answers opened (λ n. job_due job (pages n))) (opened_of_file job opened pages)

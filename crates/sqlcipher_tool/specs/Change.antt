@@ -1,23 +1,14 @@
 -- How a command that changes the file ends, before its last line is printed.
-use Rattle.std.specs.Prelude.{◌≡◌, ◌⊎◌, Bool, true, false, List, [], ◌∷◌, ℕ, Option, Some, None, Result, Ok, Err}
+use Rattle.std.specs.Prelude.{◌≡◌, ◌⊎◌, List, ℕ, Option, Some, None, Result, Ok, Err}
 use Rattle.edge_model.specs.Files.{Files, bytes_of}
 use Rattle.edge_model.specs.Images.{Each, LeavesOnly}
-use Rattle.cipher_profile.specs.declared.profile.Profile.{Profile}
 use Rattle.pager.specs.declared.fill.PageError.{PageError}
 use Rattle.pager.specs.declared.fill.PageError.TheVariants.{OutOfRange, TagRefused, DiskFault as PageFault, EntropyFault as DrawFault, AllPinned}
 use Rattle.rekey_job.specs.declared.error.RekeyError.{RekeyError}
 use Rattle.rekey_job.specs.declared.error.RekeyError.TheVariants.{LayoutDiffers, PageTag as RekeyTag, Defect as RekeyDefect, DiskFault as RekeyDisk, EntropyFault as RekeyEntropy, OutOfMemory as RekeyMemory}
 use Rattle.sqlcipher_tool.specs.Answer.{Answer, done}
 use Rattle.sqlcipher_tool.specs.Crash.{AtExit}
-use Rattle.sqlcipher_tool.specs.Migrate.{migrate_answers}
-use Rattle.sqlcipher_tool.specs.Rekey.{rekey_answers}
-use Rattle.sqlcipher_tool.specs.Renewal.{Renewal, pages_under}
-use Rattle.sqlcipher_tool.specs.Stamp.{stamp_answer}
 use Rattle.sqlcipher_tool.specs.Stop.{IsLateStop, stop_answer}
-use Rattle.sqlcipher_tool.specs.declared.change.Change.{Change}
-use Rattle.sqlcipher_tool.specs.declared.change.Change.TheVariants.{Stamp as StampOf, Rekey as RekeyOf, Migrate as MigrateOf}
-use Rattle.sqlcipher_tool.specs.declared.command.Command.{Command}
-use Rattle.sqlcipher_tool.specs.declared.command.Command.TheVariants.{Stamp, Rekey, Migrate}
 use Rattle.sqlcipher_tool.specs.declared.opening.ChangeError.{ChangeError}
 use Rattle.sqlcipher_tool.specs.declared.opening.ChangeError.TheVariants.{Stopped, EntropyFault as EntropyFails}
 use Rattle.sqlcipher_tool.specs.declared.opening.Stop.{Stop}
@@ -60,32 +51,6 @@ rekey_error (RekeyDefect defect) = Stopped (StopRefused (RefusedDefect defect))
 rekey_error RekeyDisk = Stopped StopDisk
 rekey_error RekeyEntropy = EntropyFails
 rekey_error RekeyMemory = Stopped StopMemory
-
--- the command that makes such a change of a file of the one profile to one of the other
-abbrev pub command_of : Change → Profile → Profile → Command
-command_of (StampOf field value) old new = Stamp old field value
-command_of RekeyOf old new = Rekey old new
-command_of MigrateOf old new = Migrate old new
-
--- `stamp` keeps the key, `rekey` the layout, and `migrate` neither
-abbrev pub IsChangeBetween : Change → Renewal → Type 0
-IsChangeBetween (StampOf field value) renewal = (renewal.new_profile ≡ renewal.old_profile) × (renewal.new_secret ≡ renewal.old_secret)
-IsChangeBetween RekeyOf renewal =
-    (renewal.new_profile.page_size ≡ renewal.old_profile.page_size) × (renewal.new_profile.reserve ≡ renewal.old_profile.reserve)
-IsChangeBetween MigrateOf renewal = Unit {0}
-
--- it goes by a journal, and leaves Fresh as it is
-abbrev pub is_in_place : Change → Bool
-is_in_place (StampOf field value) = true
-is_in_place RekeyOf = true
-is_in_place MigrateOf = false
-
--- what may be answered of the file, once it is recovered; it is `after` at the end
-abbrev pub change_answers : Change → Renewal → List ℕ → List ℕ → List Answer
-change_answers (StampOf field value) renewal file after = stamp_answer renewal.old_profile renewal.old_secret file ∷ []
-change_answers RekeyOf renewal file after = rekey_answers renewal.old_profile renewal.old_secret file
-change_answers MigrateOf renewal file after =
-    migrate_answers renewal.old_profile renewal.old_secret renewal.new_profile (pages_under renewal.new_profile renewal.new_secret after) file
 
 -- it is none that the words or the key line alone decide
 abbrev pub IsLateChange : ChangeError → Type 0

@@ -10,7 +10,8 @@ use Rattle.cipher_profile.specs.declared.keys.Secret.{Secret}
 use Rattle.cipher_profile.specs.declared.profile.Profile.{Profile}
 use Rattle.rollback_journal.specs.Recovery.{KeepsRecovered}
 use Rattle.sqlcipher_tool.specs.declared.command.Command.{Command}
-use Rattle.sqlcipher_tool.specs.declared.command.Command.TheVariants.{Tags, Header, Verify, Export, Salvage, Find, Probe, Recover, Stamp, Rekey, Migrate, Make}
+use Rattle.sqlcipher_tool.specs.declared.command.Command.TheVariants.{Probe, Recover, Read, Change as ChangeFile, Make}
+use Rattle.sqlcipher_tool.specs.declared.change.Change.TheVariants.{Stamp, Rekey, Migrate}
 use Rattle.sqlcipher_tool.specs.declared.status.Status.{Status}
 use Rattle.sqlcipher_tool.specs.declared.status.Status.TheVariants.{Done, Usage, Refused, KeyRefused, DiskFault, OutputFault, InputFault, EntropyFault, OutOfMemory}
 use Rattle.sqlcipher_tool.specs.Due.{key_lines}
@@ -126,37 +127,22 @@ GaveKeys tells asked left secrets = (asks_some asked ≡ true → IsTrue tells) 
 
 -- what a command keeps, whatever its status
 abbrev pub Keeps : Command → DiskRun → Type 0
-Keeps (Tags profile) run = KeepsHeld profile.page_size run
-Keeps (Header profile) run = KeepsHeld profile.page_size run
-Keeps (Verify profile) run = KeepsHeld profile.page_size run
-Keeps (Export profile) run = KeepsHeld profile.page_size run
-Keeps (Salvage profile) run = KeepsHeld profile.page_size run
-Keeps (Find profile name low high) run = KeepsHeld profile.page_size run
 Keeps Probe run = Stays run
 Keeps (Recover profile) run = KeepsHeld profile.page_size run
-Keeps (Stamp profile field value) run = KeepsFresh run
-Keeps (Rekey old new) run = KeepsFresh run
-Keeps (Migrate old new) run = Unit {0}
+Keeps (Read profile reading) run = KeepsHeld profile.page_size run
+Keeps (ChangeFile profile (Stamp field value)) run = KeepsFresh run
+Keeps (ChangeFile profile (Rekey new)) run = KeepsFresh run
+Keeps (ChangeFile profile (Migrate new)) run = Unit {0}
 Keeps (Make profile rows) run = KeepsFiles run
 
 -- What a command changes with the secrets that it was given, at every moment and by its status. `drawn` are the bytes that it drew, where
 -- the entropy tells them.
 abbrev pub ChangesBy : Status → Command → (List Secret → Type 0) → Bool → List ℕ → DiskRun → Type 0
-ChangesBy status (Tags profile) gave tells drawn run = Unit {0}
-ChangesBy status (Header profile) gave tells drawn run = Unit {0}
-ChangesBy status (Verify profile) gave tells drawn run = Unit {0}
-ChangesBy status (Export profile) gave tells drawn run = Unit {0}
-ChangesBy status (Salvage profile) gave tells drawn run = Unit {0}
-ChangesBy status (Find profile name low high) gave tells drawn run = Unit {0}
 ChangesBy status Probe gave tells drawn run = Unit {0}
 ChangesBy status (Recover profile) gave tells drawn run = Unit {0}
-ChangesBy status (Stamp profile field value) gave tells drawn run =
-    (secrets : List Secret) → gave secrets
-    → IsSafely status (Stamp profile field value) tells drawn run (renewal (Stamp profile field value) secrets)
-ChangesBy status (Rekey old new) gave tells drawn run =
-    (secrets : List Secret) → gave secrets → IsSafely status (Rekey old new) tells drawn run (renewal (Rekey old new) secrets)
-ChangesBy status (Migrate old new) gave tells drawn run =
-    (secrets : List Secret) → gave secrets → IsSafely status (Migrate old new) tells drawn run (renewal (Migrate old new) secrets)
+ChangesBy status (Read profile reading) gave tells drawn run = Unit {0}
+ChangesBy status (ChangeFile profile change) gave tells drawn run =
+    (secrets : List Secret) → gave secrets → IsSafely status (ChangeFile profile change) tells drawn run (renewal (ChangeFile profile change) secrets)
 ChangesBy status (Make profile rows) gave tells drawn run = (secrets : List Secret) → gave secrets → MakesWith status profile rows tells drawn run secrets
 
 -- what was drawn for the new file

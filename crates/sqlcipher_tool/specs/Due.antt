@@ -8,23 +8,21 @@ use Rattle.cipher_profile.specs.declared.keys.Secret.{Secret}
 use Rattle.cipher_profile.specs.declared.keys.Secret.TheVariants.{NoKey}
 use Rattle.cipher_profile.specs.KeyLine.{after_line, key_line}
 use Rattle.sqlcipher_tool.specs.Answer.{Answer, refused, usage}
+use Rattle.sqlcipher_tool.specs.declared.change.Change.{Change}
+use Rattle.sqlcipher_tool.specs.declared.change.Change.TheVariants.{Stamp, Rekey, Migrate}
 use Rattle.sqlcipher_tool.specs.declared.command.Command.{Command}
-use Rattle.sqlcipher_tool.specs.declared.command.Command.TheVariants.{Tags, Header, Verify, Export, Salvage, Find, Probe, Recover, Stamp, Rekey, Migrate, Make}
+use Rattle.sqlcipher_tool.specs.declared.command.Command.TheVariants.{Probe, Recover, Read, Change as ChangeFile, Make}
 use Rattle.sqlcipher_tool.specs.declared.status.Refusal.{Refusal}
 use Rattle.sqlcipher_tool.specs.declared.status.Refusal.TheVariants.{NoTags, LayoutDiffers, KeyMissing as RefusedMissing, KeyEmpty as RefusedEmpty, KeyTooLong as RefusedLong, KeyForm as RefusedForm}
 use Rattle.sqlcipher_tool.specs.declared.status.Status.TheVariants.{InputFault}
-use Rattle.sqlcipher_tool.specs.Header.{header_answer}
-use Rattle.sqlcipher_tool.specs.Job.{job_answers}
-use Rattle.sqlcipher_tool.specs.declared.job.Job.TheVariants.{Verify as VerifyPages, Export as ExportPages, Find as FindRows}
+use Rattle.sqlcipher_tool.specs.Reading.{reading_answers}
 use Rattle.sqlcipher_tool.specs.Make.{make_answers}
 use Rattle.sqlcipher_tool.specs.Migrate.{migrate_answers}
 use Rattle.sqlcipher_tool.specs.Probe.{probe_answer}
-use Rattle.sqlcipher_tool.specs.Recovered.{recovered_answer, recovered_answers, recovery_answer, recovery_of}
+use Rattle.sqlcipher_tool.specs.Recovered.{recovered_answers, recovery_answer, recovery_of}
 use Rattle.sqlcipher_tool.specs.Rekey.{rekey_answers}
-use Rattle.sqlcipher_tool.specs.Renewal.{pages_under}
-use Rattle.sqlcipher_tool.specs.Salvage.{salvage_answer}
+use Rattle.sqlcipher_tool.specs.Renewal.{Renewal, pages_under, renewed}
 use Rattle.sqlcipher_tool.specs.Stamp.{stamp_answer}
-use Rattle.sqlcipher_tool.specs.Tags.{tags_answer}
 use Rattle.sqlcipher_tool.specs.Words.{form, asked_keys, lacks_tags, layouts_differ}
 
 -- the refusal that the words alone decide
@@ -70,27 +68,20 @@ with_two [] answers = []
 with_two (first ∷ []) answers = []
 with_two (first ∷ second ∷ rest) answers = answers first second
 
+-- what may be answered of the file that is changed, once it is recovered; it is `after` at the end
+abbrev pub change_answers : Change → Renewal → List ℕ → List ℕ → List Answer
+change_answers (Stamp field value) renewal file after = stamp_answer renewal.old_profile renewal.old_secret file ∷ []
+change_answers (Rekey new) renewal file after = rekey_answers renewal.old_profile renewal.old_secret file
+change_answers (Migrate new) renewal file after =
+    migrate_answers renewal.old_profile renewal.old_secret renewal.new_profile (pages_under renewal.new_profile renewal.new_secret after) file
+
 -- the answers to a command with its secrets
 abbrev pub secret_answers : Command → List Secret → Files → Files → List Answer
-secret_answers (Tags profile) secrets files after =
-    with_one secrets (λ secret. recovered_answer profile files (tags_answer profile secret) ∷ [])
-secret_answers (Header profile) secrets files after =
-    with_one secrets (λ secret. recovered_answer profile files (header_answer profile secret) ∷ [])
-secret_answers (Verify profile) secrets files after =
-    with_one secrets (λ secret. recovered_answers profile files (job_answers VerifyPages profile secret))
-secret_answers (Export profile) secrets files after =
-    with_one secrets (λ secret. recovered_answers profile files (job_answers ExportPages profile secret))
-secret_answers (Salvage profile) secrets files after =
-    with_one secrets (λ secret. recovered_answers profile files (λ file. salvage_answer profile secret file ∷ []))
-secret_answers (Find profile name low high) secrets files after =
-    with_one secrets (λ secret. recovered_answers profile files (job_answers (FindRows name low high) profile secret))
 secret_answers Probe secrets files after = with_one secrets (λ secret. probe_answer secret files ∷ [])
 secret_answers (Recover profile) secrets files after = recovery_answer (recovery_of profile files) ∷ []
-secret_answers (Stamp profile field value) secrets files after =
-    with_one secrets (λ secret. recovered_answers profile files (λ file. stamp_answer profile secret file ∷ []))
-secret_answers (Rekey old new) secrets files after = with_two secrets (λ first second. recovered_answers old files (rekey_answers old first))
-secret_answers (Migrate old new) secrets files after =
-    with_two secrets (λ first second. recovered_answers old files (migrate_answers old first new (pages_under new second (main_of after))))
+secret_answers (Read profile reading) secrets files after = with_one secrets (λ secret. recovered_answers profile files (reading_answers reading profile secret))
+secret_answers (ChangeFile profile change) secrets files after =
+    with_two secrets (λ first second. recovered_answers profile files (λ file. change_answers change (renewed profile change first second) file (main_of after)))
 secret_answers (Make profile rows) secrets files after = with_one secrets (λ secret. make_answers profile rows files)
 
 -- the answers to a command with what its key lines give

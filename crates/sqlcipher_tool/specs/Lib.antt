@@ -8,13 +8,13 @@ pub mod Export
 pub mod Find
 pub mod Header
 pub mod Holding
-pub mod Job
 pub mod Make
 pub mod Migrate
 pub mod Names
 pub mod Opening
 pub mod Probe
 pub mod Promises
+pub mod Reading
 pub mod Recovered
 pub mod Rekey
 pub mod Renewal

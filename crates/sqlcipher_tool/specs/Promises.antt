@@ -7,7 +7,8 @@ use Rattle.sqlcipher_tool.specs.Answer.{Answer, IsAnswered, PutsPart}
 use Rattle.edge_model.specs.Files.{Files}
 use Rattle.sqlcipher_tool.specs.Make.{has_main_or_journal}
 use Rattle.sqlcipher_tool.specs.declared.command.Command.{Command}
-use Rattle.sqlcipher_tool.specs.declared.command.Command.TheVariants.{Tags, Header, Verify, Export, Salvage, Find, Probe, Recover, Stamp, Rekey, Migrate, Make}
+use Rattle.sqlcipher_tool.specs.declared.secrets.Secrets.{Secrets}
+use Rattle.sqlcipher_tool.specs.declared.command.Command.TheVariants.{Probe, Recover, Read, Change as ChangeFile, Make}
 use Rattle.sqlcipher_tool.specs.declared.status.Refusal.TheVariants.{JournalPageSize, SuperJournal}
 use Rattle.sqlcipher_tool.specs.declared.status.Status.{Status}
 use Rattle.sqlcipher_tool.specs.declared.status.Status.TheVariants.{Done, Usage, Refused, KeyRefused, DiskFault, OutputFault, InputFault, EntropyFault, OutOfMemory}
@@ -39,17 +40,10 @@ TellsKeys tells words = AreWordsThat takes_keys words → IsTrue tells
 
 -- a file is in the way of the command, which then makes none
 abbrev pub is_in_the_way : Command → Files → Bool
-is_in_the_way (Tags profile) files = false
-is_in_the_way (Header profile) files = false
-is_in_the_way (Verify profile) files = false
-is_in_the_way (Export profile) files = false
-is_in_the_way (Salvage profile) files = false
-is_in_the_way (Find profile name low high) files = false
 is_in_the_way Probe files = false
 is_in_the_way (Recover profile) files = false
-is_in_the_way (Stamp profile field value) files = false
-is_in_the_way (Rekey old new) files = false
-is_in_the_way (Migrate old new) files = false
+is_in_the_way (Read profile reading) files = false
+is_in_the_way (ChangeFile profile change) files = false
 is_in_the_way (Make profile rows) files = has_main_or_journal files
 
 -- a fact on the command, where the words refuse nothing
@@ -65,10 +59,14 @@ abbrev pub after_lines : List Bool → List ℕ → List ℕ
 after_lines [] left = left
 after_lines (asks ∷ more) left = left_after (secret_line asks left) (after_lines more (rest_line asks left)) (rest_line asks left)
 
--- what was read for two secrets, as a list
-abbrev pub two_secrets : Result (Secret × Secret) KeyError → Result (List Secret) KeyError
-two_secrets (Ok both) = Ok (both.0 ∷ both.1 ∷ [])
-two_secrets (Err error) = Err error
+-- the two secrets of a command, as a list
+abbrev pub secrets_of : Secrets → List Secret
+secrets_of both = both.first ∷ both.second ∷ []
+
+-- what was read for them
+abbrev pub secrets_read : Result Secrets KeyError → Result (List Secret) KeyError
+secrets_read (Ok both) = Ok (secrets_of both)
+secrets_read (Err error) = Err error
 
 -- of the input at most so many bytes were taken
 pub record TakesAtMost (most : ℕ) (before after : List ℕ) : Type 0 where

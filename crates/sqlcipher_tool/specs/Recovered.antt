@@ -27,15 +27,6 @@ recovery_answer (Err NamesSuper) = refused SuperJournal
 recovery_answer (Err DiskFails) = record { status = DiskFault; text = []; begun = [] }
 recovery_answer (Err MemoryEnds) = record { status = OutOfMemory; text = []; begun = [] }
 
--- the answer on the recovered file, or to a recovery that is refused
-abbrev pub after_recovery : Result Recovery RecoverError → Answer → Answer
-after_recovery (Ok recovery) answer = answer
-after_recovery (Err error) answer = recovery_answer (Err error)
-
--- what a command that reads the recovered file answers
-abbrev pub recovered_answer : Profile → Files → (List ℕ → Answer) → Answer
-recovered_answer profile files answer = after_recovery (recovery_of profile files) (answer (recovered_main profile files))
-
 -- the answer to a recovery that is refused, none where it is not
 abbrev pub refused_answer : Result Recovery RecoverError → Option Answer
 refused_answer (Ok recovery) = None

@@ -4,7 +4,9 @@ use Rattle.cipher_profile.specs.declared.keys.Secret.{Secret}
 use Rattle.cipher_profile.specs.declared.profile.Profile.{Profile}
 use Rattle.page_codec.specs.Page.{FileKeys, keys_of}
 use Rattle.sqlcipher_tool.specs.declared.command.Command.{Command}
-use Rattle.sqlcipher_tool.specs.declared.command.Command.TheVariants.{Tags, Header, Verify, Export, Salvage, Find, Probe, Recover, Stamp, Rekey, Migrate, Make}
+use Rattle.sqlcipher_tool.specs.declared.command.Command.TheVariants.{Probe, Recover, Read, Change as ChangeFile, Make}
+use Rattle.sqlcipher_tool.specs.declared.change.Change.{Change}
+use Rattle.sqlcipher_tool.specs.declared.change.Change.TheVariants.{Stamp, Rekey, Migrate}
 use Rattle.fresh_file.specs.Draws.{HasOwnDraws}
 use Rattle.make_job.specs.Made.{IsMade}
 use Rattle.pager.specs.Database.{count_of}
@@ -14,6 +16,7 @@ use Rattle.rekey_job.specs.Draws.{FileDraws}
 use Rattle.sqlcipher_tool.specs.Migrate.{IsMigratedSo}
 use Rattle.sqlcipher_tool.specs.Plain.{IsClean, Opens}
 use Rattle.sqlcipher_tool.specs.Stamp.{IsStamped}
+use Rattle.sqlcipher_tool.specs.Words.{profile_after}
 
 -- A command that leaves a new file: the profile and the secret of the old one, and those of the new one. Before `make` there is no
 -- old one, and both are those of the new one.
@@ -32,25 +35,27 @@ abbrev pub same_key : Profile → List Secret → Option Renewal
 same_key profile [] = None
 same_key profile (secret ∷ rest) = Some (from_to profile secret profile secret)
 
--- one from one key to another
-abbrev pub two_keys : Profile → Profile → List Secret → Option Renewal
-two_keys old new [] = None
-two_keys old new (first ∷ []) = None
-two_keys old new (first ∷ second ∷ rest) = Some (from_to old first new second)
+-- the secret of the new file: a stamp keeps the key
+abbrev pub secret_after : Change → Secret → Secret → Secret
+secret_after (Stamp field value) first second = first
+secret_after (Rekey new) first second = second
+secret_after (Migrate new) first second = second
+
+-- what a change of a file of this profile makes of it, with its secrets
+abbrev pub renewed : Profile → Change → Secret → Secret → Renewal
+renewed profile change first second = from_to profile first (profile_after profile change) (secret_after change first second)
+
+abbrev pub renewed_with : Profile → Change → List Secret → Option Renewal
+renewed_with profile change [] = None
+renewed_with profile change (first ∷ []) = None
+renewed_with profile change (first ∷ second ∷ rest) = Some (renewed profile change first second)
 
 -- none for a command that leaves no new file
 abbrev pub renewal : Command → List Secret → Option Renewal
-renewal (Tags profile) secrets = None
-renewal (Header profile) secrets = None
-renewal (Verify profile) secrets = None
-renewal (Export profile) secrets = None
-renewal (Salvage profile) secrets = None
-renewal (Find profile name low high) secrets = None
 renewal Probe secrets = None
 renewal (Recover profile) secrets = None
-renewal (Stamp profile field value) secrets = same_key profile secrets
-renewal (Rekey old new) secrets = two_keys old new secrets
-renewal (Migrate old new) secrets = two_keys old new secrets
+renewal (Read profile reading) secrets = None
+renewal (ChangeFile profile change) secrets = renewed_with profile change secrets
 renewal (Make profile rows) secrets = same_key profile secrets
 
 abbrev pub old_keys : Renewal → List ℕ → FileKeys
@@ -77,32 +82,22 @@ pages_under profile secret file = page_count_of (keys_of profile secret file) fi
 
 -- the file `after` is a new file of the command for the file `before`
 abbrev pub IsMadeBy : Command → Renewal → List ℕ → List ℕ → Type 0
-IsMadeBy (Tags profile) renewal before after = ⊥
-IsMadeBy (Header profile) renewal before after = ⊥
-IsMadeBy (Verify profile) renewal before after = ⊥
-IsMadeBy (Export profile) renewal before after = ⊥
-IsMadeBy (Salvage profile) renewal before after = ⊥
-IsMadeBy (Find profile name low high) renewal before after = ⊥
 IsMadeBy Probe renewal before after = ⊥
 IsMadeBy (Recover profile) renewal before after = ⊥
-IsMadeBy (Stamp profile field value) renewal before after = IsStamped (old_keys renewal before) field value before after
-IsMadeBy (Rekey old new) renewal before after = IsRekeyedSo (old_keys renewal before) (new_keys renewal after) before after
-IsMadeBy (Migrate old new) renewal before after = IsMigratedSo (old_keys renewal before) (new_keys renewal after) before after
+IsMadeBy (Read profile reading) renewal before after = ⊥
+IsMadeBy (ChangeFile profile (Stamp field value)) renewal before after = IsStamped (old_keys renewal before) field value before after
+IsMadeBy (ChangeFile profile (Rekey new)) renewal before after = IsRekeyedSo (old_keys renewal before) (new_keys renewal after) before after
+IsMadeBy (ChangeFile profile (Migrate new)) renewal before after = IsMigratedSo (old_keys renewal before) (new_keys renewal after) before after
 IsMadeBy (Make profile rows) renewal before after = IsMade renewal.new_profile renewal.new_secret rows after
 
 -- each page of the new file that the command sealed has drawn bytes of its own; a plain file takes none, and nothing is asked of one
 abbrev pub AreDrawnBy : Command → Renewal → List ℕ → List ℕ → Type 0
-AreDrawnBy (Tags profile) renewal file drawn = ⊥
-AreDrawnBy (Header profile) renewal file drawn = ⊥
-AreDrawnBy (Verify profile) renewal file drawn = ⊥
-AreDrawnBy (Export profile) renewal file drawn = ⊥
-AreDrawnBy (Salvage profile) renewal file drawn = ⊥
-AreDrawnBy (Find profile name low high) renewal file drawn = ⊥
 AreDrawnBy Probe renewal file drawn = ⊥
 AreDrawnBy (Recover profile) renewal file drawn = ⊥
-AreDrawnBy (Stamp profile field value) renewal file drawn = FileDraws (new_keys renewal file) file (λ n. n == 1) 0 drawn
-AreDrawnBy (Rekey old new) renewal file drawn = FileDraws (new_keys renewal file) file (is_page_number (page_count_of (new_keys renewal file) file)) 0 drawn
-AreDrawnBy (Migrate old new) renewal file drawn = HasOwnDraws (new_keys renewal file) file drawn
+AreDrawnBy (Read profile reading) renewal file drawn = ⊥
+AreDrawnBy (ChangeFile profile (Stamp field value)) renewal file drawn = FileDraws (new_keys renewal file) file (λ n. n == 1) 0 drawn
+AreDrawnBy (ChangeFile profile (Rekey new)) renewal file drawn = FileDraws (new_keys renewal file) file (is_page_number (page_count_of (new_keys renewal file) file)) 0 drawn
+AreDrawnBy (ChangeFile profile (Migrate new)) renewal file drawn = HasOwnDraws (new_keys renewal file) file drawn
 AreDrawnBy (Make profile rows) renewal file drawn = HasOwnDraws (new_keys renewal file) file drawn
 
 -- such a file, and of it holds what is said of its draws, where the entropy tells them

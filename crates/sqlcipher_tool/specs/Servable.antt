@@ -22,7 +22,12 @@ use Rattle.pager.specs.Pages.{is_page_number, opened_pages}
 use Rattle.rowid_find.specs.Table.{at_root, schema_rows, table_of}
 use Rattle.sqlcipher_tool.specs.Answer.{Answer, done}
 use Rattle.sqlcipher_tool.specs.declared.command.Command.{Command}
-use Rattle.sqlcipher_tool.specs.declared.command.Command.TheVariants.{Tags, Header, Verify, Export, Salvage, Find, Probe, Recover, Stamp, Rekey, Migrate, Make}
+use Rattle.sqlcipher_tool.specs.declared.command.Command.TheVariants.{Probe, Recover, Read, Change as ChangeFile, Make}
+use Rattle.sqlcipher_tool.specs.declared.change.Change.{Change}
+use Rattle.sqlcipher_tool.specs.declared.change.Change.TheVariants.{Stamp, Rekey, Migrate}
+use Rattle.sqlcipher_tool.specs.declared.reading.Job.TheVariants.{Verify, Export, Find}
+use Rattle.sqlcipher_tool.specs.declared.reading.Reading.{Reading}
+use Rattle.sqlcipher_tool.specs.declared.reading.Reading.TheVariants.{Tags, Header, Salvage, OnPages}
 use Rattle.sqlcipher_tool.specs.declared.status.Status.{Status}
 use Rattle.sqlcipher_tool.specs.declared.status.Status.TheVariants.{Done, OutOfMemory}
 use Rattle.sqlcipher_tool.specs.Due.{key_lines, word_refusal}
@@ -92,22 +97,27 @@ pub record HasTable (profile : Profile) (secret : Secret) (name : List ℕ) (fil
   pub table : table_of (opened_pages (keys_of profile secret file) file opened.count) name (schema_rows (opened_pages (keys_of profile secret file) file opened.count)) ≡ at_root root
   pub tree : is_sound (tree_part (opened_pages (keys_of profile secret file) file opened.count) Table nothing root) ≡ true
 
+-- nothing stands in the way of a reading of the recovered file
+abbrev pub IsReadable : Reading → Profile → Secret → List ℕ → Type 0
+IsReadable Tags profile secret file = HasTags profile secret file
+IsReadable Header profile secret file = IsOk (opened_with profile secret file)
+IsReadable Salvage profile secret file = HasServablePages profile secret file
+IsReadable (OnPages Verify) profile secret file = IsClean (keys_of profile secret file) file
+IsReadable (OnPages Export) profile secret file = (held : Content) × Opens (keys_of profile secret file) file held
+IsReadable (OnPages (Find name low high)) profile secret file = HasTable profile secret name file
+
+-- nor of a change of it
+abbrev pub IsChangeable : Change → Profile → Secret → List ℕ → Type 0
+IsChangeable (Stamp field value) profile secret file = IsOk (opened_with profile secret file)
+IsChangeable (Rekey new) profile secret file = IsClean (keys_of profile secret file) file
+IsChangeable (Migrate new) profile secret file = (held : Content) × Opens (keys_of profile secret file) file held × HasFewPages new held
+
 -- nothing stands in the way of the command
 abbrev pub IsServable : Command → List Secret → Files → Type 0
-IsServable (Tags profile) secrets files = ForOne secrets (λ secret. AfterRecovery profile files (HasTags profile secret))
-IsServable (Header profile) secrets files = ForOne secrets (λ secret. AfterRecovery profile files (λ file. IsOk (opened_with profile secret file)))
-IsServable (Verify profile) secrets files = ForOne secrets (λ secret. AfterRecovery profile files (λ file. IsClean (keys_of profile secret file) file))
-IsServable (Export profile) secrets files =
-    ForOne secrets (λ secret. AfterRecovery profile files (λ file. (held : Content) × Opens (keys_of profile secret file) file held))
-IsServable (Salvage profile) secrets files = ForOne secrets (λ secret. AfterRecovery profile files (HasServablePages profile secret))
-IsServable (Find profile name low high) secrets files = ForOne secrets (λ secret. AfterRecovery profile files (HasTable profile secret name))
 IsServable Probe secrets files = ForOne secrets (λ secret. IsProbed secret files)
 IsServable (Recover profile) secrets files = IsOk (recovery_of profile files)
-IsServable (Stamp profile field value) secrets files =
-    ForOne secrets (λ secret. AfterRecovery profile files (λ file. IsOk (opened_with profile secret file)))
-IsServable (Rekey old new) secrets files = ForTwo secrets (λ first second. AfterRecovery old files (λ file. IsClean (keys_of old first file) file))
-IsServable (Migrate old new) secrets files =
-    ForTwo secrets (λ first second. AfterRecovery old files (λ file. (held : Content) × Opens (keys_of old first file) file held × HasFewPages new held))
+IsServable (Read profile reading) secrets files = ForOne secrets (λ secret. AfterRecovery profile files (IsReadable reading profile secret))
+IsServable (ChangeFile profile change) secrets files = ForTwo secrets (λ first second. AfterRecovery profile files (IsChangeable change profile first))
 IsServable (Make profile rows) secrets files = ForOne secrets (λ secret. CanMake profile rows files)
 
 -- The words make a command that they don't refuse, its key lines give their secrets, and nothing stands in its way.
@@ -127,17 +137,17 @@ standing file fresh = record { main = Some file; journal = None; fresh = fresh }
 
 -- the command reads a file of this profile, and nothing of what it asks rests on the size of the content; `probe` finds no plain file
 abbrev pub IsReadCommand : Profile → Command → Type 0
-IsReadCommand profile (Tags other) = other ≡ profile
-IsReadCommand profile (Header other) = other ≡ profile
-IsReadCommand profile (Verify other) = other ≡ profile
-IsReadCommand profile (Export other) = other ≡ profile
-IsReadCommand profile (Salvage other) = other ≡ profile
-IsReadCommand profile (Find other name low high) = ⊥
 IsReadCommand profile Probe = is_plain profile ≡ false
 IsReadCommand profile (Recover other) = other ≡ profile
-IsReadCommand profile (Stamp other field value) = other ≡ profile
-IsReadCommand profile (Rekey old new) = old ≡ profile
-IsReadCommand profile (Migrate old new) = ⊥
+IsReadCommand profile (Read other Tags) = other ≡ profile
+IsReadCommand profile (Read other Header) = other ≡ profile
+IsReadCommand profile (Read other Salvage) = other ≡ profile
+IsReadCommand profile (Read other (OnPages Verify)) = other ≡ profile
+IsReadCommand profile (Read other (OnPages Export)) = other ≡ profile
+IsReadCommand profile (Read other (OnPages (Find name low high))) = ⊥
+IsReadCommand profile (ChangeFile old (Stamp field value)) = old ≡ profile
+IsReadCommand profile (ChangeFile old (Rekey new)) = old ≡ profile
+IsReadCommand profile (ChangeFile old (Migrate new)) = ⊥
 IsReadCommand profile (Make other rows) = ⊥
 
 -- ---- what follows

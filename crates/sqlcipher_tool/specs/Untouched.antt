@@ -5,23 +5,6 @@ use Rattle.edge_model.specs.Files.{Files, main_of}
 use Rattle.edge_model.specs.Images.{Each}
 use Rattle.sqlcipher_tool.specs.Holding.{DiskRun}
 use Rattle.sqlcipher_tool.specs.Recovered.{recovery_of}
-use Rattle.sqlcipher_tool.specs.declared.command.Command.{Command}
-use Rattle.sqlcipher_tool.specs.declared.command.Command.TheVariants.{Tags, Header, Verify, Export, Salvage, Find, Probe, Recover, Stamp, Rekey, Migrate, Make}
-
--- the profile by which it recovers Main; `probe` and `make` recover nothing
-abbrev pub recovers_by : Command → Option Profile
-recovers_by (Tags profile) = Some profile
-recovers_by (Header profile) = Some profile
-recovers_by (Verify profile) = Some profile
-recovers_by (Export profile) = Some profile
-recovers_by (Salvage profile) = Some profile
-recovers_by (Find profile name low high) = Some profile
-recovers_by Probe = None
-recovers_by (Recover profile) = Some profile
-recovers_by (Stamp profile field value) = Some profile
-recovers_by (Rekey old new) = Some old
-recovers_by (Migrate old new) = Some old
-recovers_by (Make profile rows) = None
 
 -- Main is absent or has no byte, or its recovery is refused
 abbrev pub HasNoFile : Profile → Files → Type 0

@@ -1,23 +1,21 @@
 -- The words of the command line. P and P2 name profiles, and N is one to ten digits, at most 4,294,967,295. NAME is any word. LOW and
--- HIGH are one to 19 digits, with or without a minus before them, and from -2^63 to 2^63 - 1.
+-- HIGH are one to 19 digits, with or without a minus before them, and from -2^63 to 2^63 - 1. What is yes or no of a command stands below,
+-- a row each, in `traits`.
 --
--- The last three columns say for which profiles a key line is read (`asked_keys`), whether the file is changed (`alters`), and for which
--- profile bytes are drawn from the entropy (`draws`): a plain profile has no key, so none is read for it, and nothing is drawn for it.
---
--- | words                      | command                         | key lines | changes | draws  |
--- | `tags P`                   | Tags profile P                  | P         | no      | no     |
--- | `header P`                 | Header profile P                | P         | no      | no     |
--- | `verify P`                 | Verify profile P                | P         | no      | no     |
--- | `export P`                 | Export profile P                | P         | no      | no     |
--- | `salvage P`                | Salvage profile P               | P         | no      | no     |
--- | `find P NAME LOW HIGH`     | Find profile P NAME LOW HIGH    | P         | no      | no     |
--- | `probe`                    | Probe                           | one       | no      | no     |
--- | `recover P`                | Recover profile P               | none      | no      | no     |
--- | `stamp P user-version N`   | Stamp profile P UserVersion N   | P         | yes     | for P  |
--- | `stamp P application-id N` | Stamp profile P ApplicationId N | P         | yes     | for P  |
--- | `rekey P P2`               | Rekey profile P, profile P2     | P, P2     | yes     | for P2 |
--- | `migrate P P2`             | Migrate profile P, profile P2   | P, P2     | yes     | for P2 |
--- | `make P N`                 | Make profile P N                | P         | yes     | for P  |
+-- | words                      | command                               |
+-- | `probe`                    | Probe                                 |
+-- | `recover P`                | Recover profile P                     |
+-- | `tags P`                   | Read profile P, Tags                  |
+-- | `header P`                 | Read profile P, Header                |
+-- | `salvage P`                | Read profile P, Salvage               |
+-- | `verify P`                 | Read profile P, OnPages Verify        |
+-- | `export P`                 | Read profile P, OnPages Export        |
+-- | `find P NAME LOW HIGH`     | Read profile P, OnPages (Find NAME LOW HIGH) |
+-- | `stamp P user-version N`   | Change profile P, Stamp UserVersion N |
+-- | `stamp P application-id N` | Change profile P, Stamp ApplicationId N |
+-- | `rekey P P2`               | Change profile P, Rekey profile P2    |
+-- | `migrate P P2`             | Change profile P, Migrate profile P2  |
+-- | `make P N`                 | Make profile P N                      |
 use Rattle.std.specs.Prelude.{ℕ, ℤ, pos, neg_ℤ, ◌^◌, ◌-◌, drop, ◌==◌, ◌&&◌, ◌||◌, not, nat_le, nat_lt, Bool, true, false, List, [], ◌∷◌, length, map, Option, Some, None, codes, if◌then◌else◌}
 use Rattle.std.specs.Borrow.{Bor}
 use Rattle.std.specs.Char.{digit_value}
@@ -28,9 +26,15 @@ use Rattle.std.specs.Str.Parse.{digits_value, starts_with_minus}
 use Rattle.cipher_profile.specs.Profile.{IsListed, is_plain, profile_named}
 use Rattle.cipher_profile.specs.declared.profile.Profile.{Profile}
 use Rattle.sqlcipher_tool.specs.declared.command.Command.{Command}
-use Rattle.sqlcipher_tool.specs.declared.command.Command.TheVariants.{Tags, Header, Verify, Export, Salvage, Find, Probe, Recover, Stamp, Rekey, Migrate, Make}
+use Rattle.sqlcipher_tool.specs.declared.command.Command.TheVariants.{Probe, Recover, Read, Change as ChangeFile, Make}
 use Rattle.sqlcipher_tool.specs.declared.command.Field.{Field}
 use Rattle.sqlcipher_tool.specs.declared.command.Field.TheVariants.{UserVersion, ApplicationId}
+use Rattle.sqlcipher_tool.specs.declared.change.Change.{Change}
+use Rattle.sqlcipher_tool.specs.declared.change.Change.TheVariants.{Stamp, Rekey, Migrate}
+use Rattle.sqlcipher_tool.specs.declared.reading.Job.{Job}
+use Rattle.sqlcipher_tool.specs.declared.reading.Job.TheVariants.{Verify, Export, Find}
+use Rattle.sqlcipher_tool.specs.declared.reading.Reading.{Reading}
+use Rattle.sqlcipher_tool.specs.declared.reading.Reading.TheVariants.{Tags, Header, Salvage, OnPages}
 
 -- the word is a number of the table
 abbrev pub is_number : List ℕ → Bool
@@ -71,11 +75,12 @@ field_named word =
 -- `stamp` with its three words
 abbrev pub stamp_form : List ℕ → List ℕ → List ℕ → Option Command
 stamp_form first second third =
-    option_and_then (λ profile. option_and_then (λ field. option_map (λ value. Stamp profile field value) (number_named third)) (field_named second)) (profile_named first)
+    option_and_then (λ profile. option_and_then (λ field. option_map (λ value. ChangeFile profile (Stamp field value))
+    (number_named third)) (field_named second)) (profile_named first)
 
--- a command from one profile to another, `rekey` or `migrate`, with its two words
-abbrev pub two_profiles : (Profile → Profile → Command) → List ℕ → List ℕ → Option Command
-two_profiles command first second = option_and_then (λ old. option_map (λ new. command old new) (profile_named second)) (profile_named first)
+-- a change from one profile to another, `rekey` or `migrate`, with its two words
+abbrev pub two_profiles : (Profile → Change) → List ℕ → List ℕ → Option Command
+two_profiles change first second = option_and_then (λ old. option_map (λ new. ChangeFile old (change new)) (profile_named second)) (profile_named first)
 
 -- `make` with its two words
 abbrev pub make_form : List ℕ → List ℕ → Option Command
@@ -84,18 +89,19 @@ make_form first second = option_and_then (λ profile. option_map (λ rows. Make 
 -- `find` with its four words
 abbrev pub find_form : List ℕ → List ℕ → List ℕ → List ℕ → Option Command
 find_form first second third fourth =
-    option_and_then (λ profile. option_and_then (λ low. option_map (λ high. Find profile second low high) (rowid_named fourth)) (rowid_named third)) (profile_named first)
+    option_and_then (λ profile. option_and_then (λ low. option_map (λ high. Read profile (OnPages (Find second low high)))
+    (rowid_named fourth)) (rowid_named third)) (profile_named first)
 
 -- the command that the words make, or none
 abbrev pub form : List (List ℕ) → Option Command
 form [] = None
 form (name ∷ []) = if bytes_eq name (codes "probe") then Some Probe else None
 form (name ∷ word ∷ []) =
-    if bytes_eq name (codes "tags") then option_map Tags (profile_named word)
-    else (if bytes_eq name (codes "header") then option_map Header (profile_named word)
-    else (if bytes_eq name (codes "verify") then option_map Verify (profile_named word)
-    else (if bytes_eq name (codes "export") then option_map Export (profile_named word)
-    else (if bytes_eq name (codes "salvage") then option_map Salvage (profile_named word)
+    if bytes_eq name (codes "tags") then option_map (λ profile. Read profile Tags) (profile_named word)
+    else (if bytes_eq name (codes "header") then option_map (λ profile. Read profile Header) (profile_named word)
+    else (if bytes_eq name (codes "verify") then option_map (λ profile. Read profile (OnPages Verify)) (profile_named word)
+    else (if bytes_eq name (codes "export") then option_map (λ profile. Read profile (OnPages Export)) (profile_named word)
+    else (if bytes_eq name (codes "salvage") then option_map (λ profile. Read profile Salvage) (profile_named word)
     else (if bytes_eq name (codes "recover") then option_map Recover (profile_named word) else None)))))
 form (name ∷ first ∷ second ∷ []) =
     if bytes_eq name (codes "rekey") then two_profiles Rekey first second
@@ -105,140 +111,170 @@ form (name ∷ first ∷ second ∷ third ∷ []) = if bytes_eq name (codes "sta
 form (name ∷ first ∷ second ∷ third ∷ fourth ∷ []) = if bytes_eq name (codes "find") then find_form first second third fourth else None
 form (name ∷ first ∷ second ∷ third ∷ fourth ∷ fifth ∷ rest) = None
 
--- the command is of a profile that is served
-abbrev pub IsServed : Command → Type 0
-IsServed (Tags profile) = IsListed profile
-IsServed (Header profile) = IsListed profile
-IsServed (Verify profile) = IsListed profile
-IsServed (Export profile) = IsListed profile
-IsServed (Salvage profile) = IsListed profile
-IsServed (Find profile name low high) = IsListed profile
-IsServed Probe = Unit {0}
-IsServed (Recover profile) = IsListed profile
-IsServed (Stamp profile field value) = IsListed profile
-IsServed (Rekey old new) = IsListed old × IsListed new
-IsServed (Migrate old new) = IsListed old × IsListed new
-IsServed (Make profile rows) = IsListed profile
+-- ---- what is yes or no of a command
 
--- it asks for tags that the profile has not
-abbrev pub lacks_tags : Command → Bool
-lacks_tags (Tags profile) = profile.tag_len == 0
-lacks_tags (Header profile) = false
-lacks_tags (Verify profile) = false
-lacks_tags (Export profile) = false
-lacks_tags (Salvage profile) = false
-lacks_tags (Find profile name low high) = false
-lacks_tags Probe = false
-lacks_tags (Recover profile) = false
-lacks_tags (Stamp profile field value) = false
-lacks_tags (Rekey old new) = false
-lacks_tags (Migrate old new) = false
-lacks_tags (Make profile rows) = false
+-- the profile of the new file
+abbrev pub profile_after : Profile → Change → Profile
+profile_after profile (Stamp field value) = profile
+profile_after profile (Rekey new) = new
+profile_after profile (Migrate new) = new
+
+-- a key line is read for the new file alone, which is not that of a plain file
+abbrev pub asks_again : Change → Bool
+asks_again (Stamp field value) = false
+asks_again (Rekey new) = not (is_plain new)
+asks_again (Migrate new) = not (is_plain new)
+
+-- it goes by a journal, and leaves Fresh as it is
+abbrev pub is_in_place : Change → Bool
+is_in_place (Stamp field value) = true
+is_in_place (Rekey new) = true
+is_in_place (Migrate new) = false
 
 -- it asks for new keys in place, of a profile whose pages have another size or reserve, or of a plain file, which has no key
-abbrev pub layouts_differ : Command → Bool
-layouts_differ (Tags profile) = false
-layouts_differ (Header profile) = false
-layouts_differ (Verify profile) = false
-layouts_differ (Export profile) = false
-layouts_differ (Salvage profile) = false
-layouts_differ (Find profile name low high) = false
-layouts_differ Probe = false
-layouts_differ (Recover profile) = false
-layouts_differ (Stamp profile field value) = false
-layouts_differ (Rekey old new) = is_plain old || not (old.page_size == new.page_size && old.reserve == new.reserve)
-layouts_differ (Migrate old new) = false
-layouts_differ (Make profile rows) = false
+abbrev pub changes_layout : Profile → Change → Bool
+changes_layout old (Stamp field value) = false
+changes_layout old (Rekey new) = is_plain old || not (old.page_size == new.page_size && old.reserve == new.reserve)
+changes_layout old (Migrate new) = false
 
--- for each secret that it takes, whether a key line is read for it: that of a plain file is none
-abbrev pub asked_keys : Command → List Bool
-asked_keys (Tags profile) = not (is_plain profile) ∷ []
-asked_keys (Header profile) = not (is_plain profile) ∷ []
-asked_keys (Verify profile) = not (is_plain profile) ∷ []
-asked_keys (Export profile) = not (is_plain profile) ∷ []
-asked_keys (Salvage profile) = not (is_plain profile) ∷ []
-asked_keys (Find profile name low high) = not (is_plain profile) ∷ []
-asked_keys Probe = true ∷ []
-asked_keys (Recover profile) = []
-asked_keys (Stamp profile field value) = not (is_plain profile) ∷ []
-asked_keys (Rekey old new) = not (is_plain old) ∷ not (is_plain new) ∷ []
-asked_keys (Migrate old new) = not (is_plain old) ∷ not (is_plain new) ∷ []
-asked_keys (Make profile rows) = not (is_plain profile) ∷ []
-
--- it takes memory
-abbrev pub takes_memory : Command → Bool
-takes_memory (Tags profile) = true
-takes_memory (Header profile) = true
-takes_memory (Verify profile) = true
-takes_memory (Export profile) = true
-takes_memory (Salvage profile) = true
-takes_memory (Find profile name low high) = true
-takes_memory Probe = false
-takes_memory (Recover profile) = true
-takes_memory (Stamp profile field value) = true
-takes_memory (Rekey old new) = true
-takes_memory (Migrate old new) = true
-takes_memory (Make profile rows) = true
-
--- it changes the file: it seals pages of it
-abbrev pub alters : Command → Bool
-alters (Tags profile) = false
-alters (Header profile) = false
-alters (Verify profile) = false
-alters (Export profile) = false
-alters (Salvage profile) = false
-alters (Find profile name low high) = false
-alters Probe = false
-alters (Recover profile) = false
-alters (Stamp profile field value) = true
-alters (Rekey old new) = true
-alters (Migrate old new) = true
-alters (Make profile rows) = true
-
--- it draws from the entropy, as pages are sealed that are not of a plain file
-abbrev pub draws : Command → Bool
-draws (Tags profile) = false
-draws (Header profile) = false
-draws (Verify profile) = false
-draws (Export profile) = false
-draws (Salvage profile) = false
-draws (Find profile name low high) = false
-draws Probe = false
-draws (Recover profile) = false
-draws (Stamp profile field value) = not (is_plain profile)
-draws (Rekey old new) = not (is_plain new)
-draws (Migrate old new) = not (is_plain new)
-draws (Make profile rows) = not (is_plain profile)
+-- it asks for tags that the profile has not
+abbrev pub asks_tags : Profile → Reading → Bool
+asks_tags profile Tags = profile.tag_len == 0
+asks_tags profile Header = false
+asks_tags profile Salvage = false
+asks_tags profile (OnPages job) = false
 
 -- it prints rows before it has looked at all pages that it reads
-abbrev pub finds : Command → Bool
-finds (Tags profile) = false
-finds (Header profile) = false
-finds (Verify profile) = false
-finds (Export profile) = false
-finds (Salvage profile) = false
-finds (Find profile name low high) = true
-finds Probe = false
-finds (Recover profile) = false
-finds (Stamp profile field value) = false
-finds (Rekey old new) = false
-finds (Migrate old new) = false
-finds (Make profile rows) = false
+abbrev pub prints_rows : Job → Bool
+prints_rows Verify = false
+prints_rows Export = false
+prints_rows (Find name low high) = true
 
--- it writes a new file beside, in Fresh, which takes the place of Main
+abbrev pub shows_rows : Reading → Bool
+shows_rows Tags = false
+shows_rows Header = false
+shows_rows Salvage = false
+shows_rows (OnPages job) = prints_rows job
+
+pub record Traits : Type 0 where
+  -- for each of two secrets, whether a key line is read for it: that of a plain file is none, and so is one that the command does not take
+  pub asked : List Bool
+  -- the profile by which it recovers Main
+  pub recovers : Option Profile
+  -- it takes memory
+  pub memory : Bool
+  -- it changes the file: it seals pages of it
+  pub altering : Bool
+  -- it draws from the entropy, as pages are sealed that are not of a plain file
+  pub drawing : Bool
+  -- it writes a new file beside, in Fresh, which takes the place of Main
+  pub beside : Bool
+  -- it prints rows before it has looked at all pages that it reads
+  pub early : Bool
+  -- it asks for tags that the profile has not
+  pub untagged : Bool
+  -- it asks for new keys in place where the layouts differ
+  pub mismatched : Bool
+
+abbrev pub traits : Command → Traits
+traits Probe = record {
+  asked = true ∷ false ∷ [];
+  recovers = None;
+  memory = false;
+  altering = false;
+  drawing = false;
+  beside = false;
+  early = false;
+  untagged = false;
+  mismatched = false;
+}
+traits (Recover profile) = record {
+  asked = false ∷ false ∷ [];
+  recovers = Some profile;
+  memory = true;
+  altering = false;
+  drawing = false;
+  beside = false;
+  early = false;
+  untagged = false;
+  mismatched = false;
+}
+traits (Read profile reading) = record {
+  asked = not (is_plain profile) ∷ false ∷ [];
+  recovers = Some profile;
+  memory = true;
+  altering = false;
+  drawing = false;
+  beside = false;
+  early = shows_rows reading;
+  untagged = asks_tags profile reading;
+  mismatched = false;
+}
+traits (ChangeFile profile change) = record {
+  asked = not (is_plain profile) ∷ asks_again change ∷ [];
+  recovers = Some profile;
+  memory = true;
+  altering = true;
+  drawing = not (is_plain (profile_after profile change));
+  beside = not (is_in_place change);
+  early = false;
+  untagged = false;
+  mismatched = changes_layout profile change;
+}
+traits (Make profile rows) = record {
+  asked = not (is_plain profile) ∷ false ∷ [];
+  recovers = None;
+  memory = true;
+  altering = true;
+  drawing = not (is_plain profile);
+  beside = true;
+  early = false;
+  untagged = false;
+  mismatched = false;
+}
+
+abbrev pub asked_keys : Command → List Bool
+asked_keys command = (traits command).asked
+
+abbrev pub recovers_by : Command → Option Profile
+recovers_by command = (traits command).recovers
+
+abbrev pub takes_memory : Command → Bool
+takes_memory command = (traits command).memory
+
+abbrev pub alters : Command → Bool
+alters command = (traits command).altering
+
+abbrev pub draws : Command → Bool
+draws command = (traits command).drawing
+
 abbrev pub writes_beside : Command → Bool
-writes_beside (Tags profile) = false
-writes_beside (Header profile) = false
-writes_beside (Verify profile) = false
-writes_beside (Export profile) = false
-writes_beside (Salvage profile) = false
-writes_beside (Find profile name low high) = false
-writes_beside Probe = false
-writes_beside (Recover profile) = false
-writes_beside (Stamp profile field value) = false
-writes_beside (Rekey old new) = false
-writes_beside (Migrate old new) = true
-writes_beside (Make profile rows) = true
+writes_beside command = (traits command).beside
+
+abbrev pub finds : Command → Bool
+finds command = (traits command).early
+
+abbrev pub lacks_tags : Command → Bool
+lacks_tags command = (traits command).untagged
+
+abbrev pub layouts_differ : Command → Bool
+layouts_differ command = (traits command).mismatched
+
+-- ---- the profiles
+
+-- the profile of a new file is served
+abbrev pub IsChangeServed : Change → Type 0
+IsChangeServed (Stamp field value) = Unit {0}
+IsChangeServed (Rekey new) = IsListed new
+IsChangeServed (Migrate new) = IsListed new
+
+-- the command is of a profile that is served
+abbrev pub IsServed : Command → Type 0
+IsServed Probe = Unit {0}
+IsServed (Recover profile) = IsListed profile
+IsServed (Read profile reading) = IsListed profile
+IsServed (ChangeFile profile change) = IsListed profile × IsChangeServed change
+IsServed (Make profile rows) = IsListed profile
 
 -- the words' bytes
 abbrev pub texts : List (Bor (List ℕ)) → List (List ℕ)

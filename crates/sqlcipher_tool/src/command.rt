@@ -1,10 +1,11 @@
 // The words of the command line.
 ghost use Rattle.std.specs.Prelude.{◌≡◌, ◌∷◌, [], IfSome};
 ghost use Rattle.sqlcipher_tool.specs.Due.{word_refusal};
-ghost use Rattle.sqlcipher_tool.specs.Promises.{takes_keys};
-ghost use Rattle.sqlcipher_tool.specs.declared.command.Command.TheVariants.{Rekey as RekeyOf, Migrate as MigrateOf};
-ghost use Rattle.sqlcipher_tool.specs.Words.{form, find_form, stamp_form, two_profiles, make_form, field_named, number_named, rowid_named, texts, draws, lacks_tags, layouts_differ, IsServed};
+ghost use Rattle.sqlcipher_tool.specs.declared.change.Change.TheVariants.{Rekey as RekeyOf, Migrate as MigrateOf};
+ghost use Rattle.sqlcipher_tool.specs.Words.{form, find_form, stamp_form, two_profiles, make_form, field_named, number_named, rowid_named, texts, asked_keys, draws, lacks_tags, layouts_differ, IsServed};
 
+use crate::change::Change;
+use crate::reading::{Job, Reading};
 use crate::status::Refusal;
 use cipher_profile::{Profile, profile_of};
 use std::marker::Model;
@@ -50,54 +51,14 @@ pub enum Field {
 /// What the words ask for.
 #[derive(Drop)]
 pub enum Command<'w> {
-    /// Check the tag of every page.
-    Tags(Profile),
-    /// Print the fields of the database header.
-    Header(Profile),
-    /// Check the structure of the database, page by page.
-    Verify(Profile),
-    /// Print all rows and entries.
-    Export(Profile),
-    /// Print the rows of a damaged file.
-    Salvage(Profile),
-    /// Print the rows of a table whose rowids lie in a range.
-    Find {
-        /// The file's profile.
-        profile: Profile,
-        /// The table's name.
-        name: Name<'w>,
-        /// The lowest rowid.
-        low: i64,
-        /// The highest rowid.
-        high: i64,
-    },
     /// Find the profile.
     Probe,
     /// Play back a journal that a stop has left.
     Recover(Profile),
-    /// Set a field of the database header.
-    Stamp {
-        /// The file's profile.
-        profile: Profile,
-        /// The field.
-        field: Field,
-        /// Its new number.
-        value: u32,
-    },
-    /// Seal every page under another key.
-    Rekey {
-        /// The file's profile.
-        old: Profile,
-        /// The profile of the new key.
-        new: Profile,
-    },
-    /// Write the database anew in another profile, and put it in the file's place.
-    Migrate {
-        /// The file's profile.
-        old: Profile,
-        /// The new file's profile.
-        new: Profile,
-    },
+    /// Recover a file of the profile, and read it.
+    Read(Profile, Reading<'w>),
+    /// Recover a file of the profile, and change it.
+    Change(Profile, Change),
     /// Make a database where no file is.
     Make {
         /// Its profile.
@@ -121,23 +82,16 @@ impl<'w> Command<'w> {
         None
     }
 
-    /// Whether a key line is read for it.
-    pub fn takes_keys(&self) -> bool
-        ensures { result ≡ takes_keys self.now }
+    /// For each of two secrets, that of the file and that of the new file, whether a key line is read for it.
+    pub fn asked_keys(&self) -> (bool, bool)
+        ensures { asked_keys self.now ≡ result.0 ∷ result.1 ∷ [] }
     {
         match self {
-            Command::Tags(profile)
-            | Command::Header(profile)
-            | Command::Verify(profile)
-            | Command::Export(profile)
-            | Command::Salvage(profile) => !profile.is_plain(),
-            Command::Find { profile, .. } => !profile.is_plain(),
-            Command::Probe => true,
-            Command::Recover(_) => false,
-            Command::Stamp { profile, .. } => !profile.is_plain(),
-            Command::Rekey { old, new } => !old.is_plain() || !new.is_plain(),
-            Command::Migrate { old, new } => !old.is_plain() || !new.is_plain(),
-            Command::Make { profile, .. } => !profile.is_plain(),
+            Command::Probe => (true, false),
+            Command::Recover(_) => (false, false),
+            Command::Read(profile, _) => (!profile.is_plain(), false),
+            Command::Change(profile, change) => (!profile.is_plain(), change.asks_again()),
+            Command::Make { profile, .. } => (!profile.is_plain(), false),
         }
     }
 
@@ -146,18 +100,9 @@ impl<'w> Command<'w> {
         ensures { result ≡ draws self.now }
     {
         match self {
-            Command::Stamp { profile, .. } => !profile.is_plain(),
-            Command::Rekey { new, .. } => !new.is_plain(),
-            Command::Migrate { new, .. } => !new.is_plain(),
+            Command::Change(profile, change) => !change.profile_after(*profile).is_plain(),
             Command::Make { profile, .. } => !profile.is_plain(),
-            Command::Tags(_)
-            | Command::Header(_)
-            | Command::Verify(_)
-            | Command::Export(_)
-            | Command::Salvage(_)
-            | Command::Find { .. }
-            | Command::Probe
-            | Command::Recover(_) => false,
+            Command::Probe | Command::Recover(_) | Command::Read(_, _) => false,
         }
     }
 
@@ -166,18 +111,9 @@ impl<'w> Command<'w> {
         ensures { result ≡ lacks_tags self.now }
     {
         match self {
-            Command::Tags(profile) => profile.tag_len == 0,
-            Command::Header(_)
-            | Command::Verify(_)
-            | Command::Export(_)
-            | Command::Salvage(_)
-            | Command::Find { .. }
-            | Command::Probe
-            | Command::Recover(_)
-            | Command::Stamp { .. }
-            | Command::Rekey { .. }
-            | Command::Migrate { .. }
-            | Command::Make { .. } => false,
+            Command::Read(profile, reading) => reading.asks_tags(profile),
+            Command::Probe | Command::Recover(_) | Command::Change(_, _) | Command::Make { .. } =>
+                false,
         }
     }
 
@@ -186,20 +122,9 @@ impl<'w> Command<'w> {
         ensures { result ≡ layouts_differ self.now }
     {
         match self {
-            Command::Rekey { old, new } => {
-                old.is_plain() || !(old.page_size == new.page_size && old.reserve == new.reserve)
-            }
-            Command::Tags(_)
-            | Command::Header(_)
-            | Command::Verify(_)
-            | Command::Export(_)
-            | Command::Salvage(_)
-            | Command::Find { .. }
-            | Command::Probe
-            | Command::Recover(_)
-            | Command::Stamp { .. }
-            | Command::Migrate { .. }
-            | Command::Make { .. } => false,
+            Command::Change(profile, change) => change.changes_layout(profile),
+            Command::Probe | Command::Recover(_) | Command::Read(_, _) | Command::Make { .. } =>
+                false,
         }
     }
 }
@@ -226,19 +151,19 @@ fn command_on<'w>(name: &str, word: &str) -> Option<Command<'w>>
 {
     let profile = profile_of(word);
     if name == "tags" {
-        return Some(Command::Tags(profile?));
+        return Some(Command::Read(profile?, Reading::Tags));
     }
     if name == "header" {
-        return Some(Command::Header(profile?));
+        return Some(Command::Read(profile?, Reading::Header));
     }
     if name == "verify" {
-        return Some(Command::Verify(profile?));
+        return Some(Command::Read(profile?, Reading::OnPages(Job::Verify)));
     }
     if name == "export" {
-        return Some(Command::Export(profile?));
+        return Some(Command::Read(profile?, Reading::OnPages(Job::Export)));
     }
     if name == "salvage" {
-        return Some(Command::Salvage(profile?));
+        return Some(Command::Read(profile?, Reading::Salvage));
     }
     if name == "recover" {
         return Some(Command::Recover(profile?));
@@ -288,12 +213,8 @@ fn find_with<'w>(first: &str, second: &'w str, third: &str, fourth: &str) -> Opt
     let profile = profile_of(first)?;
     let low = rowid_of(third)?;
     let high = rowid_of(fourth)?;
-    Some(Command::Find {
-        profile,
-        name: Name::new(second),
-        low,
-        high,
-    })
+    let name = Name::new(second);
+    Some(Command::Read(profile, Reading::OnPages(Job::Find { name, low, high })))
 }
 
 // `stamp` with its three words.
@@ -304,11 +225,7 @@ fn stamp_with<'w>(first: &str, second: &str, third: &str) -> Option<Command<'w>>
     let profile = profile_of(first)?;
     let field = field_of(second)?;
     let value = number_of(third)?;
-    Some(Command::Stamp {
-        profile,
-        field,
-        value,
-    })
+    Some(Command::Change(profile, Change::Stamp { field, value }))
 }
 
 // `rekey` with its two words.
@@ -318,7 +235,7 @@ fn rekey_with<'w>(first: &str, second: &str) -> Option<Command<'w>>
 {
     let old = profile_of(first)?;
     let new = profile_of(second)?;
-    Some(Command::Rekey { old, new })
+    Some(Command::Change(old, Change::Rekey(new)))
 }
 
 // `migrate` with its two words.
@@ -328,7 +245,7 @@ fn migrate_with<'w>(first: &str, second: &str) -> Option<Command<'w>>
 {
     let old = profile_of(first)?;
     let new = profile_of(second)?;
-    Some(Command::Migrate { old, new })
+    Some(Command::Change(old, Change::Migrate(new)))
 }
 
 // `make` with its two words.

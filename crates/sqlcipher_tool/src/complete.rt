@@ -8,7 +8,8 @@ ghost use Rattle.make_job.specs.Made.{IsMade};
 ghost use Rattle.sqlcipher_tool.specs.Due.{due, key_lines};
 ghost use Rattle.sqlcipher_tool.specs.Servable.{CanBeServed, IsDoneAlone, IsReadCommand, IsServable, standing};
 ghost use Rattle.sqlcipher_tool.specs.declared.command.Command.{Command};
-ghost use Rattle.sqlcipher_tool.specs.declared.command.Command.TheVariants.{Migrate};
+ghost use Rattle.sqlcipher_tool.specs.declared.command.Command.TheVariants.{Change as ChangeFile};
+ghost use Rattle.sqlcipher_tool.specs.declared.change.Change.TheVariants.{Migrate};
 
 /// Each secret that is asked for is given, by a key line or without one.
 pub fn key_lines_law()
@@ -29,7 +30,7 @@ pub fn made_servable_law()
 /// Nor is anything in the way of `migrate` on a file that was made without rows: it has no more pages than may be, whatever the new profile.
 pub fn made_migrates_law()
     ensures { (old new : Profile) (secret second : Secret) (file : File) (fresh : Option File) → IsListed new → IsMade old secret 0 file.bytes
-        → IsServable (Migrate old new) (secret ∷ second ∷ []) (standing file fresh) }
+        → IsServable (ChangeFile old (Migrate new)) (secret ∷ second ∷ []) (standing file fresh) }
 {}
 
 /// Nothing stands in the way of `recover` where no file is there.

@@ -1,26 +1,18 @@
 // `header`: the fields of page 1, and the count of pages.
-ghost use Rattle.std.specs.Prelude.{◌≡◌, ◌⊎◌, ◌≤◌, Some, Ok, Err, IfErr, false, IsTrue};
+ghost use Rattle.std.specs.Prelude.{◌≡◌, ◌⊎◌, ◌≤◌, Some, Ok, Err, IfErr, IsTrue};
 ghost use Rattle.edge_model.specs.Causes.{Rose};
-ghost use Rattle.edge_model.specs.Images.{From, LeavesOnly};
 ghost use Rattle.edge_model.specs.OnlyRead.{OnlyRead};
 ghost use Rattle.cipher_profile.specs.Profile.{IsListed};
 ghost use Rattle.edge_model.specs.Files.{main_of};
 ghost use Rattle.pager.specs.Opening.{file_opened};
-ghost use Rattle.rollback_journal.specs.Recovery.{KeepsRecovered};
-ghost use Rattle.sqlcipher_tool.specs.Behind.{HasOnlyRead, IsRecovered};
 ghost use Rattle.sqlcipher_tool.specs.Answer.{Puts, PutsLine, IsAnswered, HasCauses};
 ghost use Rattle.sqlcipher_tool.specs.Header.{header_answer};
-ghost use Rattle.sqlcipher_tool.specs.Holding.{disk_run};
 ghost use Rattle.sqlcipher_tool.specs.Opening.{AreRecovered};
-ghost use Rattle.sqlcipher_tool.specs.Promises.{IsUnrecovered};
-ghost use Rattle.sqlcipher_tool.specs.Recovered.{recovered_answer};
 ghost use Rattle.sqlcipher_tool.specs.Stop.{outcome_answer, IsLateStop};
 ghost use Rattle.sqlcipher_tool.specs.Text.{header_report};
-ghost use Rattle.sqlcipher_tool.specs.Untouched.{HasNoFile, IsUnwritten};
 
-use crate::conclusion::{conclude_outcome, conclude_stop};
+use crate::conclusion::conclude_outcome;
 use crate::opening::{Stop, open_main};
-use crate::recovery::recover_main;
 use crate::status::Status;
 use crate::text::{Text, header_report};
 use cipher_profile::{Profile, Secret};
@@ -28,36 +20,8 @@ use edge_model::{Disk, Entropy, Sink};
 use pager::{OpenedFile, PageSource};
 use std::alloc::Global;
 
-/// `header` with this secret, after a recovery.
+/// `header` of Main as it reads.
 pub fn header<S: Sink, E: Entropy, D: Disk>(
-    alloc: Global,
-    profile: Profile,
-    secret: &Secret,
-    out: &mut S,
-    entropy: &mut E,
-    disk: &mut D,
-) -> Status
-    requires { IsListed profile }
-    ensures status { IsTrue D.tells → IsAnswered result (recovered_answer profile (D.reads disk.old) (header_answer profile secret.now)) }
-    ensures text { IsTrue S.tells → IsTrue D.tells → Puts result (recovered_answer profile (D.reads disk.old) (header_answer profile secret.now)).text (S.taken out.old) (S.taken out.new) }
-    ensures line { IsTrue S.tells → PutsLine result (S.taken out.old) (S.taken out.new) }
-    ensures disk_text { result ≡ Status.DiskFault → out.new ≡ out.old }
-    ensures memory_text { result ≡ Status.OutOfMemory → out.new ≡ out.old }
-    ensures causes { HasCauses result (D.faults disk.old) (D.faults disk.new) (S.faults out.old) (S.faults out.new) }
-    ensures keeps { IsTrue D.tells → LeavesOnly D.moment D.since disk.old disk.new (From (KeepsRecovered profile.page_size) (D.images disk.old)) }
-    ensures draws { entropy.new ≡ entropy.old }
-    ensures unrecovered { IsTrue D.tells → IsUnrecovered result → D.reads disk.new ≡ D.reads disk.old }
-    ensures recovered { IsTrue D.tells → HasOnlyRead false result → IsRecovered profile (disk_run D.reads D.images D.moment D.since disk.old disk.new) }
-    ensures untouched { IsTrue D.tells → HasNoFile profile (D.reads disk.old) → IsUnwritten (disk_run D.reads D.images D.moment D.since disk.old disk.new) }
-{
-    match recover_main(alloc, disk, profile) {
-        Ok(_) => header_of_main(alloc, profile, secret, out, entropy, disk),
-        Err(stop) => conclude_stop(out, stop),
-    }
-}
-
-// `header` of Main as it reads.
-fn header_of_main<S: Sink, E: Entropy, D: Disk>(
     alloc: Global,
     profile: Profile,
     secret: &Secret,

@@ -24,7 +24,7 @@ ghost use Rattle.rowid_find.specs.Found.{found_rows};
 ghost use Rattle.rowid_find.specs.Lines.{found_report};
 ghost use Rattle.sqlcipher_tool.specs.Answer.{Answer, done};
 ghost use Rattle.sqlcipher_tool.specs.Due.{due, key_lines};
-ghost use Rattle.sqlcipher_tool.specs.Job.{job_answers};
+ghost use Rattle.sqlcipher_tool.specs.Reading.{job_answers};
 ghost use Rattle.sqlcipher_tool.specs.Migrate.{migrate_answers, too_many};
 ghost use Rattle.sqlcipher_tool.specs.Opening.{opened_with};
 ghost use Rattle.sqlcipher_tool.specs.Plain.{HaveSamePages, IsClean, IsSameInUse, Opens};
@@ -34,8 +34,9 @@ ghost use Rattle.sqlcipher_tool.specs.Reported.{CanBeMigrated, CanBeRekeyed, IsE
 ghost use Rattle.sqlcipher_tool.specs.Servable.{HasTable};
 ghost use Rattle.sqlcipher_tool.specs.Text.{migrated_report, rekeyed_report, verify_report};
 ghost use Rattle.sqlcipher_tool.specs.Words.{asked_keys, form};
-ghost use Rattle.sqlcipher_tool.specs.declared.command.Command.TheVariants.{Export as ExportFile, Verify as VerifyFile};
-ghost use Rattle.sqlcipher_tool.specs.declared.job.Job.TheVariants.{Export, Find, Verify};
+ghost use Rattle.sqlcipher_tool.specs.declared.command.Command.TheVariants.{Read};
+ghost use Rattle.sqlcipher_tool.specs.declared.reading.Job.TheVariants.{Export, Find, Verify};
+ghost use Rattle.sqlcipher_tool.specs.declared.reading.Reading.TheVariants.{OnPages};
 ghost use Rattle.sqlcipher_tool.specs.declared.status.Status.TheVariants.{Done};
 
 /// A walk over a whole database reads no leaf of its freelist, whatever defects it meets behind the freelist.
@@ -65,8 +66,9 @@ pub fn verify_clean_law()
 
 /// So where `verify` was done, as `run` answers it, the recovered file is clean, and its counts were printed.
 pub fn verify_run_law()
-    ensures { (words : List (List ℕ)) (left : List ℕ) (files after : Files) (profile : Profile) (secret : Secret) (tells : Bool) (was now : List ℕ)
-        → form words ≡ Some (VerifyFile profile) → key_lines (asked_keys (VerifyFile profile)) left ≡ Ok (secret ∷ []) → AnswersOne (due words left files after) Done tells was now
+    ensures { (words : List (List ℕ)) (left : List ℕ) (files after : Files) (profile : Profile) (secret : Secret) (rest : List Secret) (tells : Bool) (was now : List ℕ)
+        → form words ≡ Some (Read profile (OnPages Verify)) → key_lines (asked_keys (Read profile (OnPages Verify))) left ≡ Ok (secret ∷ rest)
+        → AnswersOne (due words left files after) Done tells was now
         → Reports profile files (λ file text. IsVerified (keys_of profile secret file) file text) tells was now }
 {}
 
@@ -92,8 +94,9 @@ pub fn export_opens_law()
 
 /// So where `export` was done, the recovered file opens, and the text of its content was printed.
 pub fn export_run_law()
-    ensures { (words : List (List ℕ)) (left : List ℕ) (files after : Files) (profile : Profile) (secret : Secret) (tells : Bool) (was now : List ℕ)
-        → form words ≡ Some (ExportFile profile) → key_lines (asked_keys (ExportFile profile)) left ≡ Ok (secret ∷ []) → AnswersOne (due words left files after) Done tells was now
+    ensures { (words : List (List ℕ)) (left : List ℕ) (files after : Files) (profile : Profile) (secret : Secret) (rest : List Secret) (tells : Bool) (was now : List ℕ)
+        → form words ≡ Some (Read profile (OnPages Export)) → key_lines (asked_keys (Read profile (OnPages Export))) left ≡ Ok (secret ∷ rest)
+        → AnswersOne (due words left files after) Done tells was now
         → Reports profile files (λ file text. IsExported (keys_of profile secret file) file text) tells was now }
 {}
 

@@ -14,10 +14,13 @@ ghost use Rattle.sqlcipher_tool.specs.Names.{names_of, names_in};
 ghost use Rattle.sqlcipher_tool.specs.Opening.{AreRecovered};
 ghost use Rattle.sqlcipher_tool.specs.Promises.{AreWordsThat};
 ghost use Rattle.sqlcipher_tool.specs.Words.{finds, form, texts};
-ghost use Rattle.sqlcipher_tool.specs.declared.command.Command.TheVariants.{Find};
+ghost use Rattle.sqlcipher_tool.specs.declared.command.Command.TheVariants.{Read};
+ghost use Rattle.sqlcipher_tool.specs.declared.reading.Job.TheVariants.{Find};
+ghost use Rattle.sqlcipher_tool.specs.declared.reading.Reading.TheVariants.{OnPages};
 
 use crate::command::{Command, Name, parse_words};
 use crate::opening::{Stop, open_main};
+use crate::reading::{Job, Reading};
 use crate::walk::walk_stop;
 use cipher_profile::{Profile, Secret};
 use edge_model::{Disk, Entropy};
@@ -35,7 +38,7 @@ pub fn near_names<E: Entropy, D: Disk>(
     disk: &mut D,
 ) -> Result<Vec<NearName>, Stop>
     requires { IsTrue D.tells → AreRecovered (D.reads disk.old) (D.images disk.old) }
-    ensures found { (profile : Kind) (name : List ℕ) (low high : ℤ) → form (texts words.now) ≡ Some (Find profile name low high)
+    ensures found { (profile : Kind) (name : List ℕ) (low high : ℤ) → form (texts words.now) ≡ Some (Read profile (OnPages (Find name low high)))
         → IfOk result (λ list. IsTrue D.tells → list.items ≡ names_of profile secret.now name (main_of (D.reads disk.old))) }
     ensures others { (AreWordsThat finds (texts words.now) → ⊥) → IfOk result (λ list. list.items ≡ []) }
     ensures cause { IfErr result (λ stop. stop ≡ Stop.DiskFault → Rose (D.faults disk.old) (D.faults disk.new)) }
@@ -44,7 +47,7 @@ pub fn near_names<E: Entropy, D: Disk>(
     ensures only_read { IsTrue D.tells → OnlyRead D.reads D.images D.moment D.since disk.old disk.new }
 {
     match parse_words(words) {
-        Some(Command::Find { profile, name, .. }) => {
+        Some(Command::Read(profile, Reading::OnPages(Job::Find { name, .. }))) => {
             near_in_main(alloc, profile, &name, secret, entropy, disk)
         }
         _ => Ok(Vec::new(alloc)),

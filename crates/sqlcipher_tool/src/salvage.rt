@@ -1,24 +1,17 @@
 // `salvage`: the rows of a damaged file.
-ghost use Rattle.std.specs.Prelude.{◌≡◌, ◌⊎◌, ◌∷◌, [], ◌≤◌, length, None, IfOk, OnOk, IfErr, false, IsTrue};
+ghost use Rattle.std.specs.Prelude.{◌≡◌, ◌⊎◌, ◌∷◌, [], ◌≤◌, length, None, IfOk, OnOk, IfErr, IsTrue};
 ghost use Rattle.edge_model.specs.Causes.{Rose};
-ghost use Rattle.edge_model.specs.Images.{From, LeavesOnly};
 ghost use Rattle.edge_model.specs.OnlyRead.{OnlyRead};
 ghost use Rattle.cipher_profile.specs.Profile.{IsListed};
 ghost use Rattle.page_codec.specs.Page.{keys_of};
 ghost use Rattle.edge_model.specs.Files.{main_of};
-ghost use Rattle.rollback_journal.specs.Recovery.{KeepsRecovered};
 ghost use Rattle.sqlcipher_tool.specs.Answer.{first_answer, HasCauses, PutsLine};
-ghost use Rattle.sqlcipher_tool.specs.Behind.{HasOnlyRead, IsRecovered};
-ghost use Rattle.sqlcipher_tool.specs.Holding.{disk_run};
-ghost use Rattle.sqlcipher_tool.specs.Promises.{AnswersOne, IsUnrecovered};
-ghost use Rattle.sqlcipher_tool.specs.Recovered.{recovered_answers};
+ghost use Rattle.sqlcipher_tool.specs.Promises.{AnswersOne};
 ghost use Rattle.sqlcipher_tool.specs.Salvage.{salvage_answer, salvage_causes, salvaged_answer};
 ghost use Rattle.sqlcipher_tool.specs.Stop.{stop_answer, IsLateStop};
-ghost use Rattle.sqlcipher_tool.specs.Untouched.{HasNoFile, IsUnwritten};
 
 use crate::conclusion::{conclude, conclude_stop};
 use crate::opening::{Stop, count_whole_pages, served_length};
-use crate::recovery::recover_main;
 use crate::status::Status;
 use crate::text::key_refused_line;
 use cipher_profile::{Profile, Secret};
@@ -28,32 +21,8 @@ use pager::codec_of;
 use salvage_scan::{SalvageError, salvage};
 use std::alloc::Global;
 
-/// `salvage` with this secret, after a recovery.
+/// `salvage` of Main as it reads.
 pub fn salvage_file<S: Sink, D: Disk>(
-    alloc: Global,
-    profile: Profile,
-    secret: &Secret,
-    out: &mut S,
-    disk: &mut D,
-) -> Status
-    requires { IsListed profile }
-    ensures answer { IsTrue D.tells
-        → AnswersOne (recovered_answers profile (D.reads disk.old) (λ file. salvage_answer profile secret.now file ∷ [])) result S.tells (S.taken out.old) (S.taken out.new) }
-    ensures line { IsTrue S.tells → PutsLine result (S.taken out.old) (S.taken out.new) }
-    ensures causes { HasCauses result (D.faults disk.old) (D.faults disk.new) (S.faults out.old) (S.faults out.new) }
-    ensures keeps { IsTrue D.tells → LeavesOnly D.moment D.since disk.old disk.new (From (KeepsRecovered profile.page_size) (D.images disk.old)) }
-    ensures unrecovered { IsTrue D.tells → IsUnrecovered result → D.reads disk.new ≡ D.reads disk.old }
-    ensures recovered { IsTrue D.tells → HasOnlyRead false result → IsRecovered profile (disk_run D.reads D.images D.moment D.since disk.old disk.new) }
-    ensures untouched { IsTrue D.tells → HasNoFile profile (D.reads disk.old) → IsUnwritten (disk_run D.reads D.images D.moment D.since disk.old disk.new) }
-{
-    match recover_main(alloc, disk, profile) {
-        Ok(_) => salvage_main(alloc, profile, secret, out, disk),
-        Err(stop) => conclude_stop(out, stop),
-    }
-}
-
-// `salvage` of Main as it reads.
-fn salvage_main<S: Sink, D: Disk>(
     alloc: Global,
     profile: Profile,
     secret: &Secret,

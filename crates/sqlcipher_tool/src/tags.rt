@@ -1,26 +1,18 @@
 // `tags`: whether each whole page of Main is accepted.
-ghost use Rattle.std.specs.Prelude.{◌≡◌, ◌⊎◌, ◌+◌, ◌-◌, ◌*◌, ◌/◌, ◌<◌, ◌≤◌, min, None, ◌++◌, ◌∷◌, [], length, slice_get, option_to_list, Some, IfOk, IfErr, OnOk, OnErr, false, IsTrue, Err};
+ghost use Rattle.std.specs.Prelude.{◌≡◌, ◌⊎◌, ◌+◌, ◌-◌, ◌*◌, ◌/◌, ◌<◌, ◌≤◌, min, None, ◌++◌, ◌∷◌, [], length, slice_get, option_to_list, Some, IfOk, IfErr, OnOk, OnErr, IsTrue, Err};
 ghost use Rattle.edge_model.specs.Causes.{HasCause, Rose};
-ghost use Rattle.edge_model.specs.Images.{From, LeavesOnly};
 ghost use Rattle.edge_model.specs.OnlyRead.{OnlyRead};
 ghost use Rattle.cipher_profile.specs.Profile.{IsListed};
 ghost use Rattle.page_codec.specs.Page.{keys_of};
-ghost use Rattle.rollback_journal.specs.Recovery.{KeepsRecovered};
-ghost use Rattle.sqlcipher_tool.specs.Behind.{HasOnlyRead, IsRecovered};
 ghost use Rattle.sqlcipher_tool.specs.Answer.{first_answer, Puts, PutsLine, PutsPart, IsAnswered, HasCauses};
 ghost use Rattle.pager.specs.File.{whole_pages};
-ghost use Rattle.sqlcipher_tool.specs.Holding.{disk_run};
-ghost use Rattle.sqlcipher_tool.specs.Promises.{IsUnrecovered};
-ghost use Rattle.sqlcipher_tool.specs.Recovered.{recovered_answer};
 ghost use Rattle.sqlcipher_tool.specs.Tags.{AreKnown, refused_pages, refused_unless, pages_answer, tags_causes, tags_answer};
 ghost use Rattle.sqlcipher_tool.specs.Stop.{stop_answer, IsLateStop};
 ghost use Rattle.sqlcipher_tool.specs.Text.{tag_lines};
-ghost use Rattle.sqlcipher_tool.specs.Untouched.{HasNoFile, IsUnwritten};
 ghost use Rattle.edge_model.specs.Files.{main_of};
 
 use crate::conclusion::{conclude, conclude_stop};
 use crate::opening::{Stop, count_whole_pages, fitting_codec, served_length};
-use crate::recovery::recover_main;
 use crate::status::{Refusal, Status};
 use crate::text::{refusal_line, tags_report};
 use cipher_profile::{Profile, Secret};
@@ -49,35 +41,8 @@ enum CheckFault {
     Output,
 }
 
-/// `tags` with this secret, after a recovery.
+/// `tags` of Main as it reads.
 pub fn tags<S: Sink, D: Disk>(
-    alloc: Global,
-    profile: Profile,
-    secret: &Secret,
-    out: &mut S,
-    disk: &mut D,
-) -> Status
-    requires listed { IsListed profile }
-    requires tagged { 0 < profile.tag_len }
-    ensures status { IsTrue D.tells → IsAnswered result (recovered_answer profile (D.reads disk.old) (tags_answer profile secret.now)) }
-    ensures text { IsTrue S.tells → IsTrue D.tells → Puts result (recovered_answer profile (D.reads disk.old) (tags_answer profile secret.now)).text (S.taken out.old) (S.taken out.new) }
-    ensures line { IsTrue S.tells → PutsLine result (S.taken out.old) (S.taken out.new) }
-    ensures disk_text { IsTrue S.tells → IsTrue D.tells → result ≡ Status.DiskFault → PutsPart (recovered_answer profile (D.reads disk.old) (tags_answer profile secret.now)).begun (S.taken out.old) (S.taken out.new) }
-    ensures memory_text { result ≡ Status.OutOfMemory → out.new ≡ out.old }
-    ensures causes { HasCauses result (D.faults disk.old) (D.faults disk.new) (S.faults out.old) (S.faults out.new) }
-    ensures keeps { IsTrue D.tells → LeavesOnly D.moment D.since disk.old disk.new (From (KeepsRecovered profile.page_size) (D.images disk.old)) }
-    ensures unrecovered { IsTrue D.tells → IsUnrecovered result → D.reads disk.new ≡ D.reads disk.old }
-    ensures recovered { IsTrue D.tells → HasOnlyRead false result → IsRecovered profile (disk_run D.reads D.images D.moment D.since disk.old disk.new) }
-    ensures untouched { IsTrue D.tells → HasNoFile profile (D.reads disk.old) → IsUnwritten (disk_run D.reads D.images D.moment D.since disk.old disk.new) }
-{
-    match recover_main(alloc, disk, profile) {
-        Ok(_) => tags_of_main(profile, secret, out, disk),
-        Err(stop) => conclude_stop(out, stop),
-    }
-}
-
-// `tags` of Main as it reads.
-fn tags_of_main<S: Sink, D: Disk>(
     profile: Profile,
     secret: &Secret,
     out: &mut S,

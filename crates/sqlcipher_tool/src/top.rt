@@ -1,43 +1,33 @@
 // The top call.
-ghost use Rattle.edge_model.specs.Files.{main_of};
-ghost use Rattle.std.specs.Prelude.{◌≡◌, ◌⊎◌, ◌≤◌, ◌*◌, ◌∷◌, ℕ, List, [], drop, length, not, true, false, None, Some, Ok, Err, IsTrue, IsErr, IsErrOf};
-ghost use Rattle.cipher_profile.specs.KeyCauses.{UnlessFault};
-ghost use Rattle.edge_model.specs.Causes.{Rose};
-ghost use Rattle.edge_model.specs.Images.{From, LeavesOnly};
-ghost use Rattle.atomic_commit.specs.Facts.{SameFresh};
-ghost use Rattle.cipher_profile.specs.Profile.{IsListed, is_plain};
+ghost use Rattle.std.specs.Prelude.{◌≡◌, ◌⊎◌, ◌≤◌, ◌∷◌, ℕ, List, [], drop, length, true, false, None, Some, Ok, Err, IsTrue, IsErr};
 ghost use Rattle.cipher_profile.specs.declared.key_line.KeyError.{KeyError as KeyRefusal};
 ghost use Rattle.cipher_profile.specs.declared.keys.Secret.{Secret as Key};
+ghost use Rattle.edge_model.specs.Causes.{Rose};
+ghost use Rattle.edge_model.specs.Files.{main_of};
 ghost use Rattle.sqlcipher_tool.specs.Answer.{IsEarly, Puts, PutsLine, HasDrawnCauses, is_defect_status};
-ghost use Rattle.sqlcipher_tool.specs.Behind.{HasOnlyRead, IsRecovered, LeavesRecovered};
-ghost use Rattle.sqlcipher_tool.specs.Change.{IsChangeBetween, change_answers, command_of, is_in_place};
-ghost use Rattle.sqlcipher_tool.specs.Crash.{Keeps, ChangesBy, GaveKeys, DrewOwn, IsSafely};
-ghost use Rattle.sqlcipher_tool.specs.Due.{due, key_answer, key_lines, rest_line, secret_line, word_refusal, asked_answers, keyed_answers, secret_answers};
+ghost use Rattle.sqlcipher_tool.specs.Behind.{LeavesRecovered};
+ghost use Rattle.sqlcipher_tool.specs.Crash.{Keeps, ChangesBy, GaveKeys, DrewOwn};
+ghost use Rattle.sqlcipher_tool.specs.Due.{due, key_answer, key_lines, word_refusal, asked_answers, secret_answers};
 ghost use Rattle.sqlcipher_tool.specs.Holding.{disk_run};
-ghost use Rattle.sqlcipher_tool.specs.Promises.{AnswersOne, AreWordsThat, ComesLate, IsAnsweredEarly, IsUnrecovered, TakesAtMost, TakesLines, TellsKeys, is_in_the_way, WhereTaken, after_lines, asks_some, lines_read, takes_keys, two_secrets};
-ghost use Rattle.sqlcipher_tool.specs.Recovered.{recovered_answers};
-ghost use Rattle.sqlcipher_tool.specs.Renewal.{AreDrawnBy, from_to};
+ghost use Rattle.sqlcipher_tool.specs.Promises.{AnswersOne, AreWordsThat, ComesLate, IsAnsweredEarly, IsUnrecovered, TakesLines, TellsKeys, is_in_the_way, WhereTaken, secrets_of, takes_keys};
 ghost use Rattle.sqlcipher_tool.specs.Servable.{CanBeServed, IsDoneOrStarved, NoneRose};
 ghost use Rattle.sqlcipher_tool.specs.Text.{usage_line};
-ghost use Rattle.sqlcipher_tool.specs.Untouched.{HasNoFile, IsUnwritten, LeavesAlone, recovers_by};
+ghost use Rattle.sqlcipher_tool.specs.Untouched.{LeavesAlone};
 ghost use Rattle.sqlcipher_tool.specs.declared.command.Command.{Command as Asked};
 ghost use Rattle.sqlcipher_tool.specs.declared.status.Refusal.{Refusal as Refused};
-ghost use Rattle.sqlcipher_tool.specs.Words.{alters, draws, finds, form, texts, asked_keys, lacks_tags, layouts_differ, takes_memory, writes_beside, IsServed};
+ghost use Rattle.sqlcipher_tool.specs.Words.{alters, draws, finds, form, texts, asked_keys, recovers_by, takes_memory, writes_beside, IsServed};
 
-use crate::change::{Change, change_file};
+use crate::change::change_file;
 use crate::command::{Command, parse_words};
 use crate::conclusion::{conclude, conclude_key, conclude_refusal};
-use crate::header::header;
-use crate::job::{Job, answer_job};
 use crate::make::make_file;
 use crate::no_entropy::NoEntropy;
 use crate::probe::probe;
+use crate::reading::read_file;
 use crate::recovery::report_recovery;
-use crate::salvage::salvage_file;
+use crate::secrets::{Secrets, read_secrets};
 use crate::status::Status;
-use crate::tags::tags;
 use crate::text::usage_line;
-use cipher_profile::{KeyError, Profile, Secret, read_key};
 use edge_model::{Disk, Entropy, Sink, Source};
 use std::alloc::Global;
 
@@ -165,325 +155,92 @@ fn serve<K: Source, S: Sink, E: Entropy, D: Disk>(
     if let Some(refusal) = command.refusal() {
         return conclude_refusal(out, refusal);
     }
-    match command {
-        Command::Recover(profile) => report_recovery(alloc, profile, out, disk),
-        Command::Rekey { old, new } => {
-            serve_two_keys(alloc, Change::Rekey, old, new, input, out, entropy, disk)
-        }
-        Command::Migrate { old, new } => {
-            serve_two_keys(alloc, Change::Migrate, old, new, input, out, entropy, disk)
-        }
-        Command::Tags(_)
-        | Command::Header(_)
-        | Command::Verify(_)
-        | Command::Export(_)
-        | Command::Salvage(_)
-        | Command::Find { .. }
-        | Command::Probe
-        | Command::Stamp { .. }
-        | Command::Make { .. } => serve_keyed(alloc, command, input, out, entropy, disk),
-    }
-}
-
-// A command that takes one secret.
-fn serve_keyed<K: Source, S: Sink, E: Entropy, D: Disk>(
-    alloc: Global,
-    command: Command<'_>,
-    input: &mut K,
-    out: &mut S,
-    entropy: &mut E,
-    disk: &mut D,
-) -> Status
-    requires served { IsServed command }
-    requires tagged { lacks_tags command ≡ false }
-    requires keyed { length (asked_keys command) ≡ 1 }
-    ensures key_refusals { IsTrue K.tells → (error : KeyRefusal) → key_lines (asked_keys command.entry) (K.left input.old) ≡ Err error → IsAnsweredEarly result (key_answer error) }
-    ensures answer { (takes_keys command.entry ≡ true → IsTrue K.tells) → IsTrue D.tells
-        → AnswersOne (keyed_answers command.entry (key_lines (asked_keys command.entry) (K.left input.old)) (D.reads disk.old) (D.reads disk.new)) result S.tells (S.taken out.old) (S.taken out.new) }
-    ensures no_usage { result ≡ Status.Usage → ⊥ }
-    ensures input_fault { result ≡ Status.InputFault → Rose (K.faults input.old) (K.faults input.new) × (takes_keys command.entry ≡ true) }
-    ensures output_fault { result ≡ Status.OutputFault → Rose (S.faults out.old) (S.faults out.new) }
-    ensures disk_fault { result ≡ Status.DiskFault → Rose (D.faults disk.old) (D.faults disk.new) }
-    ensures entropy_fault { result ≡ Status.EntropyFault → Rose (E.faults entropy.old) (E.faults entropy.new) × (draws command.entry ≡ true) }
-    ensures memory { result ≡ Status.OutOfMemory → takes_memory command.entry ≡ true }
-    ensures memory_keys { result ≡ Status.OutOfMemory → IsTrue K.tells → (secrets : List Key) × (key_lines (asked_keys command.entry) (K.left input.old) ≡ Ok secrets) }
-    ensures line { IsTrue S.tells → (finds command.entry ≡ true → is_defect_status result ≡ false) → PutsLine result (S.taken out.old) (S.taken out.new) }
-    ensures input_text { result ≡ Status.InputFault → out.new ≡ out.old }
-    ensures key_first { IsTrue K.tells → IsErr (key_lines (asked_keys command.entry) (K.left input.old)) → disk.new ≡ disk.old }
-    ensures early_first { IsEarly result → disk.new ≡ disk.old }
-    ensures fault_first { result ≡ Status.InputFault → disk.new ≡ disk.old }
-    ensures takes { IsTrue K.tells → TakesLines result (asked_keys command.entry) (K.left input.old) (K.left input.new) }
-    ensures takes_none { takes_keys command.entry ≡ false → input.new ≡ input.old }
-    ensures draws { draws command.entry ≡ false → entropy.new ≡ entropy.old }
-    ensures undrawn { IsTrue D.tells → is_in_the_way command.entry (D.reads disk.old) ≡ true → entropy.new ≡ entropy.old }
-    ensures own_draws { IsTrue D.tells → IsTrue E.tells → result ≡ Status.Done
-        → DrewOwn command.entry (GaveKeys K.tells (asked_keys command.entry) (K.left input.old)) (main_of (D.reads disk.new)) (drop (length (E.drawn entropy.old)) (E.drawn entropy.new)) }
-    ensures unrecovered { IsTrue D.tells → IsUnrecovered result → D.reads disk.new ≡ D.reads disk.old }
-    ensures recovered { IsTrue D.tells → LeavesRecovered result (alters command.entry) (recovers_by command.entry) (disk_run D.reads D.images D.moment D.since disk.old disk.new) }
-    ensures untouched { IsTrue D.tells → LeavesAlone (recovers_by command.entry) (disk_run D.reads D.images D.moment D.since disk.old disk.new) }
-    ensures fresh_gone { IsTrue D.tells → result ≡ Status.Done → writes_beside command.entry ≡ true → (D.reads disk.new).fresh ≡ None }
-    ensures keeps { IsTrue D.tells → Keeps command.entry (disk_run D.reads D.images D.moment D.since disk.old disk.new) }
-    ensures changes { IsTrue D.tells
-        → ChangesBy result command.entry (GaveKeys K.tells (asked_keys command.entry) (K.left input.old)) E.tells (drop (length (E.drawn entropy.old)) (E.drawn entropy.new)) (disk_run D.reads D.images D.moment D.since disk.old disk.new) }
-    ensures entropy_later { E.faults entropy.old ≤ E.faults entropy.new }
-    ensures input_later { K.faults input.old ≤ K.faults input.new }
-    ensures output_later { S.faults out.old ≤ S.faults out.new }
-    ensures disk_later { D.faults disk.old ≤ D.faults disk.new }
-{
-    let asks = command.takes_keys();
-    match secret_for(asks, input) {
-        Ok(secret) => serve_with_secret(alloc, command, &secret, out, entropy, disk),
+    let asks = command.asked_keys();
+    match read_secrets(asks, input) {
+        Ok(secrets) => serve_with_secrets(alloc, command, &secrets, out, entropy, disk),
         Err(error) => conclude_key(out, error),
     }
 }
 
-// A command with its secret. It gets the entropy only where it draws.
-fn serve_with_secret<S: Sink, E: Entropy, D: Disk>(
+// A command with its secrets. It gets the entropy only where it draws.
+fn serve_with_secrets<S: Sink, E: Entropy, D: Disk>(
     alloc: Global,
     command: Command<'_>,
-    secret: &Secret,
+    secrets: &Secrets,
     out: &mut S,
     entropy: &mut E,
     disk: &mut D,
 ) -> Status
     requires served { IsServed command }
-    requires tagged { lacks_tags command ≡ false }
-    requires keyed { length (asked_keys command) ≡ 1 }
+    requires unrefused { word_refusal command ≡ None }
     ensures answer { IsTrue D.tells
-        → AnswersOne (secret_answers command.entry (secret.now ∷ []) (D.reads disk.old) (D.reads disk.new)) result S.tells (S.taken out.old) (S.taken out.new) }
+        → AnswersOne (secret_answers command.entry (secrets_of secrets.now) (D.reads disk.old) (D.reads disk.new))
+        result S.tells (S.taken out.old) (S.taken out.new) }
     ensures line { IsTrue S.tells → (finds command.entry ≡ true → is_defect_status result ≡ false) → PutsLine result (S.taken out.old) (S.taken out.new) }
     ensures memory { result ≡ Status.OutOfMemory → takes_memory command.entry ≡ true }
     ensures causes { HasDrawnCauses result (draws command.entry) (D.faults disk.old) (D.faults disk.new) (S.faults out.old) (S.faults out.new) (E.faults entropy.old) (E.faults entropy.new) }
     ensures draws { draws command.entry ≡ false → entropy.new ≡ entropy.old }
     ensures undrawn { IsTrue D.tells → is_in_the_way command.entry (D.reads disk.old) ≡ true → entropy.new ≡ entropy.old }
     ensures own_draws { IsTrue D.tells → IsTrue E.tells → result ≡ Status.Done
-        → DrewOwn command.entry (λ secrets. secrets ≡ secret.now ∷ []) (main_of (D.reads disk.new)) (drop (length (E.drawn entropy.old)) (E.drawn entropy.new)) }
+        → DrewOwn command.entry (λ given. given ≡ secrets_of secrets.now) (main_of (D.reads disk.new))
+        (drop (length (E.drawn entropy.old)) (E.drawn entropy.new)) }
     ensures unrecovered { IsTrue D.tells → IsUnrecovered result → D.reads disk.new ≡ D.reads disk.old }
     ensures recovered { IsTrue D.tells → LeavesRecovered result (alters command.entry) (recovers_by command.entry) (disk_run D.reads D.images D.moment D.since disk.old disk.new) }
     ensures untouched { IsTrue D.tells → LeavesAlone (recovers_by command.entry) (disk_run D.reads D.images D.moment D.since disk.old disk.new) }
     ensures fresh_gone { IsTrue D.tells → result ≡ Status.Done → writes_beside command.entry ≡ true → (D.reads disk.new).fresh ≡ None }
     ensures keeps { IsTrue D.tells → Keeps command.entry (disk_run D.reads D.images D.moment D.since disk.old disk.new) }
     ensures changes { IsTrue D.tells
-        → ChangesBy result command.entry (λ secrets. secrets ≡ secret.now ∷ []) E.tells (drop (length (E.drawn entropy.old)) (E.drawn entropy.new)) (disk_run D.reads D.images D.moment D.since disk.old disk.new) }
+        → ChangesBy result command.entry (λ given. given ≡ secrets_of secrets.now) E.tells
+        (drop (length (E.drawn entropy.old)) (E.drawn entropy.new)) (disk_run D.reads D.images D.moment D.since disk.old disk.new) }
 {
     if command.draws() {
-        carry_out(alloc, command, secret, out, entropy, disk)
+        carry_out(alloc, command, secrets, out, entropy, disk)
     } else {
-        carry_out(alloc, command, secret, out, &mut NoEntropy, disk)
+        carry_out(alloc, command, secrets, out, &mut NoEntropy, disk)
     }
 }
 
-// A command with its secret and the entropy that it may draw from.
+// A command with its secrets and the entropy that it may draw from.
 fn carry_out<S: Sink, E: Entropy, D: Disk>(
     alloc: Global,
     command: Command<'_>,
-    secret: &Secret,
+    secrets: &Secrets,
     out: &mut S,
     entropy: &mut E,
     disk: &mut D,
 ) -> Status
     requires served { IsServed command }
-    requires tagged { lacks_tags command ≡ false }
-    requires keyed { length (asked_keys command) ≡ 1 }
+    requires unrefused { word_refusal command ≡ None }
     ensures answer { IsTrue D.tells
-        → AnswersOne (secret_answers command.entry (secret.now ∷ []) (D.reads disk.old) (D.reads disk.new)) result S.tells (S.taken out.old) (S.taken out.new) }
+        → AnswersOne (secret_answers command.entry (secrets_of secrets.now) (D.reads disk.old) (D.reads disk.new))
+        result S.tells (S.taken out.old) (S.taken out.new) }
     ensures line { IsTrue S.tells → (finds command.entry ≡ true → is_defect_status result ≡ false) → PutsLine result (S.taken out.old) (S.taken out.new) }
     ensures memory { result ≡ Status.OutOfMemory → takes_memory command.entry ≡ true }
     ensures causes { HasDrawnCauses result (alters command.entry) (D.faults disk.old) (D.faults disk.new) (S.faults out.old) (S.faults out.new) (E.faults entropy.old) (E.faults entropy.new) }
     ensures undrawn { IsTrue D.tells → is_in_the_way command.entry (D.reads disk.old) ≡ true → entropy.new ≡ entropy.old }
     ensures own_draws { IsTrue D.tells → IsTrue E.tells → result ≡ Status.Done
-        → DrewOwn command.entry (λ secrets. secrets ≡ secret.now ∷ []) (main_of (D.reads disk.new)) (drop (length (E.drawn entropy.old)) (E.drawn entropy.new)) }
+        → DrewOwn command.entry (λ given. given ≡ secrets_of secrets.now) (main_of (D.reads disk.new))
+        (drop (length (E.drawn entropy.old)) (E.drawn entropy.new)) }
     ensures unrecovered { IsTrue D.tells → IsUnrecovered result → D.reads disk.new ≡ D.reads disk.old }
     ensures recovered { IsTrue D.tells → LeavesRecovered result (alters command.entry) (recovers_by command.entry) (disk_run D.reads D.images D.moment D.since disk.old disk.new) }
     ensures untouched { IsTrue D.tells → LeavesAlone (recovers_by command.entry) (disk_run D.reads D.images D.moment D.since disk.old disk.new) }
     ensures fresh_gone { IsTrue D.tells → result ≡ Status.Done → writes_beside command.entry ≡ true → (D.reads disk.new).fresh ≡ None }
     ensures keeps { IsTrue D.tells → Keeps command.entry (disk_run D.reads D.images D.moment D.since disk.old disk.new) }
     ensures changes { IsTrue D.tells
-        → ChangesBy result command.entry (λ secrets. secrets ≡ secret.now ∷ []) E.tells (drop (length (E.drawn entropy.old)) (E.drawn entropy.new)) (disk_run D.reads D.images D.moment D.since disk.old disk.new) }
+        → ChangesBy result command.entry (λ given. given ≡ secrets_of secrets.now) E.tells
+        (drop (length (E.drawn entropy.old)) (E.drawn entropy.new)) (disk_run D.reads D.images D.moment D.since disk.old disk.new) }
 {
     match command {
-        Command::Tags(profile) => tags(alloc, profile, secret, out, disk),
-        Command::Header(profile) => header(alloc, profile, secret, out, entropy, disk),
-        Command::Verify(profile) => {
-            answer_job(alloc, Job::Verify, profile, secret, out, entropy, disk)
+        Command::Probe => probe(&secrets.first, out, disk),
+        Command::Recover(profile) => report_recovery(alloc, profile, out, disk),
+        Command::Read(profile, reading) => {
+            read_file(alloc, profile, reading, &secrets.first, out, entropy, disk)
         }
-        Command::Export(profile) => {
-            answer_job(alloc, Job::Export, profile, secret, out, entropy, disk)
-        }
-        Command::Salvage(profile) => salvage_file(alloc, profile, secret, out, disk),
-        Command::Find {
-            profile,
-            name,
-            low,
-            high,
-        } => {
-            let job = Job::Find { name, low, high };
-            answer_job(alloc, job, profile, secret, out, entropy, disk)
-        }
-        Command::Probe => probe(secret, out, disk),
-        Command::Stamp {
-            profile,
-            field,
-            value,
-        } => {
-            let change = Change::Stamp { field, value };
-            change_file(
-                alloc, change, profile, profile, secret, secret, out, entropy, disk,
-            )
+        Command::Change(profile, change) => {
+            change_file(alloc, profile, change, secrets, out, entropy, disk)
         }
         Command::Make { profile, rows } => {
-            make_file(alloc, profile, rows, secret, out, entropy, disk)
+            make_file(alloc, profile, rows, &secrets.first, out, entropy, disk)
         }
-        Command::Recover(_) | Command::Rekey { .. } | Command::Migrate { .. } => unreachable!(),
-    }
-}
-
-// A command from one key to another: the first secret is that of the old file, and the second that of the new one.
-fn serve_two_keys<K: Source, S: Sink, E: Entropy, D: Disk>(
-    alloc: Global,
-    change: Change,
-    old: Profile,
-    new: Profile,
-    input: &mut K,
-    out: &mut S,
-    entropy: &mut E,
-    disk: &mut D,
-) -> Status
-    requires served { IsServed (command_of change old new) }
-    requires layout { layouts_differ (command_of change old new) ≡ false }
-    requires keyed { length (asked_keys (command_of change old new)) ≡ 2 }
-    ensures key_refusals { IsTrue K.tells → (error : KeyRefusal) → key_lines (asked_keys (command_of change old new)) (K.left input.old) ≡ Err error → IsAnsweredEarly result (key_answer error) }
-    ensures answer { (takes_keys (command_of change old new) ≡ true → IsTrue K.tells) → IsTrue D.tells
-        → AnswersOne (keyed_answers (command_of change old new) (key_lines (asked_keys (command_of change old new)) (K.left input.old)) (D.reads disk.old) (D.reads disk.new)) result S.tells (S.taken out.old) (S.taken out.new) }
-    ensures no_usage { result ≡ Status.Usage → ⊥ }
-    ensures input_fault { result ≡ Status.InputFault → Rose (K.faults input.old) (K.faults input.new) × (takes_keys (command_of change old new) ≡ true) }
-    ensures output_fault { result ≡ Status.OutputFault → Rose (S.faults out.old) (S.faults out.new) }
-    ensures disk_fault { result ≡ Status.DiskFault → Rose (D.faults disk.old) (D.faults disk.new) }
-    ensures entropy_fault { result ≡ Status.EntropyFault → Rose (E.faults entropy.old) (E.faults entropy.new) × (draws (command_of change old new) ≡ true) }
-    ensures memory_keys { result ≡ Status.OutOfMemory → IsTrue K.tells → (secrets : List Key) × (key_lines (asked_keys (command_of change old new)) (K.left input.old) ≡ Ok secrets) }
-    ensures line { IsTrue S.tells → PutsLine result (S.taken out.old) (S.taken out.new) }
-    ensures input_text { result ≡ Status.InputFault → out.new ≡ out.old }
-    ensures key_first { IsTrue K.tells → IsErr (key_lines (asked_keys (command_of change old new)) (K.left input.old)) → disk.new ≡ disk.old }
-    ensures early_first { IsEarly result → disk.new ≡ disk.old }
-    ensures fault_first { result ≡ Status.InputFault → disk.new ≡ disk.old }
-    ensures takes { IsTrue K.tells → TakesLines result (asked_keys (command_of change old new)) (K.left input.old) (K.left input.new) }
-    ensures takes_none { takes_keys (command_of change old new) ≡ false → input.new ≡ input.old }
-    ensures draws { draws (command_of change old new) ≡ false → entropy.new ≡ entropy.old }
-    ensures own_draws { IsTrue D.tells → IsTrue E.tells → result ≡ Status.Done
-        → DrewOwn (command_of change old new) (GaveKeys K.tells (asked_keys (command_of change old new)) (K.left input.old)) (main_of (D.reads disk.new)) (drop (length (E.drawn entropy.old)) (E.drawn entropy.new)) }
-    ensures unrecovered { IsTrue D.tells → IsUnrecovered result → D.reads disk.new ≡ D.reads disk.old }
-    ensures recovered { IsTrue D.tells
-        → LeavesRecovered result (alters (command_of change old new)) (recovers_by (command_of change old new)) (disk_run D.reads D.images D.moment D.since disk.old disk.new) }
-    ensures untouched { IsTrue D.tells → LeavesAlone (recovers_by (command_of change old new)) (disk_run D.reads D.images D.moment D.since disk.old disk.new) }
-    ensures fresh_gone { IsTrue D.tells → result ≡ Status.Done → writes_beside (command_of change old new) ≡ true → (D.reads disk.new).fresh ≡ None }
-    ensures keeps { IsTrue D.tells → Keeps (command_of change old new) (disk_run D.reads D.images D.moment D.since disk.old disk.new) }
-    ensures changes { IsTrue D.tells
-        → ChangesBy result (command_of change old new) (GaveKeys K.tells (asked_keys (command_of change old new)) (K.left input.old)) E.tells (drop (length (E.drawn entropy.old)) (E.drawn entropy.new)) (disk_run D.reads D.images D.moment D.since disk.old disk.new) }
-    ensures entropy_later { E.faults entropy.old ≤ E.faults entropy.new }
-    ensures input_later { K.faults input.old ≤ K.faults input.new }
-    ensures output_later { S.faults out.old ≤ S.faults out.new }
-    ensures disk_later { D.faults disk.old ≤ D.faults disk.new }
-{
-    let first_asks = asks_key(old);
-    let second_asks = asks_key(new);
-    match read_keys(first_asks, second_asks, input) {
-        Ok((first, second)) => change_with_secrets(
-            alloc, change, old, new, &first, &second, out, entropy, disk,
-        ),
-        Err(error) => conclude_key(out, error),
-    }
-}
-
-// The change of a file, with its secrets. It gets the entropy only where it draws.
-fn change_with_secrets<S: Sink, E: Entropy, D: Disk>(
-    alloc: Global,
-    change: Change,
-    old: Profile,
-    new: Profile,
-    first: &Secret,
-    second: &Secret,
-    out: &mut S,
-    entropy: &mut E,
-    disk: &mut D,
-) -> Status
-    requires listed { IsListed old × IsListed new }
-    requires between { IsChangeBetween change (from_to old first.now new second.now) }
-    requires keyed { length (asked_keys (command_of change old new)) ≡ 2 }
-    ensures answer { IsTrue D.tells
-        → AnswersOne (recovered_answers old (D.reads disk.old) (λ file. change_answers change (from_to old first.now new second.now) file (main_of (D.reads disk.new))))
-        result S.tells (S.taken out.old) (S.taken out.new) }
-    ensures line { IsTrue S.tells → PutsLine result (S.taken out.old) (S.taken out.new) }
-    ensures causes { HasDrawnCauses result (draws (command_of change old new)) (D.faults disk.old) (D.faults disk.new) (S.faults out.old) (S.faults out.new) (E.faults entropy.old) (E.faults entropy.new) }
-    ensures draws { draws (command_of change old new) ≡ false → entropy.new ≡ entropy.old }
-    ensures changes { IsTrue D.tells → IsSafely result (command_of change old new) E.tells (drop (length (E.drawn entropy.old)) (E.drawn entropy.new))
-        (disk_run D.reads D.images D.moment D.since disk.old disk.new) (Some (from_to old first.now new second.now)) }
-    ensures fresh { IsTrue D.tells → is_in_place change ≡ true → LeavesOnly D.moment D.since disk.old disk.new (From SameFresh (D.images disk.old)) }
-    ensures fresh_gone { IsTrue D.tells → result ≡ Status.Done → is_in_place change ≡ false → (D.reads disk.new).fresh ≡ None }
-    ensures own_draws { IsTrue D.tells → IsTrue E.tells → result ≡ Status.Done
-        → AreDrawnBy (command_of change old new) (from_to old first.now new second.now)
-        (main_of (D.reads disk.new)) (drop (length (E.drawn entropy.old)) (E.drawn entropy.new)) }
-    ensures unrecovered { IsTrue D.tells → IsUnrecovered result → D.reads disk.new ≡ D.reads disk.old }
-    ensures recovered { IsTrue D.tells → HasOnlyRead true result → IsRecovered old (disk_run D.reads D.images D.moment D.since disk.old disk.new) }
-    ensures untouched { IsTrue D.tells → HasNoFile old (D.reads disk.old) → IsUnwritten (disk_run D.reads D.images D.moment D.since disk.old disk.new) }
-{
-    if new.is_plain() {
-        change_file(
-            alloc,
-            change,
-            old,
-            new,
-            first,
-            second,
-            out,
-            &mut NoEntropy,
-            disk,
-        )
-    } else {
-        change_file(alloc, change, old, new, first, second, out, entropy, disk)
-    }
-}
-
-// Whether a key line is read for a file of this profile.
-fn asks_key(profile: Profile) -> bool
-    ensures { result ≡ not (is_plain profile) }
-{
-    !profile.is_plain()
-}
-
-// The secrets of two files, for each of which a key line is read or not.
-fn read_keys<K: Source>(
-    first_asks: bool,
-    second_asks: bool,
-    input: &mut K,
-) -> Result<(Secret, Secret), KeyError>
-    ensures told { UnlessFault result ((asks_some (first_asks ∷ second_asks ∷ []) ≡ true → IsTrue K.tells)
-        → two_secrets result ≡ key_lines (first_asks ∷ second_asks ∷ []) (K.left input.old)) }
-    ensures rest { UnlessFault result ((asks_some (first_asks ∷ second_asks ∷ []) ≡ true → IsTrue K.tells)
-        → K.left input.new ≡ after_lines (first_asks ∷ second_asks ∷ []) (K.left input.old)) }
-    ensures at_most { IsTrue K.tells → TakesAtMost (1025 * lines_read (first_asks ∷ second_asks ∷ [])) (K.left input.old) (K.left input.new) }
-    ensures unasked { asks_some (first_asks ∷ second_asks ∷ []) ≡ false → input.new ≡ input.old }
-    ensures asked { IsErr result → asks_some (first_asks ∷ second_asks ∷ []) ≡ true }
-    ensures later { K.faults input.old ≤ K.faults input.new }
-    ensures fault { IsErrOf result KeyError.SourceFault → Rose (K.faults input.old) (K.faults input.new) }
-{
-    let first = secret_for(first_asks, input)?;
-    let second = secret_for(second_asks, input)?;
-    Ok((first, second))
-}
-
-// The secret of the next key line, where one is read for it, and else that of a plain file.
-fn secret_for<K: Source>(asks: bool, input: &mut K) -> Result<Secret, KeyError>
-    ensures told { UnlessFault result ((asks ≡ true → IsTrue K.tells) → result ≡ secret_line asks (K.left input.old)) }
-    ensures rest { UnlessFault result ((asks ≡ true → IsTrue K.tells) → K.left input.new ≡ rest_line asks (K.left input.old)) }
-    ensures at_most { IsTrue K.tells → TakesAtMost (1025 * lines_read (asks ∷ [])) (K.left input.old) (K.left input.new) }
-    ensures unasked { asks ≡ false → input.new ≡ input.old }
-    ensures asked { IsErr result → asks ≡ true }
-    ensures later { K.faults input.old ≤ K.faults input.new }
-    ensures fault { IsErrOf result KeyError.SourceFault → Rose (K.faults input.old) (K.faults input.new) }
-{
-    if asks {
-        read_key(input)
-    } else {
-        Ok(Secret::NoKey)
     }
 }

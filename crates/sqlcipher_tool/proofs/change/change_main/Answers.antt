@@ -1,6 +1,4 @@
 use Rattle.std.proofs.Common.{◌≡◌, ⊎_elim, inl, inr, ℕ, List, drop, length, Result, Err, refl, sym, ap, subst, ◌∙◌, rules}
-use Rattle.cipher_profile.specs.declared.keys.Secret.{Secret}
-use Rattle.cipher_profile.specs.declared.profile.Profile.{Profile}
 use Rattle.page_codec.specs.Page.{keys_of}
 use Rattle.edge_model.specs.Files.{main_of}
 use Rattle.std.specs.Prelude.{IfErr, IsTrue}
@@ -8,9 +6,12 @@ use Rattle.fresh_disk.specs.OnlyFresh.{IsOld}
 use Rattle.edge_model.specs.Images.{Each}
 use Rattle.sqlcipher_tool.specs.Answer.{done}
 use Rattle.sqlcipher_tool.specs.Behind.{IsRefusedChange}
-use Rattle.sqlcipher_tool.specs.Change.{KeepsOrCommits, change_answer, change_answers, change_status, command_of}
+use Rattle.sqlcipher_tool.specs.Change.{KeepsOrCommits, change_answer, change_status}
+use Rattle.sqlcipher_tool.specs.Due.{change_answers}
 use Rattle.sqlcipher_tool.specs.Holding.{HoldsOnly, held_by}
-use Rattle.sqlcipher_tool.specs.Renewal.{IsNewDrawn, Renewal}
+use Rattle.sqlcipher_tool.specs.Renewal.{IsNewDrawn, renewed, secret_after}
+use Rattle.sqlcipher_tool.specs.Words.{profile_after}
+use Rattle.sqlcipher_tool.specs.declared.command.Command.TheVariants.{Change as ChangeFile}
 use Rattle.sqlcipher_tool.specs.declared.opening.ChangeError.{ChangeError}
 use Rattle.sqlcipher_tool.specs.declared.opening.ChangeError.TheVariants.{Stopped, EntropyFault as EntropyFails}
 use Rattle.sqlcipher_tool.specs.declared.opening.Stop.{Stop}
@@ -24,15 +25,12 @@ use Rattle.sqlcipher_tool.proofs.Stamping.{was_ok}
 use Rattle.sqlcipher_tool.proofs.Verified.{stop_one}
 use Rattle.sqlcipher_tool.proofs.change.change_main.Goals as goal
 
-abbrev renewal_of : Profile → Secret → Profile → Secret → Renewal
-renewal_of old first new second = record { old_profile = old; old_secret = first; new_profile = new; new_secret = second }
-
 abbrev pub Outcome : Type 0
 Outcome = Result (List ℕ) ChangeError
 
 pub returns-in-Ok-clause-answer : goal.returns-in-Ok-clause-answer
 returns-in-Ok-clause-answer g c = λ told.
-    let answers = change_answers c.args.change (renewal_of c.args.old c.args.first.now c.args.new c.args.second.now) (main_of (g.D.Disk.reads c.args.disk.now)) (main_of (g.D.Disk.reads c.change_opened.new.disk)) in
+    let answers = change_answers c.args.change (renewed c.args.profile c.args.change c.args.secrets.now.first c.args.secrets.now.second) (main_of (g.D.Disk.reads c.args.disk.now)) (main_of (g.D.Disk.reads c.change_opened.new.disk)) in
     printed_among answers (done c.in-Ok.report) c.conclude.result g.S.Sink.tells (g.S.Sink.taken c.args.out.now) (g.S.Sink.taken c.conclude.new.out)
     (c.change_opened.ensures.told told (done c.in-Ok.report) (ap change_answer c.in-Ok.is)) tt c.conclude.ensures.status c.conclude.ensures.text
 
@@ -44,9 +42,9 @@ pub returns-in-Ok-clause-safely : goal.returns-in-Ok-clause-safely
 returns-in-Ok-clause-safely g c = λ told start.
     let d = g.D.Disk in
     let file = main_of (d.reads c.args.disk.now) in
-    let renewal = renewal_of c.args.old c.args.first.now c.args.new c.args.second.now in
-    let was = subst (λ (r : Outcome). KeepsOrCommits d.reads d.images d.moment d.since (change_status r) (IsNewDrawn (command_of c.args.change c.args.old c.args.new) renewal g.E.Entropy.tells (drop (length (g.E.Entropy.drawn c.args.entropy.now)) (g.E.Entropy.drawn c.change_opened.new.entropy)) file)
-    (HoldsOnly (held_by (keys_of c.args.old c.args.first.now file) file)) (λ n. HoldsOnly (held_by (keys_of c.args.new c.args.second.now n) n)) c.args.disk.now c.change_opened.new.disk) c.in-Ok.is (c.change_opened.ensures.safely told start) in
+    let renewal = renewed c.args.profile c.args.change c.args.secrets.now.first c.args.secrets.now.second in
+    let was = subst (λ (r : Outcome). KeepsOrCommits d.reads d.images d.moment d.since (change_status r) (IsNewDrawn (ChangeFile c.args.profile c.args.change) renewal g.E.Entropy.tells (drop (length (g.E.Entropy.drawn c.args.entropy.now)) (g.E.Entropy.drawn c.change_opened.new.entropy)) file)
+    (HoldsOnly (held_by (keys_of c.args.profile c.args.secrets.now.first file) file)) (λ n. HoldsOnly (held_by (keys_of (profile_after c.args.profile c.args.change) (secret_after c.args.change c.args.secrets.now.first c.args.secrets.now.second) n) n)) c.args.disk.now c.change_opened.new.disk) c.in-Ok.is (c.change_opened.ensures.safely told start) in
     printed d.reads d.images d.moment d.since g.met.D.Disk.counts_now g.met.D.Disk.only_now Done c.conclude.result
     (⊎_elim (λ same. inl same) (λ out. inr (out, tt)) c.conclude.ensures.status) was
 
@@ -60,7 +58,7 @@ pub returns-in-Err-Stopped-clause-answer : goal.returns-in-Err-Stopped-clause-an
 returns-in-Err-Stopped-clause-answer g c = λ told.
     let file = main_of (g.D.Disk.reads c.args.disk.now) in
     let after = main_of (g.D.Disk.reads c.change_opened.new.disk) in
-    let renewal = renewal_of c.args.old c.args.first.now c.args.new c.args.second.now in
+    let renewal = renewed c.args.profile c.args.change c.args.secrets.now.first c.args.secrets.now.second in
     let answers = change_answers c.args.change renewal file after in
     let found : c.change_opened.result ≡ Err (Stopped c.in-Err-Stopped.stop) = search rules in
     let is = subst (λ (s : Stop). c.change_opened.result ≡ Err (Stopped s)) (sym c.in-Err-Stopped.stop-is) found in
@@ -85,9 +83,9 @@ returns-in-Err-Stopped-clause-safely g c = λ told start.
     let found : c.change_opened.result ≡ Err (Stopped c.in-Err-Stopped.stop) = search rules in
     let is = subst (λ (s : Stop). c.change_opened.result ≡ Err (Stopped s)) (sym c.in-Err-Stopped.stop-is) found in
     let file = main_of (d.reads c.args.disk.now) in
-    let renewal = renewal_of c.args.old c.args.first.now c.args.new c.args.second.now in
-    let was = subst (λ (r : Outcome). KeepsOrCommits d.reads d.images d.moment d.since (change_status r) (IsNewDrawn (command_of c.args.change c.args.old c.args.new) renewal g.E.Entropy.tells (drop (length (g.E.Entropy.drawn c.args.entropy.now)) (g.E.Entropy.drawn c.change_opened.new.entropy)) file)
-    (HoldsOnly (held_by (keys_of c.args.old c.args.first.now file) file)) (λ n. HoldsOnly (held_by (keys_of c.args.new c.args.second.now n) n)) c.args.disk.now c.change_opened.new.disk) is (c.change_opened.ensures.safely told start) in
+    let renewal = renewed c.args.profile c.args.change c.args.secrets.now.first c.args.secrets.now.second in
+    let was = subst (λ (r : Outcome). KeepsOrCommits d.reads d.images d.moment d.since (change_status r) (IsNewDrawn (ChangeFile c.args.profile c.args.change) renewal g.E.Entropy.tells (drop (length (g.E.Entropy.drawn c.args.entropy.now)) (g.E.Entropy.drawn c.change_opened.new.entropy)) file)
+    (HoldsOnly (held_by (keys_of c.args.profile c.args.secrets.now.first file) file)) (λ n. HoldsOnly (held_by (keys_of (profile_after c.args.profile c.args.change) (secret_after c.args.change c.args.secrets.now.first c.args.secrets.now.second) n) n)) c.args.disk.now c.change_opened.new.disk) is (c.change_opened.ensures.safely told start) in
     printed d.reads d.images d.moment d.since g.met.D.Disk.counts_now g.met.D.Disk.only_now _ c.conclude_stop.result
     (stop_last _ c.conclude_stop.result c.conclude_stop.ensures.status (λ same. (c.conclude_stop.ensures.disk same).0) (λ same. (c.conclude_stop.ensures.memory same).0)) was
 
@@ -103,7 +101,7 @@ pub returns-in-Err-EntropyFault-clause-answer : goal.returns-in-Err-EntropyFault
 returns-in-Err-EntropyFault-clause-answer g c = λ told.
     let file = main_of (g.D.Disk.reads c.args.disk.now) in
     let after = main_of (g.D.Disk.reads c.change_opened.new.disk) in
-    let renewal = renewal_of c.args.old c.args.first.now c.args.new c.args.second.now in
+    let renewal = renewed c.args.profile c.args.change c.args.secrets.now.first c.args.secrets.now.second in
     let answers = change_answers c.args.change renewal file after in
     silent_one answers EntropyFault g.S.Sink.tells _ _ (change_some c.args.change renewal file after) tt refl
 
@@ -117,9 +115,9 @@ returns-in-Err-EntropyFault-clause-safely g c = λ told start.
     let d = g.D.Disk in
     let is : c.change_opened.result ≡ Err EntropyFails = search rules in
     let file = main_of (d.reads c.args.disk.now) in
-    let renewal = renewal_of c.args.old c.args.first.now c.args.new c.args.second.now in
-    subst (λ (r : Outcome). KeepsOrCommits d.reads d.images d.moment d.since (change_status r) (IsNewDrawn (command_of c.args.change c.args.old c.args.new) renewal g.E.Entropy.tells (drop (length (g.E.Entropy.drawn c.args.entropy.now)) (g.E.Entropy.drawn c.change_opened.new.entropy)) file)
-    (HoldsOnly (held_by (keys_of c.args.old c.args.first.now file) file)) (λ n. HoldsOnly (held_by (keys_of c.args.new c.args.second.now n) n)) c.args.disk.now c.change_opened.new.disk) is (c.change_opened.ensures.safely told start)
+    let renewal = renewed c.args.profile c.args.change c.args.secrets.now.first c.args.secrets.now.second in
+    subst (λ (r : Outcome). KeepsOrCommits d.reads d.images d.moment d.since (change_status r) (IsNewDrawn (ChangeFile c.args.profile c.args.change) renewal g.E.Entropy.tells (drop (length (g.E.Entropy.drawn c.args.entropy.now)) (g.E.Entropy.drawn c.change_opened.new.entropy)) file)
+    (HoldsOnly (held_by (keys_of c.args.profile c.args.secrets.now.first file) file)) (λ n. HoldsOnly (held_by (keys_of (profile_after c.args.profile c.args.change) (secret_after c.args.change c.args.secrets.now.first c.args.secrets.now.second) n) n)) c.args.disk.now c.change_opened.new.disk) is (c.change_opened.ensures.safely told start)
 
 pub returns-in-Err-EntropyFault-clause-fresh : goal.returns-in-Err-EntropyFault-clause-fresh
 returns-in-Err-EntropyFault-clause-fresh g c = λ told in_place. c.change_opened.ensures.fresh told in_place

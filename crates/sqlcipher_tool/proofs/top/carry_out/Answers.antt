@@ -1,220 +1,208 @@
-use Rattle.std.proofs.Common.{◌≡◌, rules, List, drop, length, refl, ◌∷◌, [], sym, ap, subst}
-use mir.Val.{SFits}
-use mir.Syntax.{w64}
+use Rattle.std.proofs.Common.{◌≡◌, ◌∙◌, false, List, drop, length, refl, sym, ap, subst}
 use Rattle.cipher_profile.specs.declared.keys.Secret.{Secret}
 use Rattle.edge_model.specs.Files.{main_of}
-use Rattle.sqlcipher_tool.specs.Crash.{IsDrawnFor, IsSafely, Keeps, MakesWith}
-use Rattle.sqlcipher_tool.specs.Renewal.{same_key}
-use Rattle.sqlcipher_tool.specs.Words.{alters, finds}
-use Rattle.sqlcipher_tool.specs.declared.command.Command.TheVariants.{Tags, Header, Verify, Export, Salvage, Find, Probe, Stamp, Make}
-use Rattle.sqlcipher_tool.proofs.Asked.{causes_as, changes_as, draws_as, no_draws, none_beside, undrawn}
 use Rattle.sqlcipher_tool.specs.Behind.{LeavesRecovered}
+use Rattle.sqlcipher_tool.specs.Crash.{IsDrawnFor, IsSafely, Keeps, MakesWith}
 use Rattle.sqlcipher_tool.specs.Due.{secret_answers}
-use Rattle.sqlcipher_tool.specs.Header.{header_answer}
 use Rattle.sqlcipher_tool.specs.Holding.{disk_run}
 use Rattle.sqlcipher_tool.specs.Probe.{probe_answer}
-use Rattle.sqlcipher_tool.specs.Promises.{AnswersOne}
-use Rattle.sqlcipher_tool.specs.Answer.{Answer}
-use Rattle.sqlcipher_tool.specs.Job.{job_answers}
-use Rattle.sqlcipher_tool.specs.declared.job.Job.TheVariants.{Find as FindRows}
-use Rattle.sqlcipher_tool.proofs.FindAnswers.{passed}
-use Rattle.sqlcipher_tool.specs.Recovered.{recovered_answer, recovered_answers}
-use Rattle.sqlcipher_tool.specs.Tags.{tags_answer}
+use Rattle.sqlcipher_tool.specs.Promises.{AnswersOne, secrets_of}
+use Rattle.sqlcipher_tool.specs.Recovered.{recovery_answer, recovery_of}
+use Rattle.sqlcipher_tool.specs.Renewal.{renewed_with, same_key}
+use Rattle.sqlcipher_tool.specs.Untouched.{LeavesAlone}
+use Rattle.sqlcipher_tool.specs.Words.{alters, finds, is_in_place, lacks_tags, layouts_differ, recovers_by, writes_beside}
 use Rattle.sqlcipher_tool.specs.declared.command.Command.{Command as Asked}
+use Rattle.sqlcipher_tool.specs.declared.command.Command.TheVariants.{Probe, Recover, Read, Change as ChangeFile, Make}
 use Rattle.sqlcipher_tool.proofs.Answered.{answers_one, keeps_held}
-use Rattle.sqlcipher_tool.proofs.Making.{read_stays}
+use Rattle.sqlcipher_tool.proofs.Asked.{causes_as, change_keeps, changes_as, draws_as, no_draws, none_beside, none_refused, not_in_place, undrawn}
 use Rattle.sqlcipher_tool.proofs.Conclusions.{no_part}
-use Rattle.sqlcipher_tool.specs.Untouched.{LeavesAlone, recovers_by}
+use Rattle.sqlcipher_tool.proofs.Making.{read_stays}
 use Rattle.sqlcipher_tool.proofs.top.carry_out.Goals as goal
 
-pub returns-in-Tags-clause-answer : goal.returns-in-Tags-clause-answer
-returns-in-Tags-clause-answer g c = λ told.
-    let files = g.D.Disk.reads c.args.disk.now in
-    let secret = c.args.secret.now in
-    let before = g.S.Sink.taken c.args.out.now in
-    let after = g.S.Sink.taken c.tags.new.out in
-    let one = answers_one (recovered_answer c.in-Tags.profile files (tags_answer c.in-Tags.profile secret)) c.tags.result g.S.Sink.tells before after
-    (c.tags.ensures.status told) (λ printed. c.tags.ensures.text printed told) (λ printed is. c.tags.ensures.disk_text printed told is)
-    (λ is. ap g.S.Sink.taken (c.tags.ensures.memory_text is)) c.tags.ensures.causes.input c.tags.ensures.causes.entropy in
-    subst (λ (command : Asked). AnswersOne (secret_answers command (secret ∷ []) files (g.D.Disk.reads c.tags.new.disk)) c.tags.result g.S.Sink.tells before after)
-    (sym c.in-Tags.is) one
-
-pub returns-in-Tags-clause-keeps : goal.returns-in-Tags-clause-keeps
-returns-in-Tags-clause-keeps g c = λ told.
-    let run = disk_run g.D.Disk.reads g.D.Disk.images g.D.Disk.moment g.D.Disk.since c.args.disk.now c.tags.new.disk in
-    subst (λ (command : Asked). Keeps command run) (sym c.in-Tags.is)
-    (keeps_held c.in-Tags.profile.page_size run (λ image ever. (c.tags.ensures.keeps told).each image ever))
-
-pub returns-in-Header-clause-answer : goal.returns-in-Header-clause-answer
-returns-in-Header-clause-answer g c = λ told.
-    let files = g.D.Disk.reads c.args.disk.now in
-    let secret = c.args.secret.now in
-    let before = g.S.Sink.taken c.args.out.now in
-    let after = g.S.Sink.taken c.header.new.out in
-    let one = answers_one (recovered_answer c.in-Header.profile files (header_answer c.in-Header.profile secret)) c.header.result g.S.Sink.tells before after
-    (c.header.ensures.status told) (λ printed. c.header.ensures.text printed told) (λ printed is. no_part _ _ _ (ap g.S.Sink.taken (c.header.ensures.disk_text is)))
-    (λ is. ap g.S.Sink.taken (c.header.ensures.memory_text is)) c.header.ensures.causes.input c.header.ensures.causes.entropy in
-    subst (λ (command : Asked). AnswersOne (secret_answers command (secret ∷ []) files (g.D.Disk.reads c.header.new.disk)) c.header.result g.S.Sink.tells before after)
-    (sym c.in-Header.is) one
-
-pub returns-in-Header-clause-keeps : goal.returns-in-Header-clause-keeps
-returns-in-Header-clause-keeps g c = λ told.
-    let run = disk_run g.D.Disk.reads g.D.Disk.images g.D.Disk.moment g.D.Disk.since c.args.disk.now c.header.new.disk in
-    subst (λ (command : Asked). Keeps command run) (sym c.in-Header.is)
-    (keeps_held c.in-Header.profile.page_size run (λ image ever. (c.header.ensures.keeps told).each image ever))
-
-pub returns-in-Verify-clause-keeps : goal.returns-in-Verify-clause-keeps
-returns-in-Verify-clause-keeps g c = λ told.
-    let run = disk_run g.D.Disk.reads g.D.Disk.images g.D.Disk.moment g.D.Disk.since c.args.disk.now c.answer_job.new.disk in
-    subst (λ (command : Asked). Keeps command run) (sym c.in-Verify.is)
-    (keeps_held c.in-Verify.profile.page_size run (λ image ever. (c.answer_job.ensures.keeps told).each image ever))
-
-pub returns-in-Export-clause-keeps : goal.returns-in-Export-clause-keeps
-returns-in-Export-clause-keeps g c = λ told.
-    let run = disk_run g.D.Disk.reads g.D.Disk.images g.D.Disk.moment g.D.Disk.since c.args.disk.now c.answer_job-in-Export.new.disk in
-    subst (λ (command : Asked). Keeps command run) (sym c.in-Export.is)
-    (keeps_held c.in-Export.profile.page_size run (λ image ever. (c.answer_job-in-Export.ensures.keeps told).each image ever))
-
-pub returns-in-Salvage-clause-keeps : goal.returns-in-Salvage-clause-keeps
-returns-in-Salvage-clause-keeps g c = λ told.
-    let run = disk_run g.D.Disk.reads g.D.Disk.images g.D.Disk.moment g.D.Disk.since c.args.disk.now c.salvage_file.new.disk in
-    subst (λ (command : Asked). Keeps command run) (sym c.in-Salvage.is)
-    (keeps_held c.in-Salvage.profile.page_size run (λ image ever. (c.salvage_file.ensures.keeps told).each image ever))
-
-pub returns-in-Find-clause-keeps : goal.returns-in-Find-clause-keeps
-returns-in-Find-clause-keeps g c = λ told.
-    let run = disk_run g.D.Disk.reads g.D.Disk.images g.D.Disk.moment g.D.Disk.since c.args.disk.now c.answer_job-in-Find.new.disk in
-    subst (λ (command : Asked). Keeps command run) (sym c.in-Find.is)
-    (keeps_held c.in-Find.profile.page_size run (λ image ever. (c.answer_job-in-Find.ensures.keeps told).each image ever))
+-- ---- probe
 
 pub returns-in-Probe-clause-answer : goal.returns-in-Probe-clause-answer
 returns-in-Probe-clause-answer g c = λ told.
     let files = g.D.Disk.reads c.args.disk.now in
-    let secret = c.args.secret.now in
+    let secret = c.args.secrets.now.first in
     let before = g.S.Sink.taken c.args.out.now in
     let after = g.S.Sink.taken c.probe.new.out in
     let one = answers_one (probe_answer secret files) c.probe.result g.S.Sink.tells before after
     (c.probe.ensures.status told) (λ printed. c.probe.ensures.text printed told) (λ printed is. no_part _ _ _ (ap g.S.Sink.taken (c.probe.ensures.disk_text is)))
     (λ is. absurd (c.probe.ensures.memory is)) c.probe.ensures.causes.input c.probe.ensures.causes.entropy in
-    subst (λ (command : Asked). AnswersOne (secret_answers command (secret ∷ []) files (g.D.Disk.reads c.probe.new.disk)) c.probe.result g.S.Sink.tells before after)
+    subst (λ (command : Asked). AnswersOne (secret_answers command (secrets_of c.args.secrets.now) files (g.D.Disk.reads c.probe.new.disk)) c.probe.result g.S.Sink.tells before after)
     (sym c.in-Probe.is) one
-
-pub returns-in-Tags-clause-causes : goal.returns-in-Tags-clause-causes
-returns-in-Tags-clause-causes g c = undrawn c.tags.result (alters c.args.command) _ _ _ _ (g.E.Entropy.faults c.args.entropy.now) (g.E.Entropy.faults c.args.entropy.now) c.tags.ensures.causes refl
-
-pub returns-in-Tags-clause-own_draws : goal.returns-in-Tags-clause-own_draws
-returns-in-Tags-clause-own_draws g c = λ told drawing done. no_draws c.args.command (Tags c.in-Tags.profile) c.in-Tags.is (λ secrets. refl) (λ secrets. secrets ≡ c.args.secret.now ∷ [])
-    (main_of (g.D.Disk.reads c.tags.new.disk)) (drop (length (g.E.Entropy.drawn c.args.entropy.now)) (g.E.Entropy.drawn c.args.entropy.now))
-
-pub returns-in-Tags-clause-changes : goal.returns-in-Tags-clause-changes
-returns-in-Tags-clause-changes g c = λ told.
-    let run = disk_run g.D.Disk.reads g.D.Disk.images g.D.Disk.moment g.D.Disk.since c.args.disk.now c.tags.new.disk in
-    changes_as c.tags.result c.args.command (Tags c.in-Tags.profile) (λ secrets. secrets ≡ c.args.secret.now ∷ []) g.E.Entropy.tells (drop (length (g.E.Entropy.drawn c.args.entropy.now)) (g.E.Entropy.drawn c.args.entropy.now)) run c.in-Tags.is tt
-
-pub returns-in-Header-clause-causes : goal.returns-in-Header-clause-causes
-returns-in-Header-clause-causes g c = undrawn c.header.result (alters c.args.command) _ _ _ _ (g.E.Entropy.faults c.args.entropy.now) (g.E.Entropy.faults c.header.new.entropy) c.header.ensures.causes (ap g.E.Entropy.faults c.header.ensures.draws)
-
-pub returns-in-Header-clause-own_draws : goal.returns-in-Header-clause-own_draws
-returns-in-Header-clause-own_draws g c = λ told drawing done. no_draws c.args.command (Header c.in-Header.profile) c.in-Header.is (λ secrets. refl) (λ secrets. secrets ≡ c.args.secret.now ∷ [])
-    (main_of (g.D.Disk.reads c.header.new.disk)) (drop (length (g.E.Entropy.drawn c.args.entropy.now)) (g.E.Entropy.drawn c.header.new.entropy))
-
-pub returns-in-Header-clause-changes : goal.returns-in-Header-clause-changes
-returns-in-Header-clause-changes g c = λ told.
-    let run = disk_run g.D.Disk.reads g.D.Disk.images g.D.Disk.moment g.D.Disk.since c.args.disk.now c.header.new.disk in
-    changes_as c.header.result c.args.command (Header c.in-Header.profile) (λ secrets. secrets ≡ c.args.secret.now ∷ []) g.E.Entropy.tells (drop (length (g.E.Entropy.drawn c.args.entropy.now)) (g.E.Entropy.drawn c.header.new.entropy)) run c.in-Header.is tt
-
-pub returns-in-Verify-clause-causes : goal.returns-in-Verify-clause-causes
-returns-in-Verify-clause-causes g c = undrawn c.answer_job.result (alters c.args.command) _ _ _ _ (g.E.Entropy.faults c.args.entropy.now) (g.E.Entropy.faults c.answer_job.new.entropy) c.answer_job.ensures.causes (ap g.E.Entropy.faults c.answer_job.ensures.draws)
-
-pub returns-in-Verify-clause-own_draws : goal.returns-in-Verify-clause-own_draws
-returns-in-Verify-clause-own_draws g c = λ told drawing done. no_draws c.args.command (Verify c.in-Verify.profile) c.in-Verify.is (λ secrets. refl) (λ secrets. secrets ≡ c.args.secret.now ∷ [])
-    (main_of (g.D.Disk.reads c.answer_job.new.disk)) (drop (length (g.E.Entropy.drawn c.args.entropy.now)) (g.E.Entropy.drawn c.answer_job.new.entropy))
-
-pub returns-in-Verify-clause-changes : goal.returns-in-Verify-clause-changes
-returns-in-Verify-clause-changes g c = λ told.
-    let run = disk_run g.D.Disk.reads g.D.Disk.images g.D.Disk.moment g.D.Disk.since c.args.disk.now c.answer_job.new.disk in
-    changes_as c.answer_job.result c.args.command (Verify c.in-Verify.profile) (λ secrets. secrets ≡ c.args.secret.now ∷ []) g.E.Entropy.tells (drop (length (g.E.Entropy.drawn c.args.entropy.now)) (g.E.Entropy.drawn c.answer_job.new.entropy)) run c.in-Verify.is tt
-
-pub returns-in-Export-clause-causes : goal.returns-in-Export-clause-causes
-returns-in-Export-clause-causes g c = undrawn c.answer_job-in-Export.result (alters c.args.command) _ _ _ _ (g.E.Entropy.faults c.args.entropy.now) (g.E.Entropy.faults c.answer_job-in-Export.new.entropy) c.answer_job-in-Export.ensures.causes (ap g.E.Entropy.faults c.answer_job-in-Export.ensures.draws)
-
-pub returns-in-Salvage-clause-causes : goal.returns-in-Salvage-clause-causes
-returns-in-Salvage-clause-causes g c = undrawn c.salvage_file.result (alters c.args.command) _ _ _ _ (g.E.Entropy.faults c.args.entropy.now) (g.E.Entropy.faults c.args.entropy.now) c.salvage_file.ensures.causes refl
-
-pub returns-in-Find-clause-causes : goal.returns-in-Find-clause-causes
-returns-in-Find-clause-causes g c = undrawn c.answer_job-in-Find.result (alters c.args.command) _ _ _ _ (g.E.Entropy.faults c.args.entropy.now) (g.E.Entropy.faults c.answer_job-in-Find.new.entropy) c.answer_job-in-Find.ensures.causes (ap g.E.Entropy.faults c.answer_job-in-Find.ensures.draws)
-
-pub returns-in-Export-clause-own_draws : goal.returns-in-Export-clause-own_draws
-returns-in-Export-clause-own_draws g c = λ told drawing done. no_draws c.args.command (Export c.in-Export.profile) c.in-Export.is (λ secrets. refl) (λ secrets. secrets ≡ c.args.secret.now ∷ [])
-    (main_of (g.D.Disk.reads c.answer_job-in-Export.new.disk)) (drop (length (g.E.Entropy.drawn c.args.entropy.now)) (g.E.Entropy.drawn c.answer_job-in-Export.new.entropy))
-
-pub returns-in-Salvage-clause-own_draws : goal.returns-in-Salvage-clause-own_draws
-returns-in-Salvage-clause-own_draws g c = λ told drawing done. no_draws c.args.command (Salvage c.in-Salvage.profile) c.in-Salvage.is (λ secrets. refl) (λ secrets. secrets ≡ c.args.secret.now ∷ [])
-    (main_of (g.D.Disk.reads c.salvage_file.new.disk)) (drop (length (g.E.Entropy.drawn c.args.entropy.now)) (g.E.Entropy.drawn c.args.entropy.now))
-
-pub returns-in-Find-clause-own_draws : goal.returns-in-Find-clause-own_draws
-returns-in-Find-clause-own_draws g c = λ told drawing done. no_draws c.args.command (Find c.in-Find.profile c.in-Find.name c.in-Find.low c.in-Find.high) c.in-Find.is (λ secrets. refl) (λ secrets. secrets ≡ c.args.secret.now ∷ [])
-    (main_of (g.D.Disk.reads c.answer_job-in-Find.new.disk)) (drop (length (g.E.Entropy.drawn c.args.entropy.now)) (g.E.Entropy.drawn c.answer_job-in-Find.new.entropy))
-
-pub returns-in-Export-clause-changes : goal.returns-in-Export-clause-changes
-returns-in-Export-clause-changes g c = λ told.
-    let run = disk_run g.D.Disk.reads g.D.Disk.images g.D.Disk.moment g.D.Disk.since c.args.disk.now c.answer_job-in-Export.new.disk in
-    changes_as c.answer_job-in-Export.result c.args.command (Export c.in-Export.profile) (λ secrets. secrets ≡ c.args.secret.now ∷ []) g.E.Entropy.tells (drop (length (g.E.Entropy.drawn c.args.entropy.now)) (g.E.Entropy.drawn c.answer_job-in-Export.new.entropy)) run c.in-Export.is tt
-
-pub returns-in-Salvage-clause-changes : goal.returns-in-Salvage-clause-changes
-returns-in-Salvage-clause-changes g c = λ told.
-    let run = disk_run g.D.Disk.reads g.D.Disk.images g.D.Disk.moment g.D.Disk.since c.args.disk.now c.salvage_file.new.disk in
-    changes_as c.salvage_file.result c.args.command (Salvage c.in-Salvage.profile) (λ secrets. secrets ≡ c.args.secret.now ∷ []) g.E.Entropy.tells (drop (length (g.E.Entropy.drawn c.args.entropy.now)) (g.E.Entropy.drawn c.args.entropy.now)) run c.in-Salvage.is tt
-
-pub returns-in-Find-clause-changes : goal.returns-in-Find-clause-changes
-returns-in-Find-clause-changes g c = λ told.
-    let run = disk_run g.D.Disk.reads g.D.Disk.images g.D.Disk.moment g.D.Disk.since c.args.disk.now c.answer_job-in-Find.new.disk in
-    changes_as c.answer_job-in-Find.result c.args.command (Find c.in-Find.profile c.in-Find.name c.in-Find.low c.in-Find.high) (λ secrets. secrets ≡ c.args.secret.now ∷ []) g.E.Entropy.tells (drop (length (g.E.Entropy.drawn c.args.entropy.now)) (g.E.Entropy.drawn c.answer_job-in-Find.new.entropy)) run c.in-Find.is tt
 
 pub returns-in-Probe-clause-causes : goal.returns-in-Probe-clause-causes
 returns-in-Probe-clause-causes g c = undrawn c.probe.result (alters c.args.command) _ _ _ _ (g.E.Entropy.faults c.args.entropy.now) (g.E.Entropy.faults c.args.entropy.now) c.probe.ensures.causes refl
 
 pub returns-in-Probe-clause-own_draws : goal.returns-in-Probe-clause-own_draws
-returns-in-Probe-clause-own_draws g c = λ told drawing done. no_draws c.args.command (Probe) c.in-Probe.is (λ secrets. refl) (λ secrets. secrets ≡ c.args.secret.now ∷ [])
+returns-in-Probe-clause-own_draws g c = λ told drawing done. no_draws c.args.command (Probe) c.in-Probe.is (λ secrets. refl) (λ given. given ≡ secrets_of c.args.secrets.now)
     (main_of (g.D.Disk.reads c.probe.new.disk)) (drop (length (g.E.Entropy.drawn c.args.entropy.now)) (g.E.Entropy.drawn c.args.entropy.now))
 
 pub returns-in-Probe-clause-changes : goal.returns-in-Probe-clause-changes
 returns-in-Probe-clause-changes g c = λ told.
     let run = disk_run g.D.Disk.reads g.D.Disk.images g.D.Disk.moment g.D.Disk.since c.args.disk.now c.probe.new.disk in
-    changes_as c.probe.result c.args.command (Probe) (λ secrets. secrets ≡ c.args.secret.now ∷ []) g.E.Entropy.tells (drop (length (g.E.Entropy.drawn c.args.entropy.now)) (g.E.Entropy.drawn c.args.entropy.now)) run c.in-Probe.is tt
+    changes_as c.probe.result c.args.command (Probe) (λ given. given ≡ secrets_of c.args.secrets.now) g.E.Entropy.tells (drop (length (g.E.Entropy.drawn c.args.entropy.now)) (g.E.Entropy.drawn c.args.entropy.now)) run c.in-Probe.is tt
 
-pub returns-in-Stamp-clause-answer : goal.returns-in-Stamp-clause-answer
-returns-in-Stamp-clause-answer g c = λ told.
-    subst (λ (command : Asked). AnswersOne (secret_answers command (c.args.secret.now ∷ []) (g.D.Disk.reads c.args.disk.now) (g.D.Disk.reads c.change_file.new.disk)) c.change_file.result g.S.Sink.tells (g.S.Sink.taken c.args.out.now) (g.S.Sink.taken c.change_file.new.out))
-    (sym c.in-Stamp.is) (c.change_file.ensures.answer told)
+pub returns-in-Probe-clause-untouched : goal.returns-in-Probe-clause-untouched
+returns-in-Probe-clause-untouched g c = λ told.
+    let run = disk_run g.D.Disk.reads g.D.Disk.images g.D.Disk.moment g.D.Disk.since c.args.disk.now c.probe.new.disk in
+    subst (λ (command : Asked). LeavesAlone (recovers_by command) run) (sym c.in-Probe.is) tt
 
-pub returns-in-Stamp-clause-causes : goal.returns-in-Stamp-clause-causes
-returns-in-Stamp-clause-causes g c = causes_as c.change_file.result c.args.command (Stamp c.in-Stamp.profile c.in-Stamp.field c.in-Stamp.value) _ _ _ _ _ _ c.in-Stamp.is c.change_file.ensures.causes
+pub returns-in-Probe-clause-fresh_gone : goal.returns-in-Probe-clause-fresh_gone
+returns-in-Probe-clause-fresh_gone g c = λ told done beside. absurd (none_beside c.args.command Probe c.in-Probe.is refl beside)
 
-pub returns-in-Stamp-clause-own_draws : goal.returns-in-Stamp-clause-own_draws
-returns-in-Stamp-clause-own_draws g c = λ told drawing done.
+pub returns-in-Probe-clause-recovered : goal.returns-in-Probe-clause-recovered
+returns-in-Probe-clause-recovered g c = λ told.
+    let run = disk_run g.D.Disk.reads g.D.Disk.images g.D.Disk.moment g.D.Disk.since c.args.disk.now c.probe.new.disk in
+    subst (λ (command : Asked). LeavesRecovered c.probe.result (alters command) (recovers_by command) run) (sym c.in-Probe.is) tt
+
+-- ---- recover
+
+pub returns-in-Recover-clause-answer : goal.returns-in-Recover-clause-answer
+returns-in-Recover-clause-answer g c = λ told.
+    let files = g.D.Disk.reads c.args.disk.now in
+    let before = g.S.Sink.taken c.args.out.now in
+    let after = g.S.Sink.taken c.report_recovery.new.out in
+    let status = c.report_recovery.result in
+    let one = answers_one (recovery_answer (recovery_of c.in-Recover.profile files)) status g.S.Sink.tells before after
+    (c.report_recovery.ensures.status told) (λ printed. c.report_recovery.ensures.text printed told)
+    (λ printed is. no_part _ _ _ (ap g.S.Sink.taken (c.report_recovery.ensures.disk_text is)))
+    (λ is. ap g.S.Sink.taken (c.report_recovery.ensures.memory_text is)) c.report_recovery.ensures.causes.input c.report_recovery.ensures.causes.entropy in
+    subst (λ (command : Asked). AnswersOne (secret_answers command (secrets_of c.args.secrets.now) files (g.D.Disk.reads c.report_recovery.new.disk)) status g.S.Sink.tells before after)
+    (sym c.in-Recover.is) one
+
+pub returns-in-Recover-clause-keeps : goal.returns-in-Recover-clause-keeps
+returns-in-Recover-clause-keeps g c = λ told.
+    let run = disk_run g.D.Disk.reads g.D.Disk.images g.D.Disk.moment g.D.Disk.since c.args.disk.now c.report_recovery.new.disk in
+    subst (λ (command : Asked). Keeps command run) (sym c.in-Recover.is)
+    (keeps_held c.in-Recover.profile.page_size run (λ image ever. (c.report_recovery.ensures.keeps told).each image ever))
+
+pub returns-in-Recover-clause-causes : goal.returns-in-Recover-clause-causes
+returns-in-Recover-clause-causes g c = undrawn c.report_recovery.result (alters c.args.command) _ _ _ _ (g.E.Entropy.faults c.args.entropy.now) (g.E.Entropy.faults c.args.entropy.now) c.report_recovery.ensures.causes refl
+
+pub returns-in-Recover-clause-changes : goal.returns-in-Recover-clause-changes
+returns-in-Recover-clause-changes g c = λ told.
+    let run = disk_run g.D.Disk.reads g.D.Disk.images g.D.Disk.moment g.D.Disk.since c.args.disk.now c.report_recovery.new.disk in
+    changes_as c.report_recovery.result c.args.command (Recover c.in-Recover.profile)
+    (λ given. given ≡ secrets_of c.args.secrets.now) g.E.Entropy.tells (drop (length (g.E.Entropy.drawn c.args.entropy.now)) (g.E.Entropy.drawn c.args.entropy.now)) run c.in-Recover.is tt
+
+pub returns-in-Recover-clause-own_draws : goal.returns-in-Recover-clause-own_draws
+returns-in-Recover-clause-own_draws g c = λ told drawing done. no_draws c.args.command (Recover c.in-Recover.profile) c.in-Recover.is (λ secrets. refl)
+    (λ given. given ≡ secrets_of c.args.secrets.now)
+    (main_of (g.D.Disk.reads c.report_recovery.new.disk)) (drop (length (g.E.Entropy.drawn c.args.entropy.now)) (g.E.Entropy.drawn c.args.entropy.now))
+
+pub returns-in-Recover-clause-untouched : goal.returns-in-Recover-clause-untouched
+returns-in-Recover-clause-untouched g c = λ told.
+    let run = disk_run g.D.Disk.reads g.D.Disk.images g.D.Disk.moment g.D.Disk.since c.args.disk.now c.report_recovery.new.disk in
+    subst (λ (command : Asked). LeavesAlone (recovers_by command) run) (sym c.in-Recover.is) (c.report_recovery.ensures.untouched told)
+
+pub returns-in-Recover-clause-fresh_gone : goal.returns-in-Recover-clause-fresh_gone
+returns-in-Recover-clause-fresh_gone g c = λ told done beside. absurd (none_beside c.args.command (Recover c.in-Recover.profile) c.in-Recover.is refl beside)
+
+pub returns-in-Recover-clause-recovered : goal.returns-in-Recover-clause-recovered
+returns-in-Recover-clause-recovered g c = λ told.
+    let run = disk_run g.D.Disk.reads g.D.Disk.images g.D.Disk.moment g.D.Disk.since c.args.disk.now c.report_recovery.new.disk in
+    subst (λ (command : Asked). LeavesRecovered c.report_recovery.result (alters command) (recovers_by command) run) (sym c.in-Recover.is) (c.report_recovery.ensures.recovered told)
+
+-- ---- a reading
+
+pub read_file-requires-clause-tagged : goal.read_file-requires-clause-tagged
+read_file-requires-clause-tagged g c = subst (λ (command : Asked). lacks_tags command ≡ false) c.in-Read.is (none_refused c.args.command c.requires.unrefused).0
+
+pub returns-in-Read-clause-answer : goal.returns-in-Read-clause-answer
+returns-in-Read-clause-answer g c = λ told.
+    subst (λ (command : Asked). AnswersOne (secret_answers command (secrets_of c.args.secrets.now) (g.D.Disk.reads c.args.disk.now) (g.D.Disk.reads c.read_file.new.disk)) c.read_file.result
+    g.S.Sink.tells (g.S.Sink.taken c.args.out.now) (g.S.Sink.taken c.read_file.new.out)) (sym c.in-Read.is) (c.read_file.ensures.answer told)
+
+pub returns-in-Read-clause-line : goal.returns-in-Read-clause-line
+returns-in-Read-clause-line g c = λ printed way. c.read_file.ensures.line printed (λ is. way (ap finds c.in-Read.is ∙ is))
+
+pub returns-in-Read-clause-keeps : goal.returns-in-Read-clause-keeps
+returns-in-Read-clause-keeps g c = λ told.
+    let run = disk_run g.D.Disk.reads g.D.Disk.images g.D.Disk.moment g.D.Disk.since c.args.disk.now c.read_file.new.disk in
+    subst (λ (command : Asked). Keeps command run) (sym c.in-Read.is)
+    (keeps_held c.in-Read.profile.page_size run (λ image ever. (c.read_file.ensures.keeps told).each image ever))
+
+pub returns-in-Read-clause-causes : goal.returns-in-Read-clause-causes
+returns-in-Read-clause-causes g c = undrawn c.read_file.result (alters c.args.command) _ _ _ _ (g.E.Entropy.faults c.args.entropy.now) (g.E.Entropy.faults c.read_file.new.entropy) c.read_file.ensures.causes (ap g.E.Entropy.faults c.read_file.ensures.draws)
+
+pub returns-in-Read-clause-own_draws : goal.returns-in-Read-clause-own_draws
+returns-in-Read-clause-own_draws g c = λ told drawing done. no_draws c.args.command (Read c.in-Read.profile c.in-Read.reading) c.in-Read.is (λ secrets. refl) (λ given. given ≡ secrets_of c.args.secrets.now)
+    (main_of (g.D.Disk.reads c.read_file.new.disk)) (drop (length (g.E.Entropy.drawn c.args.entropy.now)) (g.E.Entropy.drawn c.read_file.new.entropy))
+
+pub returns-in-Read-clause-changes : goal.returns-in-Read-clause-changes
+returns-in-Read-clause-changes g c = λ told.
+    let run = disk_run g.D.Disk.reads g.D.Disk.images g.D.Disk.moment g.D.Disk.since c.args.disk.now c.read_file.new.disk in
+    changes_as c.read_file.result c.args.command (Read c.in-Read.profile c.in-Read.reading) (λ given. given ≡ secrets_of c.args.secrets.now) g.E.Entropy.tells (drop (length (g.E.Entropy.drawn c.args.entropy.now)) (g.E.Entropy.drawn c.read_file.new.entropy)) run c.in-Read.is tt
+
+pub returns-in-Read-clause-untouched : goal.returns-in-Read-clause-untouched
+returns-in-Read-clause-untouched g c = λ told.
+    let run = disk_run g.D.Disk.reads g.D.Disk.images g.D.Disk.moment g.D.Disk.since c.args.disk.now c.read_file.new.disk in
+    subst (λ (command : Asked). LeavesAlone (recovers_by command) run) (sym c.in-Read.is) (c.read_file.ensures.untouched told)
+
+pub returns-in-Read-clause-fresh_gone : goal.returns-in-Read-clause-fresh_gone
+returns-in-Read-clause-fresh_gone g c = λ told done beside. absurd (none_beside c.args.command (Read c.in-Read.profile c.in-Read.reading) c.in-Read.is refl beside)
+
+pub returns-in-Read-clause-recovered : goal.returns-in-Read-clause-recovered
+returns-in-Read-clause-recovered g c = λ told.
+    let run = disk_run g.D.Disk.reads g.D.Disk.images g.D.Disk.moment g.D.Disk.since c.args.disk.now c.read_file.new.disk in
+    subst (λ (command : Asked). LeavesRecovered c.read_file.result (alters command) (recovers_by command) run) (sym c.in-Read.is) (c.read_file.ensures.recovered told)
+
+-- ---- a change
+
+pub change_file-requires-clause-layout : goal.change_file-requires-clause-layout
+change_file-requires-clause-layout g c = subst (λ (command : Asked). layouts_differ command ≡ false) c.in-Change.is (none_refused c.args.command c.requires.unrefused).1
+
+pub returns-in-Change-clause-answer : goal.returns-in-Change-clause-answer
+returns-in-Change-clause-answer g c = λ told.
+    subst (λ (command : Asked). AnswersOne (secret_answers command (secrets_of c.args.secrets.now) (g.D.Disk.reads c.args.disk.now) (g.D.Disk.reads c.change_file.new.disk)) c.change_file.result g.S.Sink.tells (g.S.Sink.taken c.args.out.now) (g.S.Sink.taken c.change_file.new.out))
+    (sym c.in-Change.is) (c.change_file.ensures.answer told)
+
+pub returns-in-Change-clause-causes : goal.returns-in-Change-clause-causes
+returns-in-Change-clause-causes g c = causes_as c.change_file.result c.args.command (ChangeFile c.in-Change.profile c.in-Change.change) _ _ _ _ _ _ c.in-Change.is c.change_file.ensures.causes
+
+pub returns-in-Change-clause-own_draws : goal.returns-in-Change-clause-own_draws
+returns-in-Change-clause-own_draws g c = λ told drawing done.
     let file = main_of (g.D.Disk.reads c.change_file.new.disk) in
     let drawn = drop (length (g.E.Entropy.drawn c.args.entropy.now)) (g.E.Entropy.drawn c.change_file.new.entropy) in
-    let command = Stamp c.in-Stamp.profile c.in-Stamp.field c.in-Stamp.value in
-    draws_as c.args.command command (λ secrets. secrets ≡ c.args.secret.now ∷ []) file drawn c.in-Stamp.is
-    (λ secrets gave. subst (λ (l : List Secret). IsDrawnFor command (same_key c.in-Stamp.profile l) file drawn) (sym gave) (c.change_file.ensures.own_draws told drawing done))
+    let command = ChangeFile c.in-Change.profile c.in-Change.change in
+    draws_as c.args.command command (λ given. given ≡ secrets_of c.args.secrets.now) file drawn c.in-Change.is
+    (λ secrets gave. subst (λ (l : List Secret). IsDrawnFor command (renewed_with c.in-Change.profile c.in-Change.change l) file drawn) (sym gave) (c.change_file.ensures.own_draws told drawing done))
 
-pub returns-in-Stamp-clause-keeps : goal.returns-in-Stamp-clause-keeps
-returns-in-Stamp-clause-keeps g c = λ told. subst (λ (command : Asked). Keeps command (disk_run g.D.Disk.reads g.D.Disk.images g.D.Disk.moment g.D.Disk.since c.args.disk.now c.change_file.new.disk)) (sym c.in-Stamp.is)
-    (λ image ever. (c.change_file.ensures.fresh told refl).each image ever)
+pub returns-in-Change-clause-keeps : goal.returns-in-Change-clause-keeps
+returns-in-Change-clause-keeps g c = λ told. subst (λ (command : Asked). Keeps command (disk_run g.D.Disk.reads g.D.Disk.images g.D.Disk.moment g.D.Disk.since c.args.disk.now c.change_file.new.disk)) (sym c.in-Change.is)
+    (change_keeps c.in-Change.profile c.in-Change.change _ (λ in_place image ever. (c.change_file.ensures.fresh told in_place).each image ever))
 
-pub returns-in-Stamp-clause-changes : goal.returns-in-Stamp-clause-changes
-returns-in-Stamp-clause-changes g c = λ told.
+pub returns-in-Change-clause-changes : goal.returns-in-Change-clause-changes
+returns-in-Change-clause-changes g c = λ told.
     let run = disk_run g.D.Disk.reads g.D.Disk.images g.D.Disk.moment g.D.Disk.since c.args.disk.now c.change_file.new.disk in
     let tells = g.E.Entropy.tells in
     let drawn = drop (length (g.E.Entropy.drawn c.args.entropy.now)) (g.E.Entropy.drawn c.change_file.new.entropy) in
-    let command = Stamp c.in-Stamp.profile c.in-Stamp.field c.in-Stamp.value in
-    changes_as c.change_file.result c.args.command command (λ secrets. secrets ≡ c.args.secret.now ∷ []) tells drawn run c.in-Stamp.is
-    (λ secrets gave. subst (λ (l : List Secret). IsSafely c.change_file.result command tells drawn run (same_key c.in-Stamp.profile l)) (sym gave) (c.change_file.ensures.changes told))
+    let command = ChangeFile c.in-Change.profile c.in-Change.change in
+    changes_as c.change_file.result c.args.command command (λ given. given ≡ secrets_of c.args.secrets.now) tells drawn run c.in-Change.is
+    (λ secrets gave. subst (λ (l : List Secret). IsSafely c.change_file.result command tells drawn run (renewed_with c.in-Change.profile c.in-Change.change l)) (sym gave) (c.change_file.ensures.changes told))
+
+pub returns-in-Change-clause-untouched : goal.returns-in-Change-clause-untouched
+returns-in-Change-clause-untouched g c = λ told.
+    let run = disk_run g.D.Disk.reads g.D.Disk.images g.D.Disk.moment g.D.Disk.since c.args.disk.now c.change_file.new.disk in
+    subst (λ (command : Asked). LeavesAlone (recovers_by command) run) (sym c.in-Change.is) (c.change_file.ensures.untouched told)
+
+pub returns-in-Change-clause-recovered : goal.returns-in-Change-clause-recovered
+returns-in-Change-clause-recovered g c = λ told.
+    let run = disk_run g.D.Disk.reads g.D.Disk.images g.D.Disk.moment g.D.Disk.since c.args.disk.now c.change_file.new.disk in
+    subst (λ (command : Asked). LeavesRecovered c.change_file.result (alters command) (recovers_by command) run) (sym c.in-Change.is) (c.change_file.ensures.recovered told)
+
+pub returns-in-Change-clause-fresh_gone : goal.returns-in-Change-clause-fresh_gone
+returns-in-Change-clause-fresh_gone g c = λ told done beside.
+    c.change_file.ensures.fresh_gone told done (not_in_place (is_in_place c.in-Change.change) (sym (ap writes_beside c.in-Change.is) ∙ beside))
+
+-- ---- make
 
 pub returns-in-Make-clause-answer : goal.returns-in-Make-clause-answer
 returns-in-Make-clause-answer g c = λ told.
-    subst (λ (command : Asked). AnswersOne (secret_answers command (c.args.secret.now ∷ []) (g.D.Disk.reads c.args.disk.now) (g.D.Disk.reads c.make_file.new.disk)) c.make_file.result g.S.Sink.tells (g.S.Sink.taken c.args.out.now) (g.S.Sink.taken c.make_file.new.out))
+    subst (λ (command : Asked). AnswersOne (secret_answers command (secrets_of c.args.secrets.now) (g.D.Disk.reads c.args.disk.now) (g.D.Disk.reads c.make_file.new.disk)) c.make_file.result g.S.Sink.tells (g.S.Sink.taken c.args.out.now) (g.S.Sink.taken c.make_file.new.out))
     (sym c.in-Make.is) (c.make_file.ensures.answer told)
 
 pub returns-in-Make-clause-causes : goal.returns-in-Make-clause-causes
@@ -225,7 +213,7 @@ returns-in-Make-clause-own_draws g c = λ told drawing done.
     let file = main_of (g.D.Disk.reads c.make_file.new.disk) in
     let drawn = drop (length (g.E.Entropy.drawn c.args.entropy.now)) (g.E.Entropy.drawn c.make_file.new.entropy) in
     let command = Make c.in-Make.profile c.in-Make.rows in
-    draws_as c.args.command command (λ secrets. secrets ≡ c.args.secret.now ∷ []) file drawn c.in-Make.is
+    draws_as c.args.command command (λ given. given ≡ secrets_of c.args.secrets.now) file drawn c.in-Make.is
     (λ secrets gave. subst (λ (l : List Secret). IsDrawnFor command (same_key c.in-Make.profile l) file drawn) (sym gave) (c.make_file.ensures.own_draws told drawing done))
 
 pub returns-in-Make-clause-keeps : goal.returns-in-Make-clause-keeps
@@ -243,148 +231,18 @@ returns-in-Make-clause-changes g c = λ told.
     let tells = g.E.Entropy.tells in
     let drawn = drop (length (g.E.Entropy.drawn c.args.entropy.now)) (g.E.Entropy.drawn c.make_file.new.entropy) in
     let command = Make c.in-Make.profile c.in-Make.rows in
-    changes_as c.make_file.result c.args.command command (λ secrets. secrets ≡ c.args.secret.now ∷ []) tells drawn run c.in-Make.is
+    changes_as c.make_file.result c.args.command command (λ given. given ≡ secrets_of c.args.secrets.now) tells drawn run c.in-Make.is
     (λ secrets gave. subst (λ (l : List Secret). MakesWith c.make_file.result c.in-Make.profile c.in-Make.rows tells drawn run l) (sym gave) (c.make_file.ensures.changes told))
-
-pub returns-in-Tags-clause-untouched : goal.returns-in-Tags-clause-untouched
-returns-in-Tags-clause-untouched g c = λ told.
-    let run = disk_run g.D.Disk.reads g.D.Disk.images g.D.Disk.moment g.D.Disk.since c.args.disk.now c.tags.new.disk in
-    subst (λ (command : Asked). LeavesAlone (recovers_by command) run) (sym c.in-Tags.is) (c.tags.ensures.untouched told)
-
-pub returns-in-Header-clause-untouched : goal.returns-in-Header-clause-untouched
-returns-in-Header-clause-untouched g c = λ told.
-    let run = disk_run g.D.Disk.reads g.D.Disk.images g.D.Disk.moment g.D.Disk.since c.args.disk.now c.header.new.disk in
-    subst (λ (command : Asked). LeavesAlone (recovers_by command) run) (sym c.in-Header.is) (c.header.ensures.untouched told)
-
-pub returns-in-Verify-clause-untouched : goal.returns-in-Verify-clause-untouched
-returns-in-Verify-clause-untouched g c = λ told.
-    let run = disk_run g.D.Disk.reads g.D.Disk.images g.D.Disk.moment g.D.Disk.since c.args.disk.now c.answer_job.new.disk in
-    subst (λ (command : Asked). LeavesAlone (recovers_by command) run) (sym c.in-Verify.is) (c.answer_job.ensures.untouched told)
-
-pub returns-in-Export-clause-untouched : goal.returns-in-Export-clause-untouched
-returns-in-Export-clause-untouched g c = λ told.
-    let run = disk_run g.D.Disk.reads g.D.Disk.images g.D.Disk.moment g.D.Disk.since c.args.disk.now c.answer_job-in-Export.new.disk in
-    subst (λ (command : Asked). LeavesAlone (recovers_by command) run) (sym c.in-Export.is) (c.answer_job-in-Export.ensures.untouched told)
-
-pub returns-in-Salvage-clause-untouched : goal.returns-in-Salvage-clause-untouched
-returns-in-Salvage-clause-untouched g c = λ told.
-    let run = disk_run g.D.Disk.reads g.D.Disk.images g.D.Disk.moment g.D.Disk.since c.args.disk.now c.salvage_file.new.disk in
-    subst (λ (command : Asked). LeavesAlone (recovers_by command) run) (sym c.in-Salvage.is) (c.salvage_file.ensures.untouched told)
-
-pub returns-in-Find-clause-untouched : goal.returns-in-Find-clause-untouched
-returns-in-Find-clause-untouched g c = λ told.
-    let run = disk_run g.D.Disk.reads g.D.Disk.images g.D.Disk.moment g.D.Disk.since c.args.disk.now c.answer_job-in-Find.new.disk in
-    subst (λ (command : Asked). LeavesAlone (recovers_by command) run) (sym c.in-Find.is) (c.answer_job-in-Find.ensures.untouched told)
-
-pub returns-in-Stamp-clause-untouched : goal.returns-in-Stamp-clause-untouched
-returns-in-Stamp-clause-untouched g c = λ told.
-    let run = disk_run g.D.Disk.reads g.D.Disk.images g.D.Disk.moment g.D.Disk.since c.args.disk.now c.change_file.new.disk in
-    subst (λ (command : Asked). LeavesAlone (recovers_by command) run) (sym c.in-Stamp.is) (c.change_file.ensures.untouched told)
-
-pub returns-in-Probe-clause-untouched : goal.returns-in-Probe-clause-untouched
-returns-in-Probe-clause-untouched g c = λ told.
-    let run = disk_run g.D.Disk.reads g.D.Disk.images g.D.Disk.moment g.D.Disk.since c.args.disk.now c.probe.new.disk in
-    subst (λ (command : Asked). LeavesAlone (recovers_by command) run) (sym c.in-Probe.is) tt
 
 pub returns-in-Make-clause-untouched : goal.returns-in-Make-clause-untouched
 returns-in-Make-clause-untouched g c = λ told.
     let run = disk_run g.D.Disk.reads g.D.Disk.images g.D.Disk.moment g.D.Disk.since c.args.disk.now c.make_file.new.disk in
     subst (λ (command : Asked). LeavesAlone (recovers_by command) run) (sym c.in-Make.is) tt
 
-pub returns-in-Tags-clause-fresh_gone : goal.returns-in-Tags-clause-fresh_gone
-returns-in-Tags-clause-fresh_gone g c = λ told done beside. absurd (none_beside c.args.command (Tags c.in-Tags.profile) c.in-Tags.is refl beside)
-
-pub returns-in-Header-clause-fresh_gone : goal.returns-in-Header-clause-fresh_gone
-returns-in-Header-clause-fresh_gone g c = λ told done beside. absurd (none_beside c.args.command (Header c.in-Header.profile) c.in-Header.is refl beside)
-
-pub returns-in-Verify-clause-fresh_gone : goal.returns-in-Verify-clause-fresh_gone
-returns-in-Verify-clause-fresh_gone g c = λ told done beside. absurd (none_beside c.args.command (Verify c.in-Verify.profile) c.in-Verify.is refl beside)
-
-pub returns-in-Export-clause-fresh_gone : goal.returns-in-Export-clause-fresh_gone
-returns-in-Export-clause-fresh_gone g c = λ told done beside. absurd (none_beside c.args.command (Export c.in-Export.profile) c.in-Export.is refl beside)
-
-pub returns-in-Salvage-clause-fresh_gone : goal.returns-in-Salvage-clause-fresh_gone
-returns-in-Salvage-clause-fresh_gone g c = λ told done beside. absurd (none_beside c.args.command (Salvage c.in-Salvage.profile) c.in-Salvage.is refl beside)
-
-pub returns-in-Find-clause-fresh_gone : goal.returns-in-Find-clause-fresh_gone
-returns-in-Find-clause-fresh_gone g c = λ told done beside. absurd (none_beside c.args.command (Find c.in-Find.profile c.in-Find.name c.in-Find.low c.in-Find.high) c.in-Find.is refl beside)
-
-pub returns-in-Probe-clause-fresh_gone : goal.returns-in-Probe-clause-fresh_gone
-returns-in-Probe-clause-fresh_gone g c = λ told done beside. absurd (none_beside c.args.command Probe c.in-Probe.is refl beside)
-
-pub returns-in-Stamp-clause-fresh_gone : goal.returns-in-Stamp-clause-fresh_gone
-returns-in-Stamp-clause-fresh_gone g c = λ told done beside. absurd (none_beside c.args.command (Stamp c.in-Stamp.profile c.in-Stamp.field c.in-Stamp.value) c.in-Stamp.is refl beside)
-
 pub returns-in-Make-clause-fresh_gone : goal.returns-in-Make-clause-fresh_gone
 returns-in-Make-clause-fresh_gone g c = λ told done beside. c.make_file.ensures.fresh_gone told done
-
-pub returns-in-Tags-clause-recovered : goal.returns-in-Tags-clause-recovered
-returns-in-Tags-clause-recovered g c = λ told.
-    let run = disk_run g.D.Disk.reads g.D.Disk.images g.D.Disk.moment g.D.Disk.since c.args.disk.now c.tags.new.disk in
-    subst (λ (command : Asked). LeavesRecovered c.tags.result (alters command) (recovers_by command) run) (sym c.in-Tags.is) (c.tags.ensures.recovered told)
-
-pub returns-in-Header-clause-recovered : goal.returns-in-Header-clause-recovered
-returns-in-Header-clause-recovered g c = λ told.
-    let run = disk_run g.D.Disk.reads g.D.Disk.images g.D.Disk.moment g.D.Disk.since c.args.disk.now c.header.new.disk in
-    subst (λ (command : Asked). LeavesRecovered c.header.result (alters command) (recovers_by command) run) (sym c.in-Header.is) (c.header.ensures.recovered told)
-
-pub returns-in-Verify-clause-recovered : goal.returns-in-Verify-clause-recovered
-returns-in-Verify-clause-recovered g c = λ told.
-    let run = disk_run g.D.Disk.reads g.D.Disk.images g.D.Disk.moment g.D.Disk.since c.args.disk.now c.answer_job.new.disk in
-    subst (λ (command : Asked). LeavesRecovered c.answer_job.result (alters command) (recovers_by command) run) (sym c.in-Verify.is) (c.answer_job.ensures.recovered told)
-
-pub returns-in-Export-clause-recovered : goal.returns-in-Export-clause-recovered
-returns-in-Export-clause-recovered g c = λ told.
-    let run = disk_run g.D.Disk.reads g.D.Disk.images g.D.Disk.moment g.D.Disk.since c.args.disk.now c.answer_job-in-Export.new.disk in
-    subst (λ (command : Asked). LeavesRecovered c.answer_job-in-Export.result (alters command) (recovers_by command) run) (sym c.in-Export.is) (c.answer_job-in-Export.ensures.recovered told)
-
-pub returns-in-Salvage-clause-recovered : goal.returns-in-Salvage-clause-recovered
-returns-in-Salvage-clause-recovered g c = λ told.
-    let run = disk_run g.D.Disk.reads g.D.Disk.images g.D.Disk.moment g.D.Disk.since c.args.disk.now c.salvage_file.new.disk in
-    subst (λ (command : Asked). LeavesRecovered c.salvage_file.result (alters command) (recovers_by command) run) (sym c.in-Salvage.is) (c.salvage_file.ensures.recovered told)
-
-pub returns-in-Find-clause-recovered : goal.returns-in-Find-clause-recovered
-returns-in-Find-clause-recovered g c = λ told.
-    let run = disk_run g.D.Disk.reads g.D.Disk.images g.D.Disk.moment g.D.Disk.since c.args.disk.now c.answer_job-in-Find.new.disk in
-    subst (λ (command : Asked). LeavesRecovered c.answer_job-in-Find.result (alters command) (recovers_by command) run) (sym c.in-Find.is) (c.answer_job-in-Find.ensures.recovered told)
-
-pub returns-in-Stamp-clause-recovered : goal.returns-in-Stamp-clause-recovered
-returns-in-Stamp-clause-recovered g c = λ told.
-    let run = disk_run g.D.Disk.reads g.D.Disk.images g.D.Disk.moment g.D.Disk.since c.args.disk.now c.change_file.new.disk in
-    subst (λ (command : Asked). LeavesRecovered c.change_file.result (alters command) (recovers_by command) run) (sym c.in-Stamp.is) (c.change_file.ensures.recovered told)
-
-pub returns-in-Probe-clause-recovered : goal.returns-in-Probe-clause-recovered
-returns-in-Probe-clause-recovered g c = λ told.
-    let run = disk_run g.D.Disk.reads g.D.Disk.images g.D.Disk.moment g.D.Disk.since c.args.disk.now c.probe.new.disk in
-    subst (λ (command : Asked). LeavesRecovered c.probe.result (alters command) (recovers_by command) run) (sym c.in-Probe.is) tt
 
 pub returns-in-Make-clause-recovered : goal.returns-in-Make-clause-recovered
 returns-in-Make-clause-recovered g c = λ told.
     let run = disk_run g.D.Disk.reads g.D.Disk.images g.D.Disk.moment g.D.Disk.since c.args.disk.now c.make_file.new.disk in
     subst (λ (command : Asked). LeavesRecovered c.make_file.result (alters command) (recovers_by command) run) (sym c.in-Make.is) tt
-
-pub returns-in-Verify-clause-line : goal.returns-in-Verify-clause-line
-returns-in-Verify-clause-line g c = λ printed way. c.answer_job.ensures.line printed (λ is. cc)
-
-pub returns-in-Export-clause-line : goal.returns-in-Export-clause-line
-returns-in-Export-clause-line g c = λ printed way. c.answer_job-in-Export.ensures.line printed (λ is. cc)
-
-pub returns-in-Salvage-clause-line : goal.returns-in-Salvage-clause-line
-returns-in-Salvage-clause-line g c = λ printed way. c.salvage_file.ensures.line printed
-
-pub returns-in-Find-clause-line : goal.returns-in-Find-clause-line
-returns-in-Find-clause-line g c = λ printed way. c.answer_job-in-Find.ensures.line printed (λ is. way (ap finds c.in-Find.is))
-
-pub returns-in-Find-clause-answer : goal.returns-in-Find-clause-answer
-returns-in-Find-clause-answer g c = λ told.
-    let files = g.D.Disk.reads c.args.disk.now in
-    let status = c.answer_job-in-Find.result in
-    let before = g.S.Sink.taken c.args.out.now in
-    let after = g.S.Sink.taken c.answer_job-in-Find.new.out in
-    let low : SFits w64 c.in-Find.low = search rules in
-    let high : SFits w64 c.in-Find.high = search rules in
-    subst (λ (command : Asked). AnswersOne (secret_answers command (c.args.secret.now ∷ []) files (g.D.Disk.reads c.answer_job-in-Find.new.disk)) status g.S.Sink.tells before after)
-    (sym c.in-Find.is)
-    (subst (λ (l : List Answer). AnswersOne l status g.S.Sink.tells before after)
-    (passed (λ a b. recovered_answers c.in-Find.profile files (job_answers (FindRows c.in-Find.name a b) c.in-Find.profile c.args.secret.now)) c.in-Find.low c.in-Find.high low high)
-    (c.answer_job-in-Find.ensures.answer told))

@@ -5,11 +5,11 @@ use Rattle.edge_model.specs.Files.{main_of}
 use Rattle.pager.specs.Pages.{opened_pages}
 use Rattle.sqlcipher_tool.specs.Answer.{Answer}
 use Rattle.sqlcipher_tool.specs.Find.{find_answers}
-use Rattle.sqlcipher_tool.specs.Job.{job_due}
+use Rattle.sqlcipher_tool.specs.Reading.{job_due}
 use Rattle.sqlcipher_tool.specs.Promises.{AnswersOne}
-use Rattle.sqlcipher_tool.specs.declared.job.Job.{Job}
+use Rattle.sqlcipher_tool.specs.declared.reading.Job.{Job}
 use Rattle.sqlcipher_tool.proofs.FindAnswers.{passed}
-use Rattle.sqlcipher_tool.proofs.job.job_on_pages.Goals as goal
+use Rattle.sqlcipher_tool.proofs.reading.job_on_pages.Goals as goal
 
 pub returns-in-Find-clause-answer : goal.returns-in-Find-clause-answer
 returns-in-Find-clause-answer g c = λ told.

@@ -1,39 +1,35 @@
 use Rattle.std.proofs.Common.{ap, false}
 use Rattle.edge_model.specs.Files.{main_of}
-use Rattle.pager.specs.Pages.{opened_pages}
-use Rattle.page_codec.specs.Page.{keys_of}
-use Rattle.sqlcipher_tool.specs.Opening.{opened_with}
+use Rattle.sqlcipher_tool.specs.Reading.{reading_answers}
 use Rattle.sqlcipher_tool.specs.Recovered.{recovered_main, recovery_of}
-use Rattle.sqlcipher_tool.specs.Job.{job_answers, job_due}
-use Rattle.sqlcipher_tool.proofs.SomeDue.{after_some, job_some, opened_some}
-use Rattle.sqlcipher_tool.proofs.Recoveries.{read_after}
-use Rattle.sqlcipher_tool.proofs.Verified.{stop_one}
-use Rattle.sqlcipher_tool.proofs.VerifiedFile.{refused_due, job_recovered}
 use Rattle.sqlcipher_tool.proofs.Behind.{recovery_last}
 use Rattle.sqlcipher_tool.proofs.Changed.{stop_last}
 use Rattle.sqlcipher_tool.proofs.LeftAlone.{unwritten_read}
-use Rattle.sqlcipher_tool.proofs.job.answer_job.Goals as goal
+use Rattle.sqlcipher_tool.proofs.Readings.{reading_of_file}
+use Rattle.sqlcipher_tool.proofs.Recoveries.{read_after}
+use Rattle.sqlcipher_tool.proofs.SomeDue.{after_some, reading_some}
+use Rattle.sqlcipher_tool.proofs.Verified.{stop_one}
+use Rattle.sqlcipher_tool.proofs.VerifiedFile.{answers_recovered, refused_due}
+use Rattle.sqlcipher_tool.proofs.reading.read_file.Goals as goal
 
 pub returns-in-Ok-clause-keeps : goal.returns-in-Ok-clause-keeps
 returns-in-Ok-clause-keeps g c = λ told.
-    read_after g.met.D.Disk.counts_now (c.recover_main.ensures.keeps told) (c.job_on_main.ensures.only_read told)
+    read_after g.met.D.Disk.counts_now (c.recover_main.ensures.keeps told) (c.read_recovered.ensures.only_read told)
 
 pub returns-in-Ok-clause-unrecovered : goal.returns-in-Ok-clause-unrecovered
 returns-in-Ok-clause-unrecovered g c = λ told is.
     let main = main_of (g.D.Disk.reads c.recover_main.new.disk) in
-    let keys = keys_of c.args.profile c.args.secret.now main in
-    absurd (job_recovered c.args.job (opened_with c.args.profile c.args.secret.now main) (λ n. opened_pages keys main n) c.job_on_main.result g.S.Sink.tells
-    (g.S.Sink.taken c.args.out.now) (g.S.Sink.taken c.job_on_main.new.out) (c.job_on_main.ensures.answer told) is)
+    absurd (answers_recovered (reading_answers c.args.reading c.args.profile c.args.secret.now main) (reading_of_file c.args.reading c.args.profile c.args.secret.now main)
+    c.read_recovered.result g.S.Sink.tells (g.S.Sink.taken c.args.out.now) (g.S.Sink.taken c.read_recovered.new.out) (c.read_recovered.ensures.answer told) is)
 
 pub returns-in-Err-clause-answer : goal.returns-in-Err-clause-answer
 returns-in-Err-clause-answer g c = λ told.
     let files = g.D.Disk.reads c.args.disk.now in
     let main = recovered_main c.args.profile files in
-    let keys = keys_of c.args.profile c.args.secret.now main in
-    let answers = job_answers c.args.job c.args.profile c.args.secret.now main in
+    let answers = reading_answers c.args.reading c.args.profile c.args.secret.now main in
     let recovery = recovery_of c.args.profile files in
     stop_one _ c.in-Err.stop c.conclude_stop.result g.S.Sink.tells (g.S.Sink.taken c.args.out.now) (g.S.Sink.taken c.conclude_stop.new.out)
-    (after_some recovery answers (opened_some (opened_with c.args.profile c.args.secret.now main) (λ n. job_due c.args.job (opened_pages keys main n)) (λ n. job_some c.args.job (opened_pages keys main n))))
+    (after_some recovery answers (reading_some c.args.reading c.args.profile c.args.secret.now main))
     (refused_due recovery answers c.in-Err.stop (c.in-Err.ensures.stop told))
     c.conclude_stop.ensures.status c.conclude_stop.ensures.text
     (λ is. let failed = c.conclude_stop.ensures.disk is in (failed.0, ap g.S.Sink.taken failed.1))
@@ -41,10 +37,10 @@ returns-in-Err-clause-answer g c = λ told.
 
 pub returns-in-Ok-clause-untouched : goal.returns-in-Ok-clause-untouched
 returns-in-Ok-clause-untouched g c = λ told none.
-    unwritten_read g.met.D.Disk.counts_now (c.recover_main.ensures.keeps told).later (c.recover_main.ensures.untouched told none) (c.job_on_main.ensures.only_read told)
+    unwritten_read g.met.D.Disk.counts_now (c.recover_main.ensures.keeps told).later (c.recover_main.ensures.untouched told none) (c.read_recovered.ensures.only_read told)
 
 pub returns-in-Ok-clause-recovered : goal.returns-in-Ok-clause-recovered
-returns-in-Ok-clause-recovered g c = λ told has byte image now. c.in-Ok.ensures.done told byte image ((c.job_on_main.ensures.only_read told).same_images.no_more image now)
+returns-in-Ok-clause-recovered g c = λ told has byte image now. c.in-Ok.ensures.done told byte image ((c.read_recovered.ensures.only_read told).same_images.no_more image now)
 
 pub returns-in-Err-clause-recovered : goal.returns-in-Err-clause-recovered
 returns-in-Err-clause-recovered g c = λ told has.

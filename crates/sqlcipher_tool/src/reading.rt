@@ -1,4 +1,4 @@
-// The jobs on the pages of a file that is only read, once it is recovered and opened.
+// The commands that only read: the file is recovered, and read.
 ghost use Rattle.std.specs.Prelude.{◌≡◌, ◌≤◌, Ok, true, false, IsTrue};
 ghost use Rattle.edge_model.specs.Images.{From, LeavesOnly};
 ghost use Rattle.edge_model.specs.OnlyRead.{OnlyRead};
@@ -17,16 +17,20 @@ ghost use Rattle.sqlcipher_tool.specs.Holding.{disk_run};
 ghost use Rattle.sqlcipher_tool.specs.Opening.{AreRecovered};
 ghost use Rattle.sqlcipher_tool.specs.Promises.{AnswersOne, IsUnrecovered};
 ghost use Rattle.sqlcipher_tool.specs.Recovered.{recovered_answers};
-ghost use Rattle.sqlcipher_tool.specs.Job.{job_answers, job_due, prints_rows};
+ghost use Rattle.sqlcipher_tool.specs.Reading.{job_due, reading_answers};
 ghost use Rattle.sqlcipher_tool.specs.Untouched.{HasNoFile, IsUnwritten};
+ghost use Rattle.sqlcipher_tool.specs.Words.{asks_tags, prints_rows, shows_rows};
 
 use crate::command::Name;
 use crate::conclusion::conclude_stop;
 use crate::export::export_pages;
 use crate::find::find_pages;
+use crate::header::header;
 use crate::opening::open_main;
 use crate::recovery::recover_main;
+use crate::salvage::salvage_file;
 use crate::status::Status;
+use crate::tags::tags;
 use crate::walk::verify_pages;
 use cipher_profile::{Profile, Secret};
 use edge_model::{Disk, Entropy, Sink};
@@ -51,20 +55,47 @@ pub enum Job<'w> {
     },
 }
 
-/// A job with this secret, after a recovery.
-pub fn answer_job<S: Sink, E: Entropy, D: Disk>(
+/// What is read of a file.
+#[derive(Drop)]
+pub enum Reading<'w> {
+    /// Check the tag of every page.
+    Tags,
+    /// Print the fields of the database header.
+    Header,
+    /// Print the rows of a damaged file.
+    Salvage,
+    /// Open the file, and do this with its pages.
+    OnPages(Job<'w>),
+}
+
+impl<'w> Reading<'w> {
+    /// Whether it asks for tags that the profile has not.
+    pub fn asks_tags(&self, profile: &Profile) -> bool
+        ensures { result ≡ asks_tags profile.now self.now }
+    {
+        match self {
+            Reading::Tags => profile.tag_len == 0,
+            Reading::Header | Reading::Salvage | Reading::OnPages(_) => false,
+        }
+    }
+}
+
+/// Reads a file of the profile with this secret, after a recovery.
+pub fn read_file<S: Sink, E: Entropy, D: Disk>(
     alloc: Global,
-    job: Job<'_>,
     profile: Profile,
+    reading: Reading<'_>,
     secret: &Secret,
     out: &mut S,
     entropy: &mut E,
     disk: &mut D,
 ) -> Status
-    requires { IsListed profile }
+    requires listed { IsListed profile }
+    requires tagged { asks_tags profile reading ≡ false }
     ensures answer { IsTrue D.tells
-        → AnswersOne (recovered_answers profile (D.reads disk.old) (job_answers job.entry profile secret.now)) result S.tells (S.taken out.old) (S.taken out.new) }
-    ensures line { IsTrue S.tells → (prints_rows job.entry ≡ true → is_defect_status result ≡ false) → PutsLine result (S.taken out.old) (S.taken out.new) }
+        → AnswersOne (recovered_answers profile (D.reads disk.old) (reading_answers reading.entry profile secret.now))
+        result S.tells (S.taken out.old) (S.taken out.new) }
+    ensures line { IsTrue S.tells → (shows_rows reading.entry ≡ true → is_defect_status result ≡ false) → PutsLine result (S.taken out.old) (S.taken out.new) }
     ensures causes { HasCauses result (D.faults disk.old) (D.faults disk.new) (S.faults out.old) (S.faults out.new) }
     ensures keeps { IsTrue D.tells → LeavesOnly D.moment D.since disk.old disk.new (From (KeepsRecovered profile.page_size) (D.images disk.old)) }
     ensures draws { entropy.new ≡ entropy.old }
@@ -73,32 +104,39 @@ pub fn answer_job<S: Sink, E: Entropy, D: Disk>(
     ensures untouched { IsTrue D.tells → HasNoFile profile (D.reads disk.old) → IsUnwritten (disk_run D.reads D.images D.moment D.since disk.old disk.new) }
 {
     match recover_main(alloc, disk, profile) {
-        Ok(_) => job_on_main(alloc, job, profile, secret, out, entropy, disk),
+        Ok(_) => read_recovered(alloc, profile, reading, secret, out, entropy, disk),
         Err(stop) => conclude_stop(out, stop),
     }
 }
 
-// The job on Main as it reads.
-fn job_on_main<S: Sink, E: Entropy, D: Disk>(
+// Main is read as it is.
+fn read_recovered<S: Sink, E: Entropy, D: Disk>(
     alloc: Global,
-    job: Job<'_>,
     profile: Profile,
+    reading: Reading<'_>,
     secret: &Secret,
     out: &mut S,
     entropy: &mut E,
     disk: &mut D,
 ) -> Status
     requires listed { IsListed profile }
+    requires tagged { asks_tags profile reading ≡ false }
     requires recovered { IsTrue D.tells → AreRecovered (D.reads disk.old) (D.images disk.old) }
-    ensures answer { IsTrue D.tells → AnswersOne (job_answers job.entry profile secret.now (main_of (D.reads disk.old))) result S.tells (S.taken out.old) (S.taken out.new) }
-    ensures line { IsTrue S.tells → (prints_rows job.entry ≡ true → is_defect_status result ≡ false) → PutsLine result (S.taken out.old) (S.taken out.new) }
+    ensures answer { IsTrue D.tells
+        → AnswersOne (reading_answers reading.entry profile secret.now (main_of (D.reads disk.old))) result S.tells (S.taken out.old) (S.taken out.new) }
+    ensures line { IsTrue S.tells → (shows_rows reading.entry ≡ true → is_defect_status result ≡ false) → PutsLine result (S.taken out.old) (S.taken out.new) }
     ensures causes { HasCauses result (D.faults disk.old) (D.faults disk.new) (S.faults out.old) (S.faults out.new) }
     ensures draws { entropy.new ≡ entropy.old }
     ensures only_read { IsTrue D.tells → OnlyRead D.reads D.images D.moment D.since disk.old disk.new }
 {
-    match open_main(alloc, disk, profile, secret) {
-        Ok(file) => job_on_file(alloc, job, file, out, entropy, disk),
-        Err(stop) => conclude_stop(out, stop),
+    match reading {
+        Reading::Tags => tags(profile, secret, out, disk),
+        Reading::Header => header(alloc, profile, secret, out, entropy, disk),
+        Reading::Salvage => salvage_file(alloc, profile, secret, out, disk),
+        Reading::OnPages(job) => match open_main(alloc, disk, profile, secret) {
+            Ok(file) => job_on_file(alloc, job, file, out, entropy, disk),
+            Err(stop) => conclude_stop(out, stop),
+        },
     }
 }
 

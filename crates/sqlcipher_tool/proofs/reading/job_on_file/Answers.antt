@@ -4,10 +4,10 @@ use Rattle.db_format.specs.Pages.{Pages}
 use Rattle.edge_model.specs.Files.{main_of}
 use Rattle.pager.proofs.UnreadLemmas.{no_held_pins}
 use Rattle.rekey_job.proofs.Stopped.{pages_same}
-use Rattle.sqlcipher_tool.specs.Job.{job_due}
+use Rattle.sqlcipher_tool.specs.Reading.{job_due}
 use Rattle.sqlcipher_tool.specs.Promises.{AnswersOne}
 use Rattle.sqlcipher_tool.proofs.VerifiedFile.{opened_header}
-use Rattle.sqlcipher_tool.proofs.job.job_on_file.Goals as goal
+use Rattle.sqlcipher_tool.proofs.reading.job_on_file.Goals as goal
 
 pub job_on_pages-status-requires-clause-header : goal.job_on_pages-status-requires-clause-header
 job_on_pages-status-requires-clause-header g c = λ told some.
