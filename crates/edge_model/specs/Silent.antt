@@ -1,4 +1,4 @@
--- The members of a disk that tells no_files.
+-- The members of a disk that tells nothing.
 use Rattle.std.specs.Prelude.{◌≡◌, ℕ}
 use Rattle.std.proofs.Common.{sym, subst}
 use Rattle.edge_model.specs.Files.{Files, no_files}

@@ -1,7 +1,7 @@
 -- The header of a segment, by its bytes: Database File Format, section 3. Offsets are in bytes.
 --
 -- | offset | length | field                                                                |
--- | 0      | 8      | journal_magic                                                                |
+-- | 0      | 8      | magic                                                                        |
 -- | 8      | 4      | count of records; ffffffff: as many whole ones as the file holds     |
 -- | 12     | 4      | nonce of the checksums                                               |
 -- | 16     | 4      | initial size of the database, in pages                               |
@@ -15,7 +15,7 @@ use Rattle.journal_format.specs.Bytes.{u32_at, u32_bytes}
 abbrev pub journal_magic : List ℕ
 journal_magic = 217 ∷ 213 ∷ 5 ∷ 249 ∷ 32 ∷ 161 ∷ 99 ∷ 215 ∷ []
 
--- 28 bytes or more, of which the first 8 are the journal_magic
+-- 28 bytes or more, of which the first 8 are the magic
 abbrev pub is_header : List ℕ → Bool
 is_header bytes = nat_le 28 (length bytes) && bytes_eq (take 8 bytes) journal_magic
 

@@ -19,7 +19,7 @@ abbrev pub has_mark : ℕ → List ℕ → Bool
 has_mark sector front = sector == 512 && bytes_eq (take 16 (drop 28 front)) mark
 
 -- The journal ends in the name of a super-journal, by its sector size, its length, its first 44 bytes and its last 16. These
--- are the length of the name, a checksum and the journal_magic; the name stands before them, behind the first header.
+-- are the length of the name, a checksum and the magic; the name stands before them, behind the first header.
 abbrev pub ends_super_by : ℕ → ℕ → List ℕ → List ℕ → Bool
 ends_super_by sector end front tail =
     nat_le (sector + 17) end && not (has_mark sector front) && bytes_eq (take 8 (drop 8 tail)) journal_magic
@@ -42,12 +42,12 @@ abbrev pub sought : ℕ → ℕ → ℕ → List ℕ → ℕ
 sought size sector at journal =
     if is_open_ended at journal then (length journal - (at + sector)) / (size + 8) else count_at at journal
 
--- so many record_places of records, one after another
+-- so many places of records, one after another
 abbrev pub places_of : ℕ → ℕ → ℕ → ℕ → List Place
 places_of zero size nonce at = []
 places_of (suc n) size nonce at = record { nonce = nonce; at = at } ∷ places_of n size nonce (at + (size + 8))
 
--- The record_places of records by the headers, from the segment at an offset on. Records begin a sector behind the start of their
+-- The places of records by the headers, from the segment at an offset on. Records begin a sector behind the start of their
 -- header, and the next header is at the next multiple of the sector size; behind an open-ended segment there is none. The
 -- first number bounds how many segments there are.
 abbrev pub places_from : ℕ → ℕ → ℕ → ℕ → List ℕ → List Place
@@ -59,11 +59,11 @@ places_from (suc more) size sector at journal =
     else places_from more size sector (rounded_up sector (at + sector + sought size sector at journal * (size + 8))) journal)
     else []
 
--- the record_places of the whole journal. A segment has a byte, so there are no more of them than bytes.
+-- the places of the whole journal. A segment has a byte, so there are no more of them than bytes.
 abbrev pub record_places : ℕ → List ℕ → List Place
 record_places size journal = places_from (length journal) size (sector_at 0 journal) 0 journal
 
--- the records at these record_places, up to the first that is not good
+-- the records at these places, up to the first that is not good
 abbrev pub good_front : ℕ → List ℕ → List Place → List Record
 good_front size journal [] = []
 good_front size journal (place ∷ rest) =

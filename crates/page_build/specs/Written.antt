@@ -37,7 +37,7 @@ kind_byte TableInterior = 5
 kind_byte IndexLeaf = 10
 kind_byte TableLeaf = 13
 
--- kind, no freeblock, count of cells, start of joined_cells (65,536 as 0), no fragment
+-- kind, no freeblock, count of cells, start of content (65,536 as 0), no fragment
 abbrev pub leaf_head : Kind → ℕ → ℕ → List ℕ
 leaf_head kind count start =
     kind_byte kind ∷ 0 ∷ 0 ∷ count / 256 ∷ count % 256 ∷ start % 65536 / 256 ∷ start % 256 ∷ 0 ∷ []

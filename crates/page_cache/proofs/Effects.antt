@@ -44,7 +44,7 @@ is_there k ((i, v) ∷ es) x found = (elim (k == i) as (λ y. (k == i) ≡ y →
   | false ↦ λ t. rw t (is_there k es x (rw t at found))
 ]) refl
 
--- ---- what is shown_pages
+-- ---- what is shown
 
 shown_set : (frames : List (List ℕ)) (n k : ℕ) (h g : Held) (change : Page → Page) (es : List FrameEntry) → IsAt n k h es → change (page_in frames k h) ≡ page_in frames k g → shown_pages frames (set_value (nat_eq k) es (Some g)) ≡ changed n change (shown_pages frames es)
 shown_set frames n k h g change [] x same = elim x [ ]
