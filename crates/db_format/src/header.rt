@@ -52,6 +52,21 @@ pub enum HeaderRefusal {
     AutoVacuum,
 }
 
+/// Where a header has its change counter: an offset in bytes, as those below.
+pub const CHANGE_AT: usize = 24;
+
+/// Where it has the size of the database.
+pub const SIZE_AT: usize = 28;
+
+/// Where it has the user version.
+pub const USER_VERSION_AT: usize = 60;
+
+/// Where it has the application id.
+pub const APPLICATION_ID_AT: usize = 68;
+
+/// Where it has the change counter for which the size is valid.
+pub const VALID_FOR_AT: usize = 92;
+
 /// What a header begins with (section 1.3.1).
 const MAGIC: &[u8; 16] = b"SQLite format 3\0";
 
@@ -150,17 +165,17 @@ fn fields(plain: &[u8]) -> Header
     Header {
         page_size: page_size_of(u16_at(plain, 16)),
         reserve: plain[20] as u32,
-        change: u32_at(plain, 24),
-        size_field: u32_at(plain, 28),
+        change: u32_at(plain, CHANGE_AT),
+        size_field: u32_at(plain, SIZE_AT),
         first_trunk: u32_at(plain, 32),
         free_count: u32_at(plain, 36),
         cookie: u32_at(plain, 40),
         format: u32_at(plain, 44),
         cache: u32_at(plain, 48),
         encoding: u32_at(plain, 56),
-        user_version: u32_at(plain, 60),
-        application_id: u32_at(plain, 68),
-        valid_for: u32_at(plain, 92),
+        user_version: u32_at(plain, USER_VERSION_AT),
+        application_id: u32_at(plain, APPLICATION_ID_AT),
+        valid_for: u32_at(plain, VALID_FOR_AT),
         sqlite_number: u32_at(plain, 96),
     }
 }
@@ -178,17 +193,17 @@ pub fn write_header(header: &Header, out: &mut [u8; 100])
     put(out, 0, MAGIC);
     put_u16(out, 16, stored_page_size(header.page_size));
     put(out, 18, &[1, 1, header.reserve as u8, 64, 32, 32]);
-    put_u32(out, 24, header.change);
-    put_u32(out, 28, header.size_field);
+    put_u32(out, CHANGE_AT, header.change);
+    put_u32(out, SIZE_AT, header.size_field);
     put_u32(out, 32, header.first_trunk);
     put_u32(out, 36, header.free_count);
     put_u32(out, 40, header.cookie);
     put_u32(out, 44, header.format);
     put_u32(out, 48, header.cache);
     put_u32(out, 56, header.encoding);
-    put_u32(out, 60, header.user_version);
-    put_u32(out, 68, header.application_id);
-    put_u32(out, 92, header.valid_for);
+    put_u32(out, USER_VERSION_AT, header.user_version);
+    put_u32(out, APPLICATION_ID_AT, header.application_id);
+    put_u32(out, VALID_FOR_AT, header.valid_for);
     put_u32(out, 96, header.sqlite_number);
 }
 

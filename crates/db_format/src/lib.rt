@@ -27,7 +27,10 @@ pub use bytes::{u16_at, u32_at};
 pub use count::{CountRefusal, LARGEST_DATABASE, counted_pages};
 pub use counted::Counted;
 pub use defect::Defect;
-pub use header::{Header, HeaderRefusal, read_header, write_header};
+pub use header::{
+    APPLICATION_ID_AT, CHANGE_AT, Header, HeaderRefusal, SIZE_AT, USER_VERSION_AT, VALID_FOR_AT,
+    read_header, write_header,
+};
 pub use mem_pages::{MemPages, NoPage};
 pub use memory::OutOfMemory;
 pub use plain::plain_run;

@@ -15,7 +15,7 @@ ghost use Rattle.make_job.specs.Stops.{in_the_way, is_make_refusal};
 
 use crate::error::MakeError;
 use crate::publishing::publish_rows;
-use cipher_profile::{Profile, Secret, derive};
+use cipher_profile::{Profile, Secret};
 use db_maker::Made;
 use edge_model::{Disk, Entropy, Role};
 use page_codec::{Codec, MAGIC};
@@ -58,7 +58,7 @@ pub fn make<D: Disk, E: Entropy>(
 {
     look_for_files(disk)?;
     let salt = new_salt(&profile, entropy)?;
-    let codec = Codec::new(profile, derive(secret, &profile, &salt), salt);
+    let codec = Codec::of_secret(profile, secret, salt);
     let made = publish_rows(alloc, codec, rows, disk, entropy)?;
     Ok(made)
 }

@@ -24,7 +24,7 @@ ghost use Rattle.schema_map.specs.Schema.{schema_row};
 
 use crate::database::copy_database;
 use crate::error::MigrateError;
-use cipher_profile::{Profile, Secret, derive};
+use cipher_profile::{Profile, Secret};
 use db_format::Header;
 use edge_model::{Disk, Entropy};
 use fresh_disk::Side;
@@ -71,7 +71,7 @@ pub(crate) fn write_beside<'d, D: Disk, E: Entropy>(
         Ok(salt) => salt,
         Err(error) => return Err(error),
     };
-    let codec = Codec::new(profile, derive(secret, &profile, &salt), salt);
+    let codec = Codec::of_secret(profile, secret, salt);
     write_database(alloc, pager, codec, schema)
 }
 

@@ -3,7 +3,7 @@ ghost use Rattle.std.specs.Prelude.{◌≡◌, ◌<◌, ◌≤◌, length, take,
 ghost use Rattle.std.specs.Str.{bytes_eq};
 ghost use Rattle.cipher_profile.specs.Profile.{IsListed, is_plain};
 ghost use Rattle.page_codec.specs.MacKey.{mac_key};
-ghost use Rattle.page_codec.specs.Page.{FileKeys, accepts, bears_sign, cipher_start, deciphered, fits, keys_of, magic, tag};
+ghost use Rattle.page_codec.specs.Page.{FileKeys, accepts, bears_sign, cipher_start, deciphered, fits, keys_of, keys_with_salt, magic, tag};
 
 use crate::tag::{MAX_TAG, TagKey};
 use aes_block::Aes256;
@@ -60,6 +60,15 @@ impl Codec {
         }
     }
 
+    /// The codec that the secret gives for a file with this salt; of a plain file the salt is the magic.
+    pub fn of_secret(profile: Profile, secret: &Secret, salt: [u8; 16]) -> Codec
+        requires listed { IsListed profile }
+        requires plain { is_plain profile ≡ true → salt ≡ magic }
+        ensures { result ≡ keys_with_salt profile secret.now salt }
+    {
+        Codec::new(profile, derive(secret, &profile, &salt), salt)
+    }
+
     /// The codec that the secret gives for a file with this stored page 1, which begins with the salt where the file is encrypted.
     pub fn of_file(profile: Profile, secret: &Secret, page_1: &[u8]) -> Codec
         requires listed { IsListed profile }
@@ -71,7 +80,14 @@ impl Codec {
         if !profile.is_plain() {
             salt.copy_from_slice(&page_1[..SALT_LEN]);
         }
-        Codec::new(profile, derive(secret, &profile, &salt), salt)
+        Codec::of_secret(profile, secret, salt)
+    }
+
+    /// A second codec of the same keys, which are not derived again.
+    pub fn again(&self) -> Codec
+        ensures { result ≡ self.now }
+    {
+        Codec::new(self.profile, self.keys, self.salt)
     }
 
     /// The file's profile.

@@ -1,8 +1,8 @@
 // Opening a stored page.
-ghost use Rattle.std.specs.Prelude.{◌≡◌, ◌≤◌, ◌↔◌, ◌++◌, false, length, take, drop, IfErr, IfOk, IsOk, IsTrue};
+ghost use Rattle.std.specs.Prelude.{◌≡◌, ◌≤◌, ◌↔◌, ◌++◌, true, false, length, take, drop, IfErr, IfOk, IsOk, IsTrue};
 ghost use Rattle.cbc_mode.specs.Cbc.{cbc_decrypted};
 ghost use Rattle.cipher_profile.specs.Profile.{is_plain, usable};
-ghost use Rattle.page_codec.specs.Page.{accepts, cipher_start, deciphered, magic, opened};
+ghost use Rattle.page_codec.specs.Page.{accepts, cipher_start, deciphered, fits, magic, opened};
 
 use crate::codec::{Codec, IV_LEN, MAGIC, cipher_start};
 use cbc_mode::cbc_decrypt;
@@ -56,6 +56,23 @@ impl Codec {
             self.decipher_in_place(n, page);
         }
         Ok(())
+    }
+
+    /// Opens stored page 1 where it stands, and says so, where the key fits its file. Its tag is looked at once.
+    #[tactic(auto, unfolding(crate::specs::Page::opened))]
+    pub fn open_first(&self, page: &mut [u8]) -> bool
+        requires { length page.old ≡ self.now.profile.page_size }
+        ensures fits { result ≡ fits self.now page.old }
+        ensures opened { result ≡ true → take (usable self.now.profile) page.new ≡ opened self.now 1 page.old }
+        ensures kept { result ≡ false → page.new ≡ page.old }
+    {
+        if !self.key_fits(page) {
+            return false;
+        }
+        if !self.profile.is_plain() {
+            self.decipher_in_place(1, page);
+        }
+        true
     }
 
     // Whether the tag of stored page n is right.

@@ -1,5 +1,5 @@
 -- What a file has that opens.
-use Rattle.std.proofs.Common.{◌≡◌, ℕ, ◌*◌, ◌≤◌, Bool, true, false, List, [], ◌∷◌, length, Option, Some, None, Result, Ok, Err, refl, ap, ◌∙◌, rules, subst}
+use Rattle.std.proofs.Common.{◌≡◌, ℕ, ◌*◌, ◌≤◌, Bool, true, false, List, [], ◌∷◌, length, Option, Some, None, Result, Ok, Err, if◌then◌else◌, refl, sym, ap, ◌∙◌, rules, subst}
 use Rattle.std.specs.Prelude.{◌==◌, ◌%◌, ◌&&◌, nat_lt, not}
 use Rattle.std.specs.List.{AllByRecursion}
 use Rattle.db_format.specs.Count.{count_of_pages, largest_database, page_count, size_counts}
@@ -8,10 +8,12 @@ use Rattle.db_format.specs.declared.count.CountRefusal.{CountRefusal}
 use Rattle.db_format.specs.declared.count.CountRefusal.TheVariants.{Ragged, TooLarge, Short}
 use Rattle.db_format.specs.declared.header.Header.{Header}
 use Rattle.db_format.specs.declared.header.HeaderRefusal.{HeaderRefusal}
-use Rattle.page_codec.specs.Page.{FileKeys}
+use Rattle.page_codec.specs.Page.{FileKeys, fits}
 use Rattle.page_cache.specs.Pages.{Page}
-use Rattle.pager.specs.Opening.{Opened, file_opened, unless, with_count, with_header, first_broken, key_rules, length_rules, file_header}
+use Rattle.pager.specs.File.{first_page}
+use Rattle.pager.specs.Opening.{Opened, file_header, file_opened, first_broken, first_opened, key_rules, length_rules, unless, with_count, with_header}
 use Rattle.pager.specs.declared.opening.OpenError.{OpenError}
+use Rattle.pager.specs.declared.opening.OpenError.TheVariants.{KeyRefused}
 
 -- no rule is broken
 unless_ok : (o : Option OpenError) (r : Result Opened OpenError) (x : Opened) → unless o r ≡ Ok x → r ≡ Ok x
@@ -52,6 +54,25 @@ opened_whole keys file header n is layout =
     let inner = unless_ok (first_broken (length_rules keys.profile.page_size file)) _ x is in
     let last = unless_ok (first_broken (key_rules keys file)) _ x inner in
     subst (λ (size : ℕ). n * size ≤ length file) layout (whole_by header (length file) n (headed (length file) (file_header keys file) x last))
+
+by_key : (refused : Bool) (r : Result Opened OpenError) → unless (first_broken ((refused, KeyRefused) ∷ [])) r ≡ (if refused then Err KeyRefused else r)
+by_key true r = refl
+by_key false r = refl
+
+-- a file whose length is served opens as its page 1 says
+pub opened_by : (keys : FileKeys) (file first : List ℕ) (len : ℕ) → first_broken (length_rules keys.profile.page_size file) ≡ None
+    → first ≡ first_page keys.profile file → len ≡ length file → file_opened keys file ≡ first_opened keys first len
+opened_by keys file first len passed is long =
+    ap (λ (o : Option OpenError). unless o (unless (first_broken (key_rules keys file)) (with_header (length file) (file_header keys file)))) passed
+    ∙ by_key (not (fits keys (first_page keys.profile file))) (with_header (length file) (file_header keys file))
+    ∙ ap (λ (l : List ℕ). first_opened keys l (length file)) (sym is)
+    ∙ ap (λ (n : ℕ). first_opened keys first n) (sym long)
+
+-- one whose length is not served does not
+pub stopped_by_length : (keys : FileKeys) (file : List ℕ) (error : OpenError) → first_broken (length_rules keys.profile.page_size file) ≡ Some error
+    → file_opened keys file ≡ Err error
+stopped_by_length keys file error broken =
+    ap (λ (o : Option OpenError). unless o (unless (first_broken (key_rules keys file)) (with_header (length file) (file_header keys file)))) broken
 
 -- nothing is held
 pub none_held : (P : Page → Type 0) (held : List Page) → length held ≡ 0 → AllByRecursion P held

@@ -67,6 +67,11 @@ abbrev pub unless : Option OpenError → Result Opened OpenError → Result Open
 unless None opened = opened
 unless (Some error) opened = Err error
 
+-- what opening a file of this many bytes comes to, where this is its stored page 1
+abbrev pub first_opened : FileKeys → List ℕ → ℕ → Result Opened OpenError
+first_opened keys first len =
+    if not (fits keys first) then Err KeyRefused else with_header len (header_read (opened keys 1 first) keys.profile.page_size keys.profile.reserve)
+
 -- what opening the file comes to
 abbrev pub file_opened : FileKeys → List ℕ → Result Opened OpenError
 file_opened keys file =

@@ -1,13 +1,13 @@
 // A file is opened: its length is looked at, then whether the key fits page 1, then the header and the count of pages.
-ghost use Rattle.std.specs.Prelude.{◌≡◌, ◌≢◌, ◌⊎◌, ◌≤◌, ◌*◌, [], length, true, None, Some, Ok, Err, IfOk, OnOk, IfErr, IsTrue};
+ghost use Rattle.std.specs.Prelude.{◌≡◌, ◌≢◌, ◌⊎◌, ◌≤◌, ◌*◌, ◌^◌, length, None, Some, Ok, Err, IfOk, OnOk, IfErr, IsTrue};
 ghost use Rattle.edge_model.specs.Causes.{HasCause, Rose};
 ghost use Rattle.edge_model.specs.OnlyRead.{OnlyRead};
-ghost use Rattle.cipher_profile.specs.Profile.{IsListed, usable};
+ghost use Rattle.cipher_profile.specs.Profile.{IsListed};
 ghost use Rattle.db_format.specs.Count.{count_of_pages, largest_database};
 ghost use Rattle.db_format.specs.Header.{IsPageSize};
-ghost use Rattle.page_codec.specs.Page.{fits, keys_of, opened};
+ghost use Rattle.page_codec.specs.Page.{fits, keys_of};
 ghost use Rattle.pager.specs.File.{first_page};
-ghost use Rattle.pager.specs.Opening.{IsRefusedBy, count_error, file_header, file_opened, first_broken, header_error, key_rules, length_rules, with_count};
+ghost use Rattle.pager.specs.Opening.{count_error, file_opened, first_broken, first_opened, header_error, length_rules, with_count};
 ghost use Rattle.edge_model.specs.Files.{main_of};
 
 use crate::main_file::{MAX_PAGE, file_length, read_page};
@@ -107,8 +107,41 @@ pub(crate) struct Counted {
     pub count: u32,
 }
 
+/// Opens Main with the keys that the secret gives.
+pub(crate) fn open_main<D: Disk>(
+    disk: &mut D,
+    profile: Profile,
+    secret: &Secret,
+) -> Result<(Codec, Counted), OpenError>
+    requires { IsListed profile }
+    ensures opens { IfOk result (λ found. IsTrue D.tells → file_opened (keys_of profile secret.now (main_of (D.reads disk.old))) (main_of (D.reads disk.old))
+        ≡ Ok (record { header = found.1.header; count = found.1.count })) }
+    ensures codec { IfOk result (λ found. IsTrue D.tells → found.0 ≡ keys_of profile secret.now (main_of (D.reads disk.old))) }
+    ensures profile { IfOk result (λ found. found.0.profile ≡ profile) }
+    ensures some { IfOk result (λ found. 1 ≤ found.1.count) }
+    ensures largest { IfOk result (λ found. found.1.count * profile.page_size ≤ largest_database) }
+    ensures layout { IfOk result (λ found. found.1.header.page_size ≡ profile.page_size) }
+    ensures limits { IfOk result (λ found. (found.1.header.format ≤ 4) × (found.1.header.encoding ≤ 3)) }
+    ensures refused { IfErr result (λ error. IsTrue D.tells → (error ≡ OpenError.DiskFault)
+        ⊎ (file_opened (keys_of profile secret.now (main_of (D.reads disk.old))) (main_of (D.reads disk.old)) ≡ Err error)) }
+    ensures fed { IfErr result (λ error. error ≢ OpenError.OutOfMemory) }
+    ensures fault { IfErr result (λ error. error ≡ OpenError.DiskFault → Rose (D.faults disk.old) (D.faults disk.new)) }
+    ensures later { D.faults disk.old ≤ D.faults disk.new }
+    ensures only_read { IsTrue D.tells → OnlyRead D.reads D.images D.moment D.since disk.old disk.new }
+{
+    let _usable = profile.usable();
+    let mut buffer = [0u8; MAX_PAGE];
+    let page = &mut buffer[..profile.page_size as usize];
+    let len = read_first(disk, &profile, page)?;
+    let codec = Codec::of_file(profile, secret, page);
+    match open_first(&codec, page, len) {
+        Ok(found) => Ok((codec, found)),
+        Err(error) => Err(error),
+    }
+}
+
 /// Opens Main with this codec.
-pub(crate) fn open_main<D: Disk>(disk: &mut D, codec: &Codec) -> Result<Counted, OpenError>
+pub(crate) fn open_under<D: Disk>(disk: &mut D, codec: &Codec) -> Result<Counted, OpenError>
     ensures opens { IfOk result (λ found. IsTrue D.tells → file_opened codec.now (main_of (D.reads disk.old)) ≡ Ok (record { header = found.header; count = found.count })) }
     ensures some { IfOk result (λ found. 1 ≤ found.count) }
     ensures largest { IfOk result (λ found. found.count * codec.now.profile.page_size ≤ largest_database) }
@@ -120,47 +153,56 @@ pub(crate) fn open_main<D: Disk>(disk: &mut D, codec: &Codec) -> Result<Counted,
     ensures later { D.faults disk.old ≤ D.faults disk.new }
     ensures only_read { IsTrue D.tells → OnlyRead D.reads D.images D.moment D.since disk.old disk.new }
 {
-    let length = served_length(disk, codec.profile())?;
-    match main_header(disk, codec)? {
-        Ok(header) => count_main(header, length),
-        Err(refusal) => Err(header_error(refusal)),
-    }
+    let profile = codec.profile();
+    let _usable = profile.usable();
+    let mut buffer = [0u8; MAX_PAGE];
+    let page = &mut buffer[..profile.page_size as usize];
+    let len = read_first(disk, profile, page)?;
+    open_first(codec, page, len)
 }
 
-// The header of Main, where the key fits page 1.
-fn main_header<D: Disk>(
-    disk: &mut D,
-    codec: &Codec,
-) -> Result<Result<Header, HeaderRefusal>, OpenError>
-    requires { IsTrue D.tells → codec.now.profile.page_size ≤ length (main_of (D.reads disk.old)) }
-    ensures told { IfOk result (λ header. IsTrue D.tells → header ≡ file_header codec.now (main_of (D.reads disk.old))) }
-    ensures passed { OnOk result (IsTrue D.tells → first_broken (key_rules codec.now (main_of (D.reads disk.old))) ≡ None) }
-    ensures layout { IfOk result (λ header. IfOk header (λ header. header.page_size ≡ codec.now.profile.page_size)) }
-    ensures limits { IfOk result (λ header. IfOk header (λ header. (header.format ≤ 4) × (header.encoding ≤ 3))) }
+// Page 1 of Main as it is stored, where Main has a page of this profile. Answers the length of Main.
+fn read_first<D: Disk>(disk: &mut D, profile: &Profile, page: &mut [u8]) -> Result<u64, OpenError>
+    requires size { length page.old ≡ profile.now.page_size }
+    requires most { length page.old ≤ 2 ^ 16 }
+    ensures told { IfOk result (λ len. IsTrue D.tells → len ≡ length (main_of (D.reads disk.old))) }
+    ensures passed { OnOk result (IsTrue D.tells → first_broken (length_rules profile.now.page_size (main_of (D.reads disk.old))) ≡ None) }
+    ensures read { OnOk result (IsTrue D.tells → page.new ≡ first_page profile.now (main_of (D.reads disk.old))) }
+    ensures page { IfOk result (λ len. profile.now.page_size ≤ len) }
     ensures refused { IfErr result (λ error. IsTrue D.tells → (error ≡ OpenError.DiskFault)
-        ⊎ (first_broken (key_rules codec.now (main_of (D.reads disk.old))) ≡ Some error)) }
+        ⊎ (first_broken (length_rules profile.now.page_size (main_of (D.reads disk.old))) ≡ Some error)) }
     ensures fed { IfErr result (λ error. error ≢ OpenError.OutOfMemory) }
     ensures fault { IfErr result (λ error. error ≡ OpenError.DiskFault → Rose (D.faults disk.old) (D.faults disk.new)) }
     ensures later { D.faults disk.old ≤ D.faults disk.new }
     ensures only_read { IsTrue D.tells → OnlyRead D.reads D.images D.moment D.since disk.old disk.new }
 {
-    let profile = *codec.profile();
-    let usable = profile.usable();
-    let mut buffer = [0u8; MAX_PAGE];
-    let page = &mut buffer[..profile.page_size as usize];
-    if read_page(disk, 1, page).is_err() {
-        return Err(OpenError::DiskFault);
+    let len = served_length(disk, profile)?;
+    match read_page(disk, 1, page) {
+        Ok(()) => Ok(len),
+        Err(_) => Err(OpenError::DiskFault),
     }
-    if !codec.key_fits(page) {
+}
+
+// What a file of this many bytes has, where this is its stored page 1: it is opened where it stands, if the key fits.
+fn open_first(codec: &Codec, page: &mut [u8], len: u64) -> Result<Counted, OpenError>
+    requires size { length page.old ≡ codec.now.profile.page_size }
+    requires page { codec.now.profile.page_size ≤ len }
+    ensures opens { IfOk result (λ found. first_opened codec.now page.old len ≡ Ok (record { header = found.header; count = found.count })) }
+    ensures refused { IfErr result (λ error. first_opened codec.now page.old len ≡ Err error) }
+    ensures some { IfOk result (λ found. 1 ≤ found.count) }
+    ensures largest { IfOk result (λ found. found.count * codec.now.profile.page_size ≤ largest_database) }
+    ensures layout { IfOk result (λ found. found.header.page_size ≡ codec.now.profile.page_size) }
+    ensures limits { IfOk result (λ found. (found.header.format ≤ 4) × (found.header.encoding ≤ 3)) }
+    ensures of_file { IfErr result (λ error. (error ≢ OpenError.DiskFault) × (error ≢ OpenError.OutOfMemory)) }
+{
+    if !codec.open_first(page) {
         return Err(OpenError::KeyRefused);
     }
-    match codec.open_in_place(1, page) {
-        Ok(()) => {
-            let plain = &page[..usable];
-            Ok(read_header(plain, profile.page_size, profile.reserve))
-        }
-        // A key that fits opens page 1.
-        Err(_) => Err(OpenError::KeyRefused),
+    let profile = codec.profile();
+    let plain = &page[..profile.usable()];
+    match read_header(plain, profile.page_size, profile.reserve) {
+        Ok(header) => count_main(header, len),
+        Err(refusal) => Err(header_error(refusal)),
     }
 }
 

@@ -9,7 +9,8 @@ use Rattle.cipher_profile.specs.declared.key_line.KeyError.{KeyError}
 use Rattle.cipher_profile.specs.declared.keys.Secret.{Secret}
 use Rattle.cipher_profile.specs.declared.key_line.KeyError.TheVariants.{KeyMissing, KeyEmpty, KeyTooLong, KeyForm, SourceFault}
 use Rattle.cipher_profile.specs.KeyCauses.{UnlessFault}
-use Rattle.sqlcipher_tool.specs.Answer.{Answer, IsAnswer, IsAnswered, IsFault, IsKeyStatus, Puts, PutsPart}
+use Rattle.text_lines.specs.Text.{PutsPart}
+use Rattle.sqlcipher_tool.specs.Answer.{Answer, IsAnswer, IsAnswered, IsFault, IsKeyStatus, Puts}
 use Rattle.sqlcipher_tool.specs.Crash.{KeepsHeld}
 use Rattle.sqlcipher_tool.specs.Due.{and_secrets, key_answer, key_lines, keyed_answers, rest_line, secret_answers, secret_line}
 use Rattle.sqlcipher_tool.specs.declared.command.Command.{Command}

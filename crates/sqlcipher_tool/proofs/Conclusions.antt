@@ -2,7 +2,8 @@
 use Rattle.std.proofs.Common.{◌≡◌, ◌⊎◌, ⊎_elim, inl, inr, ℕ, List, [], Option, Some, Result, Ok, Err, unwrap_or, refl, sym, ap, ◌∙◌, subst, append-nil}
 use Rattle.rollback_journal.specs.declared.recovery.Recovery.{Recovery}
 use Rattle.rollback_journal.specs.declared.recovery.RecoverError.{RecoverError}
-use Rattle.sqlcipher_tool.specs.Answer.{Answer, Puts, PutsPart, refused, key_refused}
+use Rattle.text_lines.specs.Text.{PutsPart}
+use Rattle.sqlcipher_tool.specs.Answer.{Answer, Puts, refused, key_refused}
 use Rattle.sqlcipher_tool.specs.declared.opening.Stop.{Stop}
 use Rattle.sqlcipher_tool.specs.declared.opening.Stop.TheVariants.{Refused as StopRefused, KeyRefused as StopKey, DiskFault as StopDisk, OutOfMemory as StopMemory}
 use Rattle.sqlcipher_tool.specs.declared.status.Status.{Status}

@@ -17,7 +17,8 @@ use Rattle.pager.specs.Causes.{MayRefuse}
 use Rattle.pager.specs.declared.fill.PageError.{PageError}
 use Rattle.pager.specs.declared.fill.PageError.TheVariants.{OutOfRange, TagRefused, DiskFault as PageFault, EntropyFault as DrawFault, AllPinned}
 use Rattle.schema_map.specs.Parts.{IsEarliest}
-use Rattle.sqlcipher_tool.specs.Answer.{Answer, IsFault, Puts, PutsLine, PutsPart, done, refused}
+use Rattle.text_lines.specs.Text.{PutsPart}
+use Rattle.sqlcipher_tool.specs.Answer.{Answer, IsFault, Puts, PutsLine, done, refused}
 use Rattle.sqlcipher_tool.specs.Export.{content_answers}
 use Rattle.sqlcipher_tool.specs.Promises.{AnswersOne, PutsSo}
 use Rattle.sqlcipher_tool.specs.Stop.{stop_answer}

@@ -27,7 +27,8 @@ use Rattle.rowid_find.specs.Table.{IsSearchedSchema, IsTableRead, IsTableStop, T
 use Rattle.rowid_find.proofs.SearchSteps.{text_both}
 use Rattle.rowid_find.proofs.SoundFound.{sound_reach}
 use Rattle.schema_map.proofs.SoundParts.{sound_faults, sound_refusals}
-use Rattle.sqlcipher_tool.specs.Answer.{Answer, IsFault, Puts, PutsLine, PutsPart, done, is_defect_status, refused}
+use Rattle.text_lines.specs.Text.{PutsPart}
+use Rattle.sqlcipher_tool.specs.Answer.{Answer, IsFault, Puts, PutsLine, done, is_defect_status, refused}
 use Rattle.sqlcipher_tool.specs.Find.{before_stop, ended_answer, find_answers, first_stop, met_answer, table_answer}
 use Rattle.sqlcipher_tool.specs.Promises.{AnswersOne, PutsSo}
 use Rattle.sqlcipher_tool.specs.Stop.{stop_answer}

@@ -21,14 +21,6 @@ use Rattle.sqlcipher_tool.proofs.StampedFields.{field_length}
 pub ciphered_salt : (profile : Profile) (file : List ℕ) → is_plain profile ≡ false → salt_of file ≡ codec_salt profile file
 ciphered_salt profile file ciphered = sym (ap (λ (b : Bool). if b then magic else salt_of file) ciphered)
 
--- the first 16 bytes of a file are the salt of its codec, where they are the magic of a plain one
-pub kept_salt : (profile : Profile) (salt file : List ℕ) → salt ≡ salt_of file → (is_plain profile ≡ true → salt ≡ magic) → salt ≡ codec_salt profile file
-kept_salt profile salt file same plain = by_plain (is_plain profile) refl
-  where
-    by_plain : (b : Bool) → is_plain profile ≡ b → salt ≡ codec_salt profile file
-    by_plain true is = plain is ∙ sym (ap (λ (b : Bool). if b then magic else salt_of file) is)
-    by_plain false is = same ∙ ciphered_salt profile file is
-
 -- page 1 begins as the file
 pub first_of_page : (size : ℕ) (file : List ℕ) → 16 ≤ size → take 16 (take size (drop ((1 - 1) * size) file)) ≡ take 16 file
 first_of_page size file large =

@@ -24,7 +24,7 @@ use Rattle.sqlcipher_tool.specs.declared.reading.Job.TheVariants.{Verify, Export
 use Rattle.sqlcipher_tool.specs.declared.reading.Reading.TheVariants.{Tags, Header, Salvage, OnPages}
 use Rattle.sqlcipher_tool.specs.Opening.{opened_with}
 use Rattle.sqlcipher_tool.specs.Plain.{IsClean}
-use Rattle.sqlcipher_tool.specs.Servable.{CanBeServed, HasServablePages, HasTags, IsProbed, IsReadCommand, IsServable, standing}
+use Rattle.sqlcipher_tool.specs.Servable.{CanBeServed, HasServablePages, HasTags, IsProbed, IsForAnySize, IsServable, standing}
 use Rattle.sqlcipher_tool.proofs.Completeness.{listed_some}
 use Rattle.sqlcipher_tool.proofs.Databases.{counted_pages}
 use Rattle.sqlcipher_tool.proofs.MadeFile.{made_clean}
@@ -70,7 +70,7 @@ module _ (profile : Profile) (secret : Secret) (rows : ℕ) (file : File) (fresh
     fit = both_true (le_true profile.page_size (length file.bytes) is_open.long) is_open.fit;
   }
 
-  pub made_servable : (second : Secret) (command : Command) → IsReadCommand profile command → IsServable command (secret ∷ second ∷ []) (standing file fresh)
+  pub made_servable : (second : Secret) (command : Command) → IsForAnySize profile command → IsServable command (secret ∷ second ∷ []) (standing file fresh)
   made_servable second Probe is = probed is
   made_servable second (Recover other) is = refl
   made_servable second (Read other Tags) is =

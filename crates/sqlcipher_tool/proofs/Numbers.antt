@@ -1,12 +1,11 @@
--- Tests of numbers, and a number of the command line, as it is parsed.
-use Rattle.std.proofs.Common.{◌≡◌, ◌==◌, ◌&&◌, ◌≤◌, ◌<◌, ◌^◌, ℕ, Bool, true, false, cond, List, [], ◌∷◌, length, drop, Some, None, refl, sym, ap, subst, ◌∙◌, arith, rules}
-use Rattle.std.specs.Prelude.{slice_index, nat_le, nat_lt, if◌then◌else◌}
+-- Tests of numbers, and digits of a word, as they are parsed.
+use Rattle.std.proofs.Common.{◌≡◌, ◌==◌, ◌≤◌, ◌<◌, ℕ, Bool, true, false, cond, List, [], ◌∷◌, drop, refl, ap, rules}
+use Rattle.std.specs.Prelude.{slice_index, nat_le, nat_lt}
 use Rattle.std.specs.Char.{digit_value}
 use Rattle.std.specs.List.{list_all}
-use Rattle.std.specs.Str.Parse.{AllDigits, IsNumeral, digits_value, without_leading_plus}
+use Rattle.std.specs.Str.Parse.{AllDigits, without_leading_plus}
 use Rattle.std.specs.Cmp.Derive.{both_true}
 use Rattle.pager.proofs.BatchLemmas.{and_true}
-use Rattle.sqlcipher_tool.specs.Words.{is_number, number_named}
 
 pub le_true : (a b : ℕ) → a ≤ b → nat_le a b ≡ true
 le_true a b le = search (rules, le)
@@ -26,7 +25,7 @@ no_less a b is = search rules
 pub no_more : (a b : ℕ) → b ≤ a → nat_lt a b ≡ false
 no_more a b le = search (rules, le)
 
--- ---- a number of the command line
+-- ---- a word of digits
 
 pub tested : (w : List ℕ) → AllDigits 10 w → list_all (λ digit. nat_lt (digit_value digit) 10) w ≡ true
 tested [] all = refl
@@ -41,39 +40,3 @@ all_digits (c ∷ cs) is =
 -- no plus stands first
 pub plain_word : (w : List ℕ) → (slice_index w 0 == 43) ≡ false → without_leading_plus w ≡ w
 plain_word w is = ap (λ (b : Bool). drop (cond b 1 0) w) is
-
-abbrev Parses : List ℕ → Type 0
-Parses w = IsNumeral 10 w × (digits_value 10 w < 2 ^ 32)
-
-is_named : (w : List ℕ) → length w ≤ 10 → Parses w → is_number w ≡ true
-is_named w few parses =
-    both_true (both_true (both_true (le_true 1 (length w) parses.0.0) (le_true (length w) 10 few)) (tested w parses.0.1))
-    (le_true (digits_value 10 w) 4294967295 (below (digits_value 10 w) parses.1))
-  where
-    below : (n : ℕ) → n < 2 ^ 32 → n ≤ 4294967295
-    below n less = let most : n < 4294967296 = less in omega (arith, most)
-
-parses_so : (w : List ℕ) → is_number w ≡ true → Parses w
-parses_so w is =
-    let one = and_true (nat_le 1 (length w) && nat_le (length w) 10 && list_all (λ digit. nat_lt (digit_value digit) 10) w) (nat_le (digits_value 10 w) 4294967295) is in
-    let two = and_true (nat_le 1 (length w) && nat_le (length w) 10) (list_all (λ digit. nat_lt (digit_value digit) 10) w) one.0 in
-    let three = and_true (nat_le 1 (length w)) (nat_le (length w) 10) two.0 in
-    ((true_le 1 (length w) three.0, all_digits w two.1), above (digits_value 10 w) (true_le (digits_value 10 w) 4294967295 one.1))
-  where
-    above : (n : ℕ) → n ≤ 4294967295 → n < 2 ^ 32
-    above n le = let less : n < 4294967296 = omega (arith, le) in less
-
-pub named : (w : List ℕ) (n : ℕ) → length w ≤ 10 → (slice_index w 0 == 43) ≡ false → Parses (without_leading_plus w) → n ≡ digits_value 10 (without_leading_plus w)
-    → Some n ≡ number_named w
-named w n few plain parses is =
-    let same = plain_word w plain in
-    let yes = is_named w few (subst (λ (l : List ℕ). Parses l) same parses) in
-    ap (λ (k : ℕ). Some k) (is ∙ ap (λ (l : List ℕ). digits_value 10 l) same)
-    ∙ sym (ap (λ (b : Bool). if b then Some (digits_value 10 w) else None) yes)
-
-pub not_named : (w : List ℕ) → (slice_index w 0 == 43) ≡ false → (Parses (without_leading_plus w) → ⊥) → None ≡ number_named w
-not_named w plain fails = by_test (is_number w) refl
-  where
-    by_test : (b : Bool) → is_number w ≡ b → None ≡ (if b then Some (digits_value 10 w) else None)
-    by_test true is = absurd (fails (subst (λ (l : List ℕ). Parses l) (sym (plain_word w plain)) (parses_so w is)))
-    by_test false is = refl

@@ -52,10 +52,3 @@ unopened_told (StopRefused refusal) (Ok opened) is =
 unopened_told (StopRefused refusal) (Err error) is =
     ⊎_elim (λ outside. ⊎_elim (λ (disk : StopRefused refusal ≡ StopDisk). cc) (λ (memory : StopRefused refusal ≡ StopMemory). cc) outside)
     (λ same. inr (inr same)) is
-
--- the file is the same, whichever read of it gave the codec
-pub same_opening : (profile : Profile) (secret : Secret) (main mid end : List ℕ) (codec : FileKeys) → mid ≡ main → end ≡ mid → codec ≡ keys_of profile secret mid
-    → file_opened codec end ≡ opened_with profile secret main
-same_opening profile secret main mid end codec first next is =
-    ap (λ (keys : FileKeys). file_opened keys end) (is ∙ ap (λ (l : List ℕ). keys_of profile secret l) first)
-    ∙ ap (λ (l : List ℕ). file_opened (keys_of profile secret main) l) (next ∙ first)

@@ -1,7 +1,8 @@
 -- The answer of `tags`, by the first page that is not accepted.
 use Rattle.std.proofs.Common.{◌≡◌, ◌++◌, ℕ, List, [], ◌∷◌, Some, None, refl, sym, ap, ◌∙◌, append-nil}
 use Rattle.std.specs.Prelude.{slice_get}
-use Rattle.sqlcipher_tool.specs.Answer.{PutsPart, done}
+use Rattle.text_lines.specs.Text.{PutsPart}
+use Rattle.sqlcipher_tool.specs.Answer.{done}
 use Rattle.sqlcipher_tool.specs.declared.status.Refusal.TheVariants.{PageTag}
 use Rattle.sqlcipher_tool.specs.declared.status.Status.TheVariants.{Refused}
 use Rattle.sqlcipher_tool.specs.Tags.{pages_answer}

@@ -5,7 +5,7 @@ use Rattle.std.specs.Option.{option_or}
 use Rattle.std.proofs.lemmas.List.Elements.{filter-append}
 use Rattle.std.proofs.lemmas.List.Concat.{flat_map-append}
 use Rattle.db_format.specs.Pages.{Test}
-use Rattle.sqlcipher_tool.specs.Answer.{PutsPart}
+use Rattle.text_lines.specs.Text.{PutsPart}
 use Rattle.sqlcipher_tool.specs.Tags.{page_numbers, number_where, numbers_where}
 use Rattle.sqlcipher_tool.specs.Text.{tag_line, tag_lines}
 

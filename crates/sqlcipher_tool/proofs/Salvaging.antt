@@ -14,7 +14,8 @@ use Rattle.pager.specs.declared.opening.OpenError.TheVariants.{Empty, Short, Too
 use Rattle.pager.proofs.BatchLemmas.{and_true, number_in, number_is}
 use Rattle.salvage_scan.specs.Salvage.{IsNoneAccepted, salvage_lines}
 use Rattle.salvage_scan.specs.Text.{salvage_report}
-use Rattle.sqlcipher_tool.specs.Answer.{Answer, IsFault, Puts, PutsPart, done, first_answer, key_refused}
+use Rattle.text_lines.specs.Text.{PutsPart}
+use Rattle.sqlcipher_tool.specs.Answer.{Answer, IsFault, Puts, done, first_answer, key_refused}
 use Rattle.sqlcipher_tool.specs.Opening.{open_answer}
 use Rattle.sqlcipher_tool.specs.Promises.{AnswersOne}
 use Rattle.sqlcipher_tool.specs.Salvage.{file_pages, opens_none, salvage_answer, salvage_causes, salvaged_answer}

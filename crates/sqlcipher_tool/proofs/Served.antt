@@ -6,13 +6,14 @@ use Rattle.std.specs.Str.{bytes_eq}
 use Rattle.cipher_profile.specs.declared.profile.Profile.{Profile}
 use Rattle.cipher_profile.specs.Profile.{IsListed, profile_named}
 use Rattle.cipher_profile.proofs.Names.{named_listed}
+use Rattle.text_lines.specs.Numbers.{number_named}
 use Rattle.sqlcipher_tool.specs.declared.command.Command.{Command}
 use Rattle.sqlcipher_tool.specs.declared.command.Command.TheVariants.{Probe, Recover, Read}
 use Rattle.sqlcipher_tool.specs.declared.change.Change.{Change}
 use Rattle.sqlcipher_tool.specs.declared.change.Change.TheVariants.{Rekey, Migrate}
 use Rattle.sqlcipher_tool.specs.declared.reading.Job.TheVariants.{Verify, Export}
 use Rattle.sqlcipher_tool.specs.declared.reading.Reading.TheVariants.{Tags, Header, Salvage, OnPages}
-use Rattle.sqlcipher_tool.specs.Words.{IsChangeServed, IsServed, field_named, find_form, form, make_form, number_named, rowid_named, stamp_form, two_profiles}
+use Rattle.sqlcipher_tool.specs.Words.{IsChangeServed, IsServed, field_named, find_form, form, make_form, rowid_named, stamp_form, two_profiles}
 
 -- none, or a command that is served
 abbrev MaybeServed : Option Command → Type 0

@@ -24,7 +24,8 @@ use Rattle.pager.specs.Causes.{MayRefuse}
 use Rattle.space_map.specs.FreeMap.{FreePages}
 use Rattle.pager.specs.declared.fill.PageError.{PageError}
 use Rattle.pager.specs.declared.fill.PageError.TheVariants.{OutOfRange, TagRefused, DiskFault as PageFault, EntropyFault as DrawFault, AllPinned}
-use Rattle.sqlcipher_tool.specs.Answer.{Answer, Puts, PutsPart, done, refused, key_refused}
+use Rattle.text_lines.specs.Text.{PutsPart}
+use Rattle.sqlcipher_tool.specs.Answer.{Answer, Puts, done, refused, key_refused}
 use Rattle.sqlcipher_tool.specs.Plain.{is_left, refused_but, refused_in_use}
 use Rattle.sqlcipher_tool.specs.Promises.{AnswersOne}
 use Rattle.sqlcipher_tool.specs.Stop.{stop_answer}

@@ -1,6 +1,7 @@
 -- The answer of a run: its status, and what it prints.
 use Rattle.std.specs.Prelude.{◌≡◌, ◌⊎◌, ◌≤◌, ℕ, Bool, true, false, IsTrue, List, [], ◌∷◌, ◌++◌, Option, Some, None, if◌then◌else◌}
 use Rattle.edge_model.specs.Causes.{Rose}
+use Rattle.text_lines.specs.Text.{PutsPart}
 use Rattle.sqlcipher_tool.specs.declared.status.Refusal.{Refusal}
 use Rattle.sqlcipher_tool.specs.declared.status.Refusal.TheVariants.{NoTags, LayoutDiffers, KeyMissing, KeyEmpty, KeyTooLong, KeyForm, FileThere, JournalThere, Empty, Short, HeaderFault, WalMode, AutoVacuum, Ragged, TooLarge, PageTag, JournalPageSize, SuperJournal, Defect, TooManyPages, NoTable}
 use Rattle.sqlcipher_tool.specs.declared.status.Status.{Status}
@@ -58,13 +59,6 @@ IsFault OutputFault = Unit {0}
 IsFault InputFault = Unit {0}
 IsFault EntropyFault = Unit {0}
 IsFault OutOfMemory = Unit {0}
-
--- a prefix of the text was appended
-pub record PutsPart (text before after : List ℕ) : Type 0 where
-  pub put : List ℕ
-  pub rest : List ℕ
-  pub whole : text ≡ put ++ rest
-  pub appended : after ≡ before ++ put
 
 -- the whole text was appended, or after a fault a prefix of it
 abbrev pub Puts : Status → List ℕ → List ℕ → List ℕ → Type 0

@@ -135,20 +135,20 @@ pub record CanBeServed (words : List (List ℕ)) (left : List ℕ) (files : File
 abbrev pub standing : File → Option File → Files
 standing file fresh = record { main = Some file; journal = None; fresh = fresh }
 
--- the command reads a file of this profile, and nothing of what it asks rests on the size of the content; `probe` finds no plain file
-abbrev pub IsReadCommand : Profile → Command → Type 0
-IsReadCommand profile Probe = is_plain profile ≡ false
-IsReadCommand profile (Recover other) = other ≡ profile
-IsReadCommand profile (Read other Tags) = other ≡ profile
-IsReadCommand profile (Read other Header) = other ≡ profile
-IsReadCommand profile (Read other Salvage) = other ≡ profile
-IsReadCommand profile (Read other (OnPages Verify)) = other ≡ profile
-IsReadCommand profile (Read other (OnPages Export)) = other ≡ profile
-IsReadCommand profile (Read other (OnPages (Find name low high))) = ⊥
-IsReadCommand profile (ChangeFile old (Stamp field value)) = old ≡ profile
-IsReadCommand profile (ChangeFile old (Rekey new)) = old ≡ profile
-IsReadCommand profile (ChangeFile old (Migrate new)) = ⊥
-IsReadCommand profile (Make other rows) = ⊥
+-- the command is on a file of this profile, and whether it can be carried out rests on no size of the content; `probe` finds no plain file
+abbrev pub IsForAnySize : Profile → Command → Type 0
+IsForAnySize profile Probe = is_plain profile ≡ false
+IsForAnySize profile (Recover other) = other ≡ profile
+IsForAnySize profile (Read other Tags) = other ≡ profile
+IsForAnySize profile (Read other Header) = other ≡ profile
+IsForAnySize profile (Read other Salvage) = other ≡ profile
+IsForAnySize profile (Read other (OnPages Verify)) = other ≡ profile
+IsForAnySize profile (Read other (OnPages Export)) = other ≡ profile
+IsForAnySize profile (Read other (OnPages (Find name low high))) = ⊥
+IsForAnySize profile (ChangeFile old (Stamp field value)) = old ≡ profile
+IsForAnySize profile (ChangeFile old (Rekey new)) = old ≡ profile
+IsForAnySize profile (ChangeFile old (Migrate new)) = ⊥
+IsForAnySize profile (Make other rows) = ⊥
 
 -- ---- what follows
 

@@ -1,5 +1,5 @@
 -- What is printed. Each line ends with a line feed, and numbers are decimal.
-use Rattle.std.specs.Prelude.{ℕ, ◌==◌, ◌&&◌, not, List, [], ◌∷◌, ◌++◌, codes, decimal, if◌then◌else◌}
+use Rattle.std.specs.Prelude.{ℕ, ◌==◌, ◌&&◌, not, List, [], ◌++◌, codes, decimal, if◌then◌else◌}
 use Rattle.std.specs.Fmt.{signed_decimal}
 use Rattle.std.specs.List.{flat_map}
 use Rattle.btree_model.specs.Parts.{Counts}
@@ -9,6 +9,7 @@ use Rattle.db_format.specs.declared.defect.Defect.TheVariants.{TrunkFault, FreeC
 use Rattle.db_format.specs.declared.header.Header.{Header}
 use Rattle.rollback_journal.specs.declared.recovery.Recovery.{Recovery}
 use Rattle.rollback_journal.specs.declared.recovery.Recovery.TheVariants.{Nothing, Cold, Played}
+use Rattle.text_lines.specs.Text.{line, field_line}
 use Rattle.sqlcipher_tool.specs.declared.status.Refusal.{Refusal}
 use Rattle.sqlcipher_tool.specs.declared.status.Refusal.TheVariants.{NoTags, LayoutDiffers, KeyMissing, KeyEmpty, KeyTooLong, KeyForm, FileThere, JournalThere, Empty, Short, HeaderFault, WalMode, AutoVacuum, Ragged, TooLarge, PageTag, JournalPageSize, SuperJournal, Defect as RefusedDefect, TooManyPages, NoTable}
 
@@ -56,9 +57,6 @@ refusal_text (RefusedDefect defect) = defect_text defect
 refusal_text (TooManyPages limit) = codes "too many pages: limit " ++ decimal limit
 refusal_text NoTable = codes "no such table"
 
-abbrev pub line : List ℕ → List ℕ
-line text = text ++ 10 ∷ []
-
 abbrev pub refusal_line : Refusal → List ℕ
 refusal_line refusal = line (refusal_text refusal)
 
@@ -94,10 +92,6 @@ profile_word profile =
 -- what `probe` prints
 abbrev pub probe_report : Profile → List ℕ
 probe_report profile = line (codes "profile " ++ profile_word profile)
-
--- a name and a number
-abbrev pub field_line : List ℕ → ℕ → List ℕ
-field_line name value = line (name ++ codes " " ++ decimal value)
 
 -- what `header` prints
 abbrev pub header_report : Header → ℕ → List ℕ

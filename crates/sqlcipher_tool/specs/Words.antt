@@ -25,6 +25,7 @@ use Rattle.std.specs.Str.{bytes_eq}
 use Rattle.std.specs.Str.Parse.{digits_value, starts_with_minus}
 use Rattle.cipher_profile.specs.Profile.{IsListed, is_plain, profile_named}
 use Rattle.cipher_profile.specs.declared.profile.Profile.{Profile}
+use Rattle.text_lines.specs.Numbers.{number_named}
 use Rattle.sqlcipher_tool.specs.declared.command.Command.{Command}
 use Rattle.sqlcipher_tool.specs.declared.command.Command.TheVariants.{Probe, Recover, Read, Change as ChangeFile, Make}
 use Rattle.sqlcipher_tool.specs.declared.command.Field.{Field}
@@ -35,15 +36,6 @@ use Rattle.sqlcipher_tool.specs.declared.reading.Job.{Job}
 use Rattle.sqlcipher_tool.specs.declared.reading.Job.TheVariants.{Verify, Export, Find}
 use Rattle.sqlcipher_tool.specs.declared.reading.Reading.{Reading}
 use Rattle.sqlcipher_tool.specs.declared.reading.Reading.TheVariants.{Tags, Header, Salvage, OnPages}
-
--- the word is a number of the table
-abbrev pub is_number : List ℕ → Bool
-is_number word =
-    nat_le 1 (length word) && nat_le (length word) 10 && list_all (λ digit. nat_lt (digit_value digit) 10) word
-    && nat_le (digits_value 10 word) 4294967295
-
-abbrev pub number_named : List ℕ → Option ℕ
-number_named word = if is_number word then Some (digits_value 10 word) else None
 
 -- the digits of a rowid, without its minus
 abbrev pub rowid_digits : List ℕ → List ℕ

@@ -32,10 +32,10 @@ use crate::rekey::rekey_file;
 use crate::secrets::Secrets;
 use crate::stamp::stamp_file;
 use crate::status::Status;
-use crate::text::Text;
 use cipher_profile::Profile;
 use edge_model::{Disk, Entropy, Sink};
 use std::alloc::Global;
+use text_lines::Text;
 
 /// What is changed.
 #[derive(Clone, Copy, Debug, PartialEq, Eq)]

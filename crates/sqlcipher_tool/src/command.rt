@@ -1,14 +1,16 @@
 // The words of the command line.
 ghost use Rattle.std.specs.Prelude.{◌≡◌, ◌∷◌, [], IfSome};
+ghost use Rattle.text_lines.specs.Numbers.{number_named};
 ghost use Rattle.sqlcipher_tool.specs.Due.{word_refusal};
 ghost use Rattle.sqlcipher_tool.specs.declared.change.Change.TheVariants.{Rekey as RekeyOf, Migrate as MigrateOf};
-ghost use Rattle.sqlcipher_tool.specs.Words.{form, find_form, stamp_form, two_profiles, make_form, field_named, number_named, rowid_named, texts, asked_keys, draws, lacks_tags, layouts_differ, IsServed};
+ghost use Rattle.sqlcipher_tool.specs.Words.{form, find_form, stamp_form, two_profiles, make_form, field_named, rowid_named, texts, asked_keys, draws, lacks_tags, layouts_differ, IsServed};
 
 use crate::change::Change;
 use crate::reading::{Job, Reading};
 use crate::status::Refusal;
 use cipher_profile::{Profile, profile_of};
 use std::marker::Model;
+use text_lines::number_of;
 
 /// The name of a table. Contracts see its bytes.
 #[derive(Drop)]
@@ -224,7 +226,7 @@ fn stamp_with<'w>(first: &str, second: &str, third: &str) -> Option<Command<'w>>
 {
     let profile = profile_of(first)?;
     let field = field_of(second)?;
-    let value = number_of(third)?;
+    let value = number_of(third.as_bytes())?;
     Some(Command::Change(profile, Change::Stamp { field, value }))
 }
 
@@ -254,7 +256,7 @@ fn make_with<'w>(first: &str, second: &str) -> Option<Command<'w>>
     ensures served { IfSome result IsServed }
 {
     let profile = profile_of(first)?;
-    let rows = number_of(second)?;
+    let rows = number_of(second.as_bytes())?;
     Some(Command::Make { profile, rows })
 }
 
@@ -266,20 +268,6 @@ fn field_of(word: &str) -> Option<Field>
         "user-version" => Some(Field::UserVersion),
         "application-id" => Some(Field::ApplicationId),
         _ => None,
-    }
-}
-
-// The number that a word of one to ten digits names, where four bytes hold it.
-fn number_of(word: &str) -> Option<u32>
-    ensures { result ≡ number_named word.now }
-{
-    let digits = word.as_bytes();
-    if digits.len() == 0 || digits.len() > 10 || digits[0] == b'+' {
-        return None;
-    }
-    match word.parse::<u32>() {
-        Ok(number) => Some(number),
-        Err(_) => None,
     }
 }
 

@@ -6,7 +6,7 @@ ghost use Rattle.cipher_profile.specs.Profile.{IsListed};
 ghost use Rattle.edge_model.specs.Files.{File, Files, no_files};
 ghost use Rattle.make_job.specs.Made.{IsMade};
 ghost use Rattle.sqlcipher_tool.specs.Due.{due, key_lines};
-ghost use Rattle.sqlcipher_tool.specs.Servable.{CanBeServed, IsDoneAlone, IsReadCommand, IsServable, standing};
+ghost use Rattle.sqlcipher_tool.specs.Servable.{CanBeServed, IsDoneAlone, IsForAnySize, IsServable, standing};
 ghost use Rattle.sqlcipher_tool.specs.declared.command.Command.{Command};
 ghost use Rattle.sqlcipher_tool.specs.declared.command.Command.TheVariants.{Change as ChangeFile};
 ghost use Rattle.sqlcipher_tool.specs.declared.change.Change.TheVariants.{Migrate};
@@ -24,7 +24,7 @@ pub fn complete_law()
 /// Nothing stands in the way of a command that reads a file that `make` made, where no journal is beside it.
 pub fn made_servable_law()
     ensures { (profile : Profile) (secret : Secret) (rows : ℕ) (file : File) (fresh : Option File) → IsListed profile → IsMade profile secret rows file.bytes
-        → (second : Secret) (command : Command) → IsReadCommand profile command → IsServable command (secret ∷ second ∷ []) (standing file fresh) }
+        → (second : Secret) (command : Command) → IsForAnySize profile command → IsServable command (secret ∷ second ∷ []) (standing file fresh) }
 {}
 
 /// Nor is anything in the way of `migrate` on a file that was made without rows: it has no more pages than may be, whatever the new profile.

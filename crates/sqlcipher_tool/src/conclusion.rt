@@ -8,9 +8,10 @@ ghost use Rattle.sqlcipher_tool.specs.Stop.{stop_answer, outcome_answer, IsLateS
 
 use crate::opening::Stop;
 use crate::status::{Refusal, Status};
-use crate::text::{Text, key_refused_line, refusal_line};
+use crate::text::{key_refused_line, refusal_line};
 use cipher_profile::KeyError;
 use edge_model::Sink;
+use text_lines::Text;
 
 /// Prints the last lines of an answer.
 pub fn conclude<S: Sink>(out: &mut S, text: &Text, status: Status) -> Status

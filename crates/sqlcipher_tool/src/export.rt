@@ -12,7 +12,7 @@ ghost use Rattle.sqlcipher_tool.specs.Promises.{AnswersOne};
 
 use crate::conclusion::conclude_stop;
 use crate::status::Status;
-use crate::walk::walk_stop;
+use crate::walked::walk_stop;
 use edge_model::{Disk, Entropy, Sink};
 use export_rows::ExportError;
 use pager::Pager;

@@ -12,7 +12,7 @@ ghost use Rattle.sqlcipher_tool.specs.Promises.{AnswersOne};
 use crate::command::Name;
 use crate::conclusion::{conclude_refusal, conclude_stop};
 use crate::status::{Refusal, Status};
-use crate::walk::walk_stop;
+use crate::walked::walk_stop;
 use edge_model::{Disk, Entropy, Sink};
 use pager::{PageSource, Pager};
 use rowid_find::{FindError, find_from, table_root};

@@ -14,11 +14,12 @@ ghost use Rattle.sqlcipher_tool.specs.Text.{header_report};
 use crate::conclusion::conclude_outcome;
 use crate::opening::{Stop, open_main};
 use crate::status::Status;
-use crate::text::{Text, header_report};
+use crate::text::header_report;
 use cipher_profile::{Profile, Secret};
 use edge_model::{Disk, Entropy, Sink};
 use pager::{OpenedFile, PageSource};
 use std::alloc::Global;
+use text_lines::Text;
 
 /// `header` of Main as it reads.
 pub fn header<S: Sink, E: Entropy, D: Disk>(

@@ -5,7 +5,7 @@ ghost use Rattle.db_format.specs.Seen.{marked};
 ghost use Rattle.edge_model.specs.Files.{main_of};
 ghost use Rattle.pager.specs.Pages.{opened_pages};
 ghost use Rattle.pager.specs.Reads.{DiskRead, Untouched};
-ghost use Rattle.sqlcipher_tool.specs.Answer.{PutsPart};
+ghost use Rattle.text_lines.specs.Text.{PutsPart};
 ghost use Rattle.sqlcipher_tool.specs.Plain.{is_left, refused_but};
 ghost use Rattle.sqlcipher_tool.specs.Tags.{number_where};
 ghost use Rattle.sqlcipher_tool.specs.Text.{tag_lines};

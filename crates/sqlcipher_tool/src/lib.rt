@@ -26,7 +26,8 @@ mod status;
 mod tags;
 mod text;
 mod top;
-mod walk;
+mod verify;
+mod walked;
 
 pub use complete::{
     complete_law, key_lines_law, made_migrates_law, made_servable_law, nothing_servable_law,

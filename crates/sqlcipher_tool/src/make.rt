@@ -22,11 +22,12 @@ ghost use Rattle.sqlcipher_tool.specs.Renewal.{WithDraws};
 use crate::conclusion::{conclude, conclude_stop};
 use crate::opening::{ChangeError, Stop};
 use crate::status::{Refusal, Status};
-use crate::text::{Text, made_report};
+use crate::text::made_report;
 use cipher_profile::{Profile, Secret};
 use edge_model::{Disk, Entropy, Sink};
 use make_job::{MakeError, make};
 use std::alloc::Global;
+use text_lines::Text;
 
 /// `make` with this secret. Its last line takes no memory.
 pub fn make_file<S: Sink, E: Entropy, D: Disk>(

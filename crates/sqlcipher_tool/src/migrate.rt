@@ -24,12 +24,13 @@ ghost use Rattle.sqlcipher_tool.specs.Renewal.{WithDraws, pages_under};
 
 use crate::opening::{ChangeError, Stop, open_main};
 use crate::status::Refusal;
-use crate::text::{Text, migrated_report};
+use crate::text::migrated_report;
 use cipher_profile::{Profile, Secret};
 use edge_model::{Disk, Entropy};
 use migrate_job::{MigrateError, migrate};
 use pager::{OpenedFile, Pager};
 use std::alloc::Global;
+use text_lines::Text;
 
 /// Opens Main with the first secret, and writes its database anew in the second profile and under the second secret. Answers what is
 /// printed.

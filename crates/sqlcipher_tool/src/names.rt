@@ -21,7 +21,7 @@ ghost use Rattle.sqlcipher_tool.specs.declared.reading.Reading.TheVariants.{OnPa
 use crate::command::{Command, Name, parse_words};
 use crate::opening::{Stop, open_main};
 use crate::reading::{Job, Reading};
-use crate::walk::walk_stop;
+use crate::walked::walk_stop;
 use cipher_profile::{Profile, Secret};
 use edge_model::{Disk, Entropy};
 use pager::{OpenedFile, PageSource, Pager};

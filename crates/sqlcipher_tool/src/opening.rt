@@ -1,10 +1,10 @@
 // A file is opened for its secret: nothing stands in the way, and the key fits.
-ghost use Rattle.std.specs.Prelude.{◌≡◌, ◌⊎◌, ◌*◌, ◌/◌, ◌<◌, ◌≤◌, length, true, None, Ok, IfOk, OnOk, IfErr, IsTrue};
-ghost use Rattle.edge_model.specs.Causes.{HasCause, Rose};
+ghost use Rattle.std.specs.Prelude.{◌≡◌, ◌⊎◌, ◌*◌, ◌/◌, ◌<◌, ◌≤◌, length, None, Ok, IfOk, OnOk, IfErr, IsTrue};
+ghost use Rattle.edge_model.specs.Causes.{Rose};
 ghost use Rattle.edge_model.specs.OnlyRead.{OnlyRead};
-ghost use Rattle.cipher_profile.specs.Profile.{IsListed, is_plain};
+ghost use Rattle.cipher_profile.specs.Profile.{IsListed};
 ghost use Rattle.db_format.specs.Count.{largest_database};
-ghost use Rattle.page_codec.specs.Page.{codec_salt, keys_of, magic};
+ghost use Rattle.page_codec.specs.Page.{keys_of};
 ghost use Rattle.edge_model.specs.Files.{main_of};
 ghost use Rattle.sqlcipher_tool.specs.Answer.{first_answer};
 ghost use Rattle.sqlcipher_tool.specs.Opening.{length_causes, key_causes, opened_with, unopened_answer, AreRecovered};
@@ -14,11 +14,11 @@ ghost use Rattle.sqlcipher_tool.specs.declared.opening.ChangeError.TheVariants.{
 ghost use Rattle.sqlcipher_tool.specs.declared.status.Refusal.TheVariants.{TooLarge};
 
 use crate::status::Refusal;
-use cipher_profile::{Profile, Secret, derive};
+use cipher_profile::{Profile, Secret};
 use db_format::LARGEST_DATABASE;
 use edge_model::{Disk, Failed};
-use page_codec::{Codec, MAGIC};
-use pager::{OpenError, OpenedFile, codec_of, read_main};
+use page_codec::Codec;
+use pager::{OpenError, OpenedFile, codec_of};
 use std::alloc::Global;
 
 /// How many pages are held at once.
@@ -105,9 +105,7 @@ pub fn open_main<D: Disk>(
     ensures later { D.faults disk.old ≤ D.faults disk.new }
     ensures only_read { IsTrue D.tells → OnlyRead D.reads D.images D.moment D.since disk.old disk.new }
 {
-    pager::served_length(disk, &profile)?;
-    let (codec, _fits) = codec_of(disk, profile, secret)?;
-    match OpenedFile::read(alloc, disk, codec, FRAMES) {
+    match OpenedFile::open(alloc, disk, profile, secret, FRAMES) {
         Ok(file) => Ok(file),
         Err(error) => Err(Stop::from(error)),
     }
@@ -168,73 +166,4 @@ pub fn fitting_codec<D: Disk>(
         return Err(Stop::KeyRefused);
     }
     Ok(codec)
-}
-
-/// Opens Main with this secret, with a second codec of the same keys for a transaction.
-pub fn open_to_change<D: Disk>(
-    alloc: Global,
-    disk: &mut D,
-    profile: Profile,
-    secret: &Secret,
-) -> Result<(OpenedFile, Codec), Stop>
-    requires listed { IsListed profile }
-    requires recovered { IsTrue D.tells → AreRecovered (D.reads disk.old) (D.images disk.old) }
-    ensures opens { IfOk result (λ both. IsTrue D.tells
-        → opened_with profile secret.now (main_of (D.reads disk.old)) ≡ Ok (record { header = both.0.header; count = both.0.count })) }
-    ensures codec { IfOk result (λ both. IsTrue D.tells → both.0.codec ≡ keys_of profile secret.now (main_of (D.reads disk.old))) }
-    ensures same { IfOk result (λ both. both.1 ≡ both.0.codec) }
-    ensures profile { IfOk result (λ both. both.0.codec.profile ≡ profile) }
-    ensures stop { IfErr result (λ stop. IsTrue D.tells
-        → IsOutside stop ⊎ (stop_answer stop ≡ unopened_answer (opened_with profile secret.now (main_of (D.reads disk.old))))) }
-    ensures late { IfErr result IsLateStop }
-    ensures cause { IfErr result (λ stop. stop ≡ Stop.DiskFault → Rose (D.faults disk.old) (D.faults disk.new)) }
-    ensures later { D.faults disk.old ≤ D.faults disk.new }
-    ensures only_read { IsTrue D.tells → OnlyRead D.reads D.images D.moment D.since disk.old disk.new }
-{
-    pager::served_length(disk, &profile)?;
-    let (read, write) = two_codecs(disk, profile, secret)?;
-    match OpenedFile::read(alloc, disk, read, FRAMES) {
-        Ok(file) => Ok((file, write)),
-        Err(error) => Err(Stop::from(error)),
-    }
-}
-
-// The codec that the secret gives for Main, twice. The keys are derived once.
-fn two_codecs<D: Disk>(
-    disk: &mut D,
-    profile: Profile,
-    secret: &Secret,
-) -> Result<(Codec, Codec), Failed>
-    requires listed { IsListed profile }
-    requires some { IsTrue D.tells → profile.page_size ≤ length (main_of (D.reads disk.old)) }
-    ensures codec { IfOk result (λ both. IsTrue D.tells → both.0 ≡ keys_of profile secret.now (main_of (D.reads disk.old))) }
-    ensures same { IfOk result (λ both. both.1 ≡ both.0) }
-    ensures profile { IfOk result (λ both. both.0.profile ≡ profile) }
-    ensures cause { HasCause (D.faults disk.old) (D.faults disk.new) result }
-    ensures only_read { IsTrue D.tells → OnlyRead D.reads D.images D.moment D.since disk.old disk.new }
-{
-    let salt = salt_of_main(disk, profile)?;
-    let keys = derive(secret, &profile, &salt);
-    Ok((
-        Codec::new(profile, keys, salt),
-        Codec::new(profile, keys, salt),
-    ))
-}
-
-// The salt of Main's codec: a plain file has none of its own.
-fn salt_of_main<D: Disk>(disk: &mut D, profile: Profile) -> Result<[u8; 16], Failed>
-    requires listed { IsListed profile }
-    requires some { IsTrue D.tells → profile.page_size ≤ length (main_of (D.reads disk.old)) }
-    ensures salt { IfOk result (λ salt. IsTrue D.tells → salt ≡ codec_salt profile (main_of (D.reads disk.old))) }
-    ensures plain { IfOk result (λ salt. is_plain profile ≡ true → salt ≡ magic) }
-    ensures cause { HasCause (D.faults disk.old) (D.faults disk.new) result }
-    ensures only_read { IsTrue D.tells → OnlyRead D.reads D.images D.moment D.since disk.old disk.new }
-{
-    if profile.is_plain() {
-        return Ok(MAGIC);
-    }
-    let _usable = profile.usable();
-    let mut salt = [0u8; 16];
-    read_main(disk, 0, &mut salt)?;
-    Ok(salt)
 }

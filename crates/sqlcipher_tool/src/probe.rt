@@ -12,11 +12,12 @@ ghost use Rattle.sqlcipher_tool.specs.Stop.{stop_answer, outcome_answer, IsLateS
 use crate::conclusion::conclude_outcome;
 use crate::opening::Stop;
 use crate::status::{Refusal, Status};
-use crate::text::{Text, probe_report};
+use crate::text::probe_report;
 use cipher_profile::{Profile, Secret, derive, derive_beside, probed_profiles};
 use edge_model::{Disk, Failed, Role, Sink};
 use page_codec::Codec;
 use pager::{MAX_PAGE, file_length, read_main, read_page};
+use text_lines::Text;
 
 // The length of the shortest page of any profile that is tried, in bytes.
 const LEAST_PAGE: u64 = 1024;

@@ -31,7 +31,7 @@ use crate::recovery::recover_main;
 use crate::salvage::salvage_file;
 use crate::status::Status;
 use crate::tags::tags;
-use crate::walk::verify_pages;
+use crate::verify::verify_pages;
 use cipher_profile::{Profile, Secret};
 use edge_model::{Disk, Entropy, Sink};
 use pager::{OpenedFile, Pager};

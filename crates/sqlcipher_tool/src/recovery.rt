@@ -16,11 +16,12 @@ ghost use Rattle.sqlcipher_tool.specs.Untouched.{HasNoFile, IsUnwritten};
 use crate::conclusion::conclude_outcome;
 use crate::opening::Stop;
 use crate::status::{Refusal, Status};
-use crate::text::{Text, recovery_line};
+use crate::text::recovery_line;
 use cipher_profile::Profile;
 use edge_model::{Disk, Sink};
 use rollback_journal::{RecoverError, Recovery, recover};
 use std::alloc::Global;
+use text_lines::Text;
 
 /// `recover`.
 pub fn report_recovery<S: Sink, D: Disk>(

@@ -1,14 +1,14 @@
 // `rekey`: every page is sealed under another key, in one transaction.
-ghost use Rattle.std.specs.Prelude.{◌≡◌, ◌≢◌, ◌≤◌, ℕ, true, List, drop, length, Ok, Err, IfErr, IsErr, OnOk, IsTrue, Some};
+ghost use Rattle.std.specs.Prelude.{◌≡◌, ◌≢◌, ◌≤◌, List, drop, length, Ok, Err, IfErr, IsErr, OnOk, IsTrue, Some};
 ghost use Rattle.std.specs.List.{Contains};
 ghost use Rattle.fresh_disk.specs.OnlyFresh.{IsOld};
 ghost use Rattle.fresh_disk.specs.Published.{IsAlone};
 ghost use Rattle.edge_model.specs.Causes.{Rose};
 ghost use Rattle.edge_model.specs.Images.{Each, From, LeavesOnly};
 ghost use Rattle.edge_model.specs.OnlyRead.{OnlyRead};
-ghost use Rattle.cipher_profile.specs.Profile.{IsListed, is_plain};
+ghost use Rattle.cipher_profile.specs.Profile.{IsListed};
 ghost use Rattle.db_format.specs.Source.{no_pins};
-ghost use Rattle.page_codec.specs.Page.{keys_of, magic, salt_of};
+ghost use Rattle.page_codec.specs.Page.{keys_of, salt_of};
 ghost use Rattle.edge_model.specs.Files.{main_of};
 ghost use Rattle.pager.specs.Held.{pins_of};
 ghost use Rattle.pager.specs.Opening.{file_opened};
@@ -26,13 +26,14 @@ ghost use Rattle.sqlcipher_tool.specs.Renewal.{IsRekeyedSo, WithDraws, page_coun
 
 use crate::opening::{ChangeError, Stop, open_main};
 use crate::status::Refusal;
-use crate::text::{Text, rekeyed_report};
-use cipher_profile::{Profile, Secret, derive};
+use crate::text::rekeyed_report;
+use cipher_profile::{Profile, Secret};
 use edge_model::{Disk, Entropy};
 use page_codec::Codec;
 use pager::{OpenedFile, PageSource, Pager};
 use rekey_job::{RekeyError, rekey};
 use std::alloc::Global;
+use text_lines::Text;
 
 /// Opens Main with the first secret, and seals each of its pages under the keys of the second. Answers what is printed.
 pub fn rekey_file<E: Entropy, D: Disk>(
@@ -72,23 +73,12 @@ pub fn rekey_file<E: Entropy, D: Disk>(
         Err(stop) => return Err(ChangeError::Stopped(stop)),
     };
     let pager = file.into_pager(disk, entropy);
-    let write = codec_of_salt(new, second, pager.codec().salt());
+    let write = Codec::of_secret(new, second, pager.codec().salt());
     let (disk, entropy, done) = rekey_pages(alloc, pager, write);
     // Both end here as they are, entropy first: the prover learns of each from these lines.
     let _ = entropy;
     let _ = disk;
     done
-}
-
-// The codec that the secret gives for a file with this salt.
-fn codec_of_salt(profile: Profile, secret: &Secret, salt: [u8; 16]) -> Codec
-    requires listed { IsListed profile }
-    requires plain { is_plain profile ≡ true → salt ≡ magic }
-    ensures keys { (file : List ℕ) → salt ≡ salt_of file → result ≡ keys_of profile secret.now file }
-    ensures profile { result.profile ≡ profile }
-    ensures salt { result.salt ≡ salt }
-{
-    Codec::new(profile, derive(secret, &profile, &salt), salt)
 }
 
 // All pages are sealed under this codec. The disk and the entropy come back in any case.

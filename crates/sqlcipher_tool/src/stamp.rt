@@ -25,23 +25,16 @@ ghost use Rattle.sqlcipher_tool.specs.Text.{stamped_report};
 ghost use Rattle.sqlcipher_tool.specs.Stamp.{IsStamped, field_at, next_change, stamp_answer, with_field};
 
 use crate::command::Field;
-use crate::opening::{ChangeError, Stop, open_to_change};
+use crate::opening::{ChangeError, Stop, open_main};
 use crate::status::Refusal;
-use crate::text::{Text, stamped_report};
+use crate::text::stamped_report;
 use cipher_profile::{Profile, Secret};
+use db_format::{APPLICATION_ID_AT, CHANGE_AT, SIZE_AT, USER_VERSION_AT, VALID_FOR_AT};
 use edge_model::{Disk, Entropy};
 use page_codec::Codec;
 use pager::{BeginError, CommitFault, OpenedFile, PageError, PageSource, Pager, Txn};
 use std::alloc::Global;
-
-/// Where the change counter stands in page 1, in bytes.
-const CHANGE_AT: usize = 24;
-
-/// Where the size in pages stands.
-const SIZE_AT: usize = 28;
-
-/// Where the change counter stands for which the size is valid.
-const VALID_AT: usize = 92;
+use text_lines::Text;
 
 /// Opens Main with this secret, and stamps it: the field gets this number. Answers what is printed.
 pub fn stamp_file<E: Entropy, D: Disk>(
@@ -74,11 +67,12 @@ pub fn stamp_file<E: Entropy, D: Disk>(
     ensures disk_later { D.faults disk.old ≤ D.faults disk.new }
     ensures entropy_later { E.faults entropy.old ≤ E.faults entropy.new }
 {
-    let (file, write) = match open_to_change(alloc, disk, profile, secret) {
-        Ok(both) => both,
+    let file = match open_main(alloc, disk, profile, secret) {
+        Ok(file) => file,
         Err(stop) => return Err(ChangeError::Stopped(stop)),
     };
     let pager = file.into_pager(disk, entropy);
+    let write = pager.codec().again();
     let (disk, entropy, done) = stamp_pages(alloc, pager, write, field, value);
     // Both end here as they are, entropy first: the prover learns of each from these lines.
     let _ = entropy;
@@ -176,8 +170,8 @@ fn field_at(field: Field) -> usize
     ensures place { (60 ≤ result) × (result ≤ 68) }
 {
     match field {
-        Field::UserVersion => 60,
-        Field::ApplicationId => 68,
+        Field::UserVersion => USER_VERSION_AT,
+        Field::ApplicationId => APPLICATION_ID_AT,
     }
 }
 
@@ -214,7 +208,7 @@ fn write_fields<D: Disk, E: Entropy>(
     write_number(txn, field_at(field), value)?;
     write_number(txn, CHANGE_AT, change)?;
     write_number(txn, SIZE_AT, pages)?;
-    write_number(txn, VALID_AT, change)?;
+    write_number(txn, VALID_FOR_AT, change)?;
     Ok(())
 }
 

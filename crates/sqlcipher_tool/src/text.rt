@@ -1,110 +1,13 @@
 // Printed lines, in place: none takes memory.
-ghost use Rattle.std.specs.Prelude.{◌≡◌, ◌+◌, ◌≤◌, ◌++◌, ◌∷◌, ℕ, List, [], length, take, codes, decimal, OnOk, OnErr, IsTrue};
-ghost use Rattle.std.specs.Fmt.{signed_decimal};
-ghost use Rattle.edge_model.specs.Causes.{HasCause};
-ghost use Rattle.sqlcipher_tool.specs.Answer.{PutsPart};
-ghost use Rattle.sqlcipher_tool.specs.Text.{defect_text, of_page, verify_report, refusal_text, refusal_line, tags_report, probe_report, profile_word, recovery_line, stamped_report, rekeyed_report, migrated_report, made_report, field_line, header_report, usage_line, key_refused_line};
+ghost use Rattle.std.specs.Prelude.{◌≡◌, ◌+◌, ◌≤◌, ◌++◌, [], length, codes};
+ghost use Rattle.text_lines.specs.Text.{field_line};
+ghost use Rattle.sqlcipher_tool.specs.Text.{defect_text, of_page, verify_report, refusal_text, refusal_line, tags_report, probe_report, profile_word, recovery_line, stamped_report, rekeyed_report, migrated_report, made_report, header_report, usage_line, key_refused_line};
 
 use crate::status::Refusal;
 use cipher_profile::Profile;
 use db_format::{Defect, Header};
-use edge_model::{Failed, Sink, put_all};
-use itoa::Buffer;
 use rollback_journal::Recovery;
-use std::marker::Model;
-
-/// Room for the longest report, in bytes.
-const CAPACITY: usize = 1024;
-
-/// Lines of output. Contracts see their bytes.
-#[derive(Drop)]
-pub struct Text {
-    bytes: [u8; CAPACITY],
-    len: usize,
-}
-
-impl Model for Text {
-    ghost Value = { List ℕ };
-
-    ghost view = { λ l. take l.len l.bytes };
-
-    ghost invariant = { λ l. l.len ≤ 1024 };
-}
-
-impl Text {
-    fn new() -> Text
-        ensures { result ≡ [] }
-    {
-        Text {
-            bytes: [0; CAPACITY],
-            len: 0,
-        }
-    }
-
-    fn push(&mut self, text: &[u8])
-        requires { length self.old + length text.now ≤ 1024 }
-        ensures { self.new ≡ self.old ++ text.now }
-    {
-        let end = self.len + text.len();
-        self.bytes[self.len..end].copy_from_slice(text);
-        self.len = end;
-    }
-
-    fn push_number(&mut self, number: u64)
-        requires { length self.old ≤ 1000 }
-        ensures text { self.new ≡ self.old ++ decimal number }
-        ensures short { length self.new ≤ length self.old + 20 }
-    {
-        let mut digits = Buffer::new();
-        self.push(digits.format(number).as_bytes());
-    }
-
-    // A number between two texts.
-    fn push_around(&mut self, before: &[u8], number: u64, after: &[u8])
-        requires { length self.old + length before.now + length after.now ≤ 1000 }
-        ensures text { self.new ≡ self.old ++ (before.now ++ (decimal number ++ after.now)) }
-        ensures short { length self.new ≤ length self.old + length before.now + length after.now + 20 }
-    {
-        self.push(before);
-        self.push_number(number);
-        self.push(after);
-    }
-
-    // A text and a number with its sign.
-    fn push_signed(&mut self, before: &[u8], number: i64)
-        requires { length self.old + length before.now ≤ 900 }
-        ensures text { self.new ≡ self.old ++ (before.now ++ signed_decimal number) }
-        ensures short { length self.new ≤ length self.old + length before.now + 40 }
-    {
-        let mut digits = Buffer::new();
-        self.push(before);
-        self.push(digits.format(number).as_bytes());
-    }
-
-    fn push_field(&mut self, name: &[u8], value: u32)
-        requires { length self.old + length name.now ≤ 990 }
-        ensures text { self.new ≡ self.old ++ field_line name.now value }
-        ensures short { length self.new ≤ length self.old + length name.now + 22 }
-    {
-        self.push(name);
-        self.push_around(b" ", u64::from(value), b"\n");
-    }
-
-    fn as_bytes(&self) -> &[u8]
-        ensures { result.now ≡ self.now }
-    {
-        &self.bytes[..self.len]
-    }
-
-    /// Appends the lines. After a failure the sink has a prefix of them.
-    pub fn put<S: Sink>(&self, out: &mut S) -> Result<(), Failed>
-        ensures done { OnOk result (IsTrue S.tells → S.taken out.new ≡ S.taken out.old ++ self.now) }
-        ensures part { OnErr result (IsTrue S.tells → PutsPart self.now (S.taken out.old) (S.taken out.new)) }
-        ensures cause { HasCause (S.faults out.old) (S.faults out.new) result }
-    {
-        put_all(out, self.as_bytes())
-    }
-}
+use text_lines::Text;
 
 // What is said of a page.
 fn push_page(text: &mut Text, page: u32, what: &[u8])

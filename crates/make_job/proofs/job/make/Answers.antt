@@ -15,18 +15,18 @@ returns-in_err-made-clause-any_moment g c told =
     let met = g.met.D.Disk in
     let old = c.args.disk.now in
     let mid = c.look_for_files.new.disk in
-    let keys = c.new-codec.result in
+    let keys = c.of_secret-codec.result in
     let salt = c.in_ok-salt.salt in
     let before = n.drawn c.args.entropy.now in
     let after = n.drawn c.publish_rows.new.entropy in
     let first = read_leaves d.reads d.images d.moment d.since met.only_now met.counts_now old mid (c.look_for_files.ensures.read told) in
     either_then d.reads d.images d.moment d.since met.only_now met.counts_now old mid c.publish_rows.new.disk first _ _
     (λ file has. (
-      told_as c.args.profile c.args.secret.now salt (λ k l. IsMadeUnder k c.args.rows l) keys (search rules) c.in_ok-salt.ensures.plain file has.0,
+      told_as c.args.profile c.args.secret.now salt (λ k l. IsMadeUnder k c.args.rows l) keys c.of_secret-codec.ensures c.in_ok-salt.ensures.plain file has.0,
       λ tell. subst (λ (k : FileKeys). HasOwnDraws k file (drop (length before) after))
-          (keys_are c.args.profile c.args.secret.now salt file keys (search rules) c.in_ok-salt.ensures.plain has.0.salt)
-          (drawn_with keys file salt before (n.drawn c.new_salt.new.entropy) after (search rules) (ap (λ (k : FileKeys). k.salt) c.new-codec.ensures) has.0.salt
-          (λ ciphered. c.in_ok-salt.ensures.drawn (sym (ap (λ (k : FileKeys). is_plain k.profile) c.new-codec.ensures) ∙ ciphered) tell) (c.publish_rows.ensures.grown tell) (has.1 tell)),
+          (keys_are c.args.profile c.args.secret.now salt file keys c.of_secret-codec.ensures c.in_ok-salt.ensures.plain has.0.salt)
+          (drawn_with keys file salt before (n.drawn c.new_salt.new.entropy) after (search rules) (ap (λ (k : FileKeys). k.salt) c.of_secret-codec.ensures) has.0.salt
+          (λ ciphered. c.in_ok-salt.ensures.drawn (sym (ap (λ (k : FileKeys). is_plain k.profile) c.of_secret-codec.ensures) ∙ ciphered) tell) (c.publish_rows.ensures.grown tell) (has.1 tell)),
     )) (c.publish_rows.ensures.any_moment told)
 
 pub returns-in_err-made-clause-only_old : goal.returns-in_err-made-clause-only_old
@@ -49,7 +49,7 @@ returns-clause-made g c told =
     let new = c.publish_rows.new.disk in
     let first = read_leaves d.reads d.images d.moment d.since g.met.D.Disk.only_now g.met.D.Disk.counts_now old mid (c.look_for_files.ensures.read told) in
     takes_then d.reads d.images d.moment d.since g.met.D.Disk.only_now g.met.D.Disk.counts_now old mid new first _ _
-    (told_as c.args.profile c.args.secret.now c.in_ok-salt.salt (λ k file. IsMadeUnder k c.args.rows file) c.new-codec.result (search rules) c.in_ok-salt.ensures.plain) (c.in_ok-made.ensures.made told)
+    (told_as c.args.profile c.args.secret.now c.in_ok-salt.salt (λ k file. IsMadeUnder k c.args.rows file) c.of_secret-codec.result c.of_secret-codec.ensures c.in_ok-salt.ensures.plain) (c.in_ok-made.ensures.made told)
 
 pub returns-clause-own_draws : goal.returns-clause-own_draws
 returns-clause-own_draws g c told tell =
@@ -57,13 +57,13 @@ returns-clause-own_draws g c told tell =
     let drawn = g.E.Entropy.drawn in
     let new = c.publish_rows.new.disk in
     let there = c.in_ok-made.ensures.made told in
-    let keys = c.new-codec.result in
+    let keys = c.of_secret-codec.result in
     let main = main_of (d.reads new) in
     let begins = salt_is keys (IsMadeUnder keys c.args.rows) main there.may.file.bytes (ap (λ (files : Files). main_of files) there.reads_so) there.may.is in
     subst (λ (k : FileKeys). HasOwnDraws k main (drop (length (drawn c.args.entropy.now)) (drawn c.publish_rows.new.entropy)))
-    (keys_are c.args.profile c.args.secret.now c.in_ok-salt.salt main keys (search rules) c.in_ok-salt.ensures.plain begins)
+    (keys_are c.args.profile c.args.secret.now c.in_ok-salt.salt main keys c.of_secret-codec.ensures c.in_ok-salt.ensures.plain begins)
     (drawn_with keys main c.in_ok-salt.salt (drawn c.args.entropy.now) (drawn c.new_salt.new.entropy) (drawn c.publish_rows.new.entropy) (search rules)
-    (ap (λ (k : FileKeys). k.salt) c.new-codec.ensures) begins (λ ciphered. c.in_ok-salt.ensures.drawn (sym (ap (λ (k : FileKeys). is_plain k.profile) c.new-codec.ensures) ∙ ciphered) tell) (c.in_ok-made.ensures.grown tell) (c.in_ok-made.ensures.own_draws told tell))
+    (ap (λ (k : FileKeys). k.salt) c.of_secret-codec.ensures) begins (λ ciphered. c.in_ok-salt.ensures.drawn (sym (ap (λ (k : FileKeys). is_plain k.profile) c.of_secret-codec.ensures) ∙ ciphered) tell) (c.in_ok-made.ensures.grown tell) (c.in_ok-made.ensures.own_draws told tell))
 
 pub returns-clause-any_moment : goal.returns-clause-any_moment
 returns-clause-any_moment g c told =
@@ -72,16 +72,16 @@ returns-clause-any_moment g c told =
     let met = g.met.D.Disk in
     let old = c.args.disk.now in
     let mid = c.look_for_files.new.disk in
-    let keys = c.new-codec.result in
+    let keys = c.of_secret-codec.result in
     let salt = c.in_ok-salt.salt in
     let before = n.drawn c.args.entropy.now in
     let after = n.drawn c.publish_rows.new.entropy in
     let first = read_leaves d.reads d.images d.moment d.since met.only_now met.counts_now old mid (c.look_for_files.ensures.read told) in
     either_then d.reads d.images d.moment d.since met.only_now met.counts_now old mid c.publish_rows.new.disk first _ _
     (λ file has. (
-      told_as c.args.profile c.args.secret.now salt (λ k l. IsMadeUnder k c.args.rows l) keys (search rules) c.in_ok-salt.ensures.plain file has.0,
+      told_as c.args.profile c.args.secret.now salt (λ k l. IsMadeUnder k c.args.rows l) keys c.of_secret-codec.ensures c.in_ok-salt.ensures.plain file has.0,
       λ tell. subst (λ (k : FileKeys). HasOwnDraws k file (drop (length before) after))
-          (keys_are c.args.profile c.args.secret.now salt file keys (search rules) c.in_ok-salt.ensures.plain has.0.salt)
-          (drawn_with keys file salt before (n.drawn c.new_salt.new.entropy) after (search rules) (ap (λ (k : FileKeys). k.salt) c.new-codec.ensures) has.0.salt
-          (λ ciphered. c.in_ok-salt.ensures.drawn (sym (ap (λ (k : FileKeys). is_plain k.profile) c.new-codec.ensures) ∙ ciphered) tell) (c.publish_rows.ensures.grown tell) (has.1 tell)),
+          (keys_are c.args.profile c.args.secret.now salt file keys c.of_secret-codec.ensures c.in_ok-salt.ensures.plain has.0.salt)
+          (drawn_with keys file salt before (n.drawn c.new_salt.new.entropy) after (search rules) (ap (λ (k : FileKeys). k.salt) c.of_secret-codec.ensures) has.0.salt
+          (λ ciphered. c.in_ok-salt.ensures.drawn (sym (ap (λ (k : FileKeys). is_plain k.profile) c.of_secret-codec.ensures) ∙ ciphered) tell) (c.publish_rows.ensures.grown tell) (has.1 tell)),
     )) (c.publish_rows.ensures.any_moment told)

@@ -52,19 +52,19 @@ returns-clause-written g c =
     let now = opened_pages q.codec (main_of (d.reads q.disk.now)) q.count in
     let profile = c.args.profile in
     let secret = c.args.secret.now in
-    let keys = c.new-codec.result in
+    let keys = c.of_secret-codec.result in
     ok_both c.write_database.result
     (λ written synced told.
     let same : now ≡ pages = pages_beside p.codec q.codec (d.reads p.disk.now) (d.reads q.disk.now) p.count q.count drew.file.0 (drew.beside.only_fresh told).main drew.file.2 in
     beside_as d.reads d.images (IsSalted keys (IsMigratedUnder keys q.header now)) (IsMigrated profile secret p.header pages) r.disk.now
     (λ file salted. migrated_as profile secret p.header q.header pages now drew.file.1 same file
-    (told_as profile secret c.in-Ok.salt (λ k l. IsMigratedUnder k q.header now l) keys (search rules) c.in-Ok.ensures.plain file salted))
+    (told_as profile secret c.in-Ok.salt (λ k l. IsMigratedUnder k q.header now l) keys c.of_secret-codec.ensures c.in-Ok.ensures.plain file salted))
     (beside d.reads d.images (IsSalted keys (IsMigratedUnder keys q.header now)) r.disk.now r.disk.now refl (written told) (synced told)))
     c.write_database.ensures.written c.write_database.ensures.synced
 
 pub returns-clause-size : goal.returns-clause-size
 returns-clause-size g c =
-    IfOk-weaker c.write_database.result _ _ (λ count sized told file is. sized told file is ∙ ap (λ k. count * k.profile.page_size) c.new-codec.ensures) c.write_database.ensures.size
+    IfOk-weaker c.write_database.result _ _ (λ count sized told file is. sized told file is ∙ ap (λ k. count * k.profile.page_size) c.of_secret-codec.ensures) c.write_database.ensures.size
 
 pub returns-clause-own_draws : goal.returns-clause-own_draws
 returns-clause-own_draws g c =
@@ -72,11 +72,11 @@ returns-clause-own_draws g c =
     let drawn = g.E.Entropy.drawn in
     let q = c.new_salt.new.pager in
     let r = c.write_database.new.pager in
-    let keys = c.new-codec.result in
+    let keys = c.of_secret-codec.result in
     let now = opened_pages q.codec (main_of (d.reads q.disk.now)) q.count in
     ok_both c.write_database.result
     (λ written own told tell file is.
-    own_as c.args.profile c.args.secret.now c.in-Ok.salt keys file (drawn c.args.pager.now.entropy.now) (drawn q.entropy.now) (drawn r.entropy.now) (search rules) c.in-Ok.ensures.plain (search rules)
+    own_as c.args.profile c.args.secret.now c.in-Ok.salt keys file (drawn c.args.pager.now.entropy.now) (drawn q.entropy.now) (drawn r.entropy.now) c.of_secret-codec.ensures c.in-Ok.ensures.plain (search rules)
     (written_salt keys (IsMigratedUnder keys q.header now) (bytes_of (d.reads r.disk.now).fresh) file (written told) is)
     (λ ciphered. c.in-Ok.ensures.drawn ciphered tell) (c.write_database.ensures.beside.drawn_on tell) (own told tell file is))
     c.write_database.ensures.written c.write_database.ensures.own_draws
@@ -91,11 +91,11 @@ returns-clause-shown g c =
     let now = opened_pages q.codec (main_of (d.reads q.disk.now)) q.count in
     IfErr-weaker c.write_database.result _ _ (λ e shown told.
     let same : now ≡ pages = pages_beside p.codec q.codec (d.reads p.disk.now) (d.reads q.disk.now) p.count q.count drew.file.0 (drew.beside.only_fresh told).main drew.file.2 in
-    ((shown told).0, subst (λ x. IsMigrateShown c.args.profile x e) same (subst (λ k. IsMigrateShown k.profile now e) c.new-codec.ensures (shown told).1)))
+    ((shown told).0, subst (λ x. IsMigrateShown c.args.profile x e) same (subst (λ k. IsMigrateShown k.profile now e) c.of_secret-codec.ensures (shown told).1)))
     c.write_database.ensures.shown
 
 pub returns-clause-limit : goal.returns-clause-limit
-returns-clause-limit g c limit is = c.write_database.ensures.limit limit is ∙ ap (λ k. most_pages k.profile) c.new-codec.ensures
+returns-clause-limit g c limit is = c.write_database.ensures.limit limit is ∙ ap (λ k. most_pages k.profile) c.of_secret-codec.ensures
 
 pub returns-clause-disk_fault : goal.returns-clause-disk_fault
 returns-clause-disk_fault g c is =

@@ -1,4 +1,4 @@
-use Rattle.std.proofs.Common.{◌≡◌, inl, ℕ, List, length, drop, Ok, Err, Result, sym, ap, subst, ◌∙◌, arith, rules}
+use Rattle.std.proofs.Common.{◌≡◌, inl, ℕ, true, List, length, drop, Ok, Err, Result, sym, ap, subst, ◌∙◌, arith, rules}
 use Rattle.std.specs.List.{Contains}
 use Rattle.std.specs.Prelude.{OnOk}
 use Rattle.fresh_disk.specs.Published.{IsAlone}
@@ -7,7 +7,8 @@ use Rattle.edge_model.specs.Files.{Files, main_of}
 use Rattle.edge_model.specs.Images.{From, LeavesOnly}
 use Rattle.edge_model.specs.Moments.{then_from}
 use Rattle.cipher_profile.specs.declared.profile.Profile.{Profile}
-use Rattle.page_codec.specs.Page.{FileKeys, keys_of, salt_of}
+use Rattle.fresh_file.proofs.DrawLaws.{keys_are}
+use Rattle.page_codec.specs.Page.{FileKeys, keys_of, magic, salt_of}
 use Rattle.pager.specs.Opening.{Opened}
 use Rattle.pager.specs.Pages.{is_page_number, opened_pages}
 use Rattle.pager.specs.declared.opening.OpenError.{OpenError}
@@ -53,16 +54,16 @@ returns-in-Err-clause-fresh g c = λ told.
 
 pub rekey_pages-disk-requires-clause-layout : goal.rekey_pages-disk-requires-clause-layout
 rekey_pages-disk-requires-clause-layout g c =
-    let write = c.codec_of_salt-write.ensures in
+    let write = c.of_secret-write.ensures in
     let profile = ap (λ (k : FileKeys). k.profile) c.into_pager-pager.ensures.file.0 ∙ c.in-Ok.ensures.profile in (
-      ap (λ (p : Profile). p.page_size) write.profile ∙ (c.requires.layout.0 ∙ sym (ap (λ (p : Profile). p.page_size) profile)),
-      ap (λ (p : Profile). p.reserve) write.profile ∙ (c.requires.layout.1 ∙ sym (ap (λ (p : Profile). p.reserve) profile)),
-      write.salt ∙ (c.salt.ensures.value ∙ ap (λ (k : FileKeys). k.salt) c.codec.ensures),
+      ap (λ (k : FileKeys). k.profile.page_size) write ∙ (c.requires.layout.0 ∙ sym (ap (λ (p : Profile). p.page_size) profile)),
+      ap (λ (k : FileKeys). k.profile.reserve) write ∙ (c.requires.layout.1 ∙ sym (ap (λ (p : Profile). p.reserve) profile)),
+      ap (λ (k : FileKeys). k.salt) write ∙ (c.salt.ensures.value ∙ ap (λ (k : FileKeys). k.salt) c.codec.ensures),
     )
 
 -- a plain file has the salt of a plain file
-pub codec_of_salt-write-requires-clause-plain : goal.codec_of_salt-write-requires-clause-plain
-codec_of_salt-write-requires-clause-plain g c = λ plain.
+pub of_secret-write-requires-clause-plain : goal.of_secret-write-requires-clause-plain
+of_secret-write-requires-clause-plain g c = λ plain.
     let profile = ap (λ (k : FileKeys). k.profile) (c.codec.ensures ∙ c.into_pager-pager.ensures.file.0) ∙ c.in-Ok.ensures.profile in
     let was = same_plain_file c.args.new c.args.old c.requires.listed.1 c.requires.listed.0 (sym c.requires.layout.1) plain in
     c.salt.ensures.plain (ap is_plain profile ∙ was)
@@ -115,7 +116,7 @@ returns-clause-safely g c = λ told start.
     let made = c.into_pager-pager.ensures.disk.1 in
     let file = main_of (d.reads c.args.disk.now) in
     let keys = keys_of c.args.old c.args.first.now file in
-    let write = c.codec_of_salt-write.result in
+    let write = c.of_secret-write.result in
     let opened = open_parts keys file _ _ (c.in-Ok.ensures.opens told) in
     let status = change_status c.rekey_pages-disk.result.2 in
     let end = c.rekey_pages-disk.result.0.now in
@@ -130,7 +131,11 @@ returns-clause-safely g c = λ told start.
     let two = subst (λ (l : List ℕ). KeepsOrCommits d.reads d.images d.moment d.since status (WithDraws (IsRekeyed keys write p.count l) n.tells own)
     (HoldsOnly (held_by keys l)) (λ m. HoldsOnly (held_by write m)) p.disk.now end) same one in
     let salt = c.salt.ensures.value ∙ (ap (λ (k : FileKeys). k.salt) (c.codec.ensures ∙ codec) ∙ fitting_salt c.args.old c.args.first.now file c.requires.listed.0 opened.fit) in
-    let is_key : (m : List ℕ) → salt_of m ≡ salt_of file → write ≡ keys_of c.args.new c.args.second.now m = λ m same_salt. c.codec_of_salt-write.ensures.keys m (salt ∙ sym same_salt) in
+    let profile = ap (λ (k : FileKeys). k.profile) (c.codec.ensures ∙ c.into_pager-pager.ensures.file.0) ∙ c.in-Ok.ensures.profile in
+    let plainly : is_plain c.args.new ≡ true → c.salt.result ≡ magic = λ plain. c.salt.ensures.plain
+    (ap is_plain profile ∙ same_plain_file c.args.new c.args.old c.requires.listed.1 c.requires.listed.0 (sym c.requires.layout.1) plain) in
+    let is_key : (m : List ℕ) → salt_of m ≡ salt_of file → write ≡ keys_of c.args.new c.args.second.now m = λ m same_salt.
+    keys_are c.args.new c.args.second.now _ m write c.of_secret-write.ensures plainly (same_salt ∙ sym salt ∙ sym (ap (λ (k : FileKeys). k.salt) c.of_secret-write.ensures)) in
     let three = said_so d.reads d.images d.moment d.since g.met.D.Disk.counts_now g.met.D.Disk.only_now {R = λ m. HoldsOnly (held_by (keys_of c.args.new c.args.second.now m) m)}
     {is_other = WithDraws (λ m. IsRekeyedSo keys (keys_of c.args.new c.args.second.now m) file m) n.tells
     (λ m. FileDraws (keys_of c.args.new c.args.second.now m) m (is_page_number (page_count_of (keys_of c.args.new c.args.second.now m) m)) 0 drawn)} status
@@ -171,7 +176,7 @@ returns-clause-own_draws g c =
     let read = c.open_main.ensures.only_read in
     let file = main_of (d.reads c.args.disk.now) in
     let keys = keys_of c.args.old c.args.first.now file in
-    let write = c.codec_of_salt-write.result in
+    let write = c.of_secret-write.result in
     let end = c.rekey_pages-disk.result.0.now in
     let after = c.rekey_pages-disk.result.1.now in
     let main = main_of (d.reads end) in
@@ -182,10 +187,13 @@ returns-clause-own_draws g c =
     let same : main_of (d.reads p.disk.now) ≡ file = ap (λ (x : _). main_of (d.reads x)) made.disk.1 ∙ ap (λ (files : Files). main_of files) (read told).stays in
     let opened = open_parts keys file _ _ (c.in-Ok.ensures.opens told) in
     let salt = c.salt.ensures.value ∙ (ap (λ (k : FileKeys). k.salt) (c.codec.ensures ∙ codec) ∙ fitting_salt c.args.old c.args.first.now file c.requires.listed.0 opened.fit) in
+    let profile = ap (λ (k : FileKeys). k.profile) (c.codec.ensures ∙ c.into_pager-pager.ensures.file.0) ∙ c.in-Ok.ensures.profile in
+    let plainly : is_plain c.args.new ≡ true → c.salt.result ≡ magic = λ plain. c.salt.ensures.plain
+    (ap is_plain profile ∙ same_plain_file c.args.new c.args.old c.requires.listed.1 c.requires.listed.0 (sym c.requires.layout.1) plain) in
     let is = rekeyed told in
     let same_salt : salt_of main ≡ salt_of file = is.salt ∙ ap salt_of same in
     rekeyed_draws p.codec write p.count (main_of (d.reads p.disk.now)) main (drop (length (g.E.Entropy.drawn c.args.entropy.now)) (g.E.Entropy.drawn after)) c.args.new c.args.second.now is
-    (c.codec_of_salt-write.ensures.keys main (salt ∙ sym same_salt))
+    (keys_are c.args.new c.args.second.now _ main write c.of_secret-write.ensures plainly (same_salt ∙ sym salt ∙ sym (ap (λ (k : FileKeys). k.salt) c.of_secret-write.ensures)))
     (subst (λ (x : _). FileDraws write main (is_page_number p.count) 0 (drop (length (g.E.Entropy.drawn x)) (g.E.Entropy.drawn after))) made.entropy.1 (draws told drawing))))
 
 pub returns-clause-disk_later : goal.returns-clause-disk_later

@@ -39,14 +39,14 @@ pub returns-in-Err-clause-safely : goal.returns-in-Err-clause-safely
 returns-in-Err-clause-safely g c = λ told start.
     let d = g.D.Disk in
     inl (record {
-      any_moment = read_only d.reads d.images d.moment d.since g.met.D.Disk.counts_now g.met.D.Disk.only_now start (c.open_to_change.ensures.only_read told);
+      any_moment = read_only d.reads d.images d.moment d.since g.met.D.Disk.counts_now g.met.D.Disk.only_now start (c.open_main.ensures.only_read told);
       not_done = stop_not_done c.in-Err.stop;
     })
 
 pub returns-in-Err-clause-fresh : goal.returns-in-Err-clause-fresh
 returns-in-Err-clause-fresh g c = λ told.
     let d = g.D.Disk in
-    read_fresh d.reads d.images d.moment d.since g.met.D.Disk.counts_now g.met.D.Disk.only_now (c.open_to_change.ensures.only_read told)
+    read_fresh d.reads d.images d.moment d.since g.met.D.Disk.counts_now g.met.D.Disk.only_now (c.open_main.ensures.only_read told)
 
 -- the conditions, by their places: base, base_is, sizes, drawn, write, listed, salt, opened, alone
 pub stamp_pages-disk-requires : goal.stamp_pages-disk-requires
@@ -58,7 +58,7 @@ stamp_pages-disk-requires g c κs within =
     let file = main_of (d.reads c.args.disk.now) in
     let keys = keys_of c.args.profile c.args.secret.now file in
     let codec : IsTrue d.tells → p.codec ≡ keys = λ told. made.file.0 ∙ c.in-Ok.ensures.codec told in
-    let same : IsTrue d.tells → main ≡ file = λ told. ap (λ (x : _). main_of (d.reads x)) made.disk.1 ∙ ap (λ (files : Files). main_of files) (c.open_to_change.ensures.only_read told).stays in
+    let same : IsTrue d.tells → main ≡ file = λ told. ap (λ (x : _). main_of (d.reads x)) made.disk.1 ∙ ap (λ (files : Files). main_of files) (c.open_main.ensures.only_read told).stays in
     let opened : IsTrue d.tells → file_opened p.codec main ≡ Ok (record { header = p.header; count = p.count }) = λ told.
     opened_same keys p.codec file main _ p.header _ p.count (codec told) (same told) made.file.1 made.file.2 (c.in-Ok.ensures.opens told) in
     let sized : 1 ≤ p.codec.profile.page_size = omega (arith, p.lendable.least) in (
@@ -85,7 +85,7 @@ stamp_pages-disk-requires g c κs within =
                       (
                         opened,
                         λ told image now.
-                            let read = c.open_to_change.ensures.only_read told in
+                            let read = c.open_main.ensures.only_read told in
                             let is_open = open_parts keys file _ _ (c.in-Ok.ensures.opens told) in
                             let at_first = read.same_images.no_more image (subst (λ (x : _). d.images x image) made.disk.1 now) in
                             subst (λ (l : List ℕ). IsAlone l image) (sym (same told)) (c.requires.alone told is_open.long image at_first),
@@ -110,7 +110,7 @@ pub returns-clause-safely : goal.returns-clause-safely
 returns-clause-safely g c = λ told start.
     let d = g.D.Disk in
     let p = c.into_pager-pager.result in
-    let read = c.open_to_change.ensures.only_read told in
+    let read = c.open_main.ensures.only_read told in
     let made = c.into_pager-pager.ensures.disk.1 in
     let file = main_of (d.reads c.args.disk.now) in
     let secret = c.args.secret.now in
@@ -149,18 +149,18 @@ returns-clause-fresh g c = λ told.
     let made = c.into_pager-pager.ensures.disk.1 in
     let end = c.stamp_pages-disk.result.0.now in
     let first : LeavesOnly d.moment d.since c.args.disk.now p.disk.now (From SameFresh (d.images c.args.disk.now)) =
-    rw made (read_fresh d.reads d.images d.moment d.since g.met.D.Disk.counts_now g.met.D.Disk.only_now (c.open_to_change.ensures.only_read told)) in
+    rw made (read_fresh d.reads d.images d.moment d.since g.met.D.Disk.counts_now g.met.D.Disk.only_now (c.open_main.ensures.only_read told)) in
     let last : c.disk-1.given.0 ≡ end = search rules in
     rw last (then_from g.met.D.Disk.counts_now (λ a b e ab be. be ∙ ab) first (c.stamp_pages-disk.ensures.fresh told))
 
 pub returns-in-Err-clause-unopened : goal.returns-in-Err-clause-unopened
-returns-in-Err-clause-unopened g c = λ told err. c.open_to_change.ensures.only_read told
+returns-in-Err-clause-unopened g c = λ told err. c.open_main.ensures.only_read told
 
 pub returns-clause-unopened : goal.returns-clause-unopened
 returns-clause-unopened g c = λ told err. is_opened _ _ (c.in-Ok.ensures.opens told) err
 
 pub returns-in-Err-clause-stays : goal.returns-in-Err-clause-stays
-returns-in-Err-clause-stays g c = λ refused told. read_stays (c.open_to_change.ensures.only_read told)
+returns-in-Err-clause-stays g c = λ refused told. read_stays (c.open_main.ensures.only_read told)
 
 pub returns-clause-stays : goal.returns-clause-stays
 returns-clause-stays g c = unrefused _ c.stamp_pages-disk.result.2 stamped_report c.stamp_pages-disk.ensures.told
@@ -193,7 +193,7 @@ returns-clause-own_draws g c =
     let drawn_last : c.entropy-1.given.0 ≡ after = search rules in
     rw (last, drawn_last) (ok_with c.stamp_pages-disk.result.2 c.stamp_pages-disk.ensures.own_draws (λ report is draws told drawing.
     let codec : p.codec ≡ keys = made.file.0 ∙ c.in-Ok.ensures.codec told in
-    let same : main_of (d.reads p.disk.now) ≡ file = ap (λ (x : _). main_of (d.reads x)) made.disk.1 ∙ ap (λ (files : Files). main_of files) (c.open_to_change.ensures.only_read told).stays in
+    let same : main_of (d.reads p.disk.now) ≡ file = ap (λ (x : _). main_of (d.reads x)) made.disk.1 ∙ ap (λ (files : Files). main_of files) (c.open_main.ensures.only_read told).stays in
     let stamped : IsStamped p.codec c.args.field c.args.value (main_of (d.reads p.disk.now)) main =
     (committed_new d.reads d.images d.moment d.since (change_status c.stamp_pages-disk.result.2) _ _ _ p.disk.now end (ap change_status is) (c.stamp_pages-disk.ensures.safely told)).0 in
     let key : p.codec ≡ keys_of profile secret main = codec ∙ sym (same_keys profile secret main file (stamped.salt ∙ ap (λ (l : List ℕ). salt_of l) same)) in

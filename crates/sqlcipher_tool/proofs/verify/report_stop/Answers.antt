@@ -8,7 +8,8 @@ use Rattle.pager.specs.Pages.{opened_pages}
 use Rattle.pager.specs.Reads.{disk_then_read}
 use Rattle.btree_model.specs.Parts.{counts}
 use Rattle.rekey_job.proofs.Stopped.{pages_same}
-use Rattle.sqlcipher_tool.specs.Answer.{Answer, Puts, PutsPart, done, refused}
+use Rattle.text_lines.specs.Text.{PutsPart}
+use Rattle.sqlcipher_tool.specs.Answer.{Answer, Puts, done, refused}
 use Rattle.sqlcipher_tool.specs.Plain.{refused_but}
 use Rattle.sqlcipher_tool.specs.Stop.{stop_answer}
 use Rattle.sqlcipher_tool.specs.Text.{tag_lines, refusal_line, verify_report}
@@ -16,7 +17,7 @@ use Rattle.sqlcipher_tool.specs.Verify.{pages_answers, rest_answers}
 use Rattle.sqlcipher_tool.proofs.SomeDue.{pages_some, rest_some}
 use Rattle.sqlcipher_tool.proofs.Answered.{printed_among}
 use Rattle.sqlcipher_tool.proofs.Verified.{free_stop, hold_next, left_is, outside_stop, refused_one, rest_stop, stop_one, stopped_one, tags_due}
-use Rattle.sqlcipher_tool.proofs.walk.report_stop.Goals as goal
+use Rattle.sqlcipher_tool.proofs.verify.report_stop.Goals as goal
 
 pub walk_stop-requires : goal.walk_stop-requires
 walk_stop-requires g c = given_stop g.D.Disk.tells _ _ _ c.in-Err-start.error (λ s t read. read.4) c.in-Err-start.ensures.given

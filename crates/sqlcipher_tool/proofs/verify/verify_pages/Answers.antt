@@ -11,7 +11,7 @@ use Rattle.sqlcipher_tool.specs.Stop.{stop_answer}
 use Rattle.sqlcipher_tool.specs.Verify.{pages_answers}
 use Rattle.sqlcipher_tool.proofs.SomeDue.{pages_some}
 use Rattle.sqlcipher_tool.proofs.Verified.{free_stop, stop_one}
-use Rattle.sqlcipher_tool.proofs.walk.verify_pages.Goals as goal
+use Rattle.sqlcipher_tool.proofs.verify.verify_pages.Goals as goal
 
 pub walk_stop-requires : goal.walk_stop-requires
 walk_stop-requires g c = given_stop g.D.Disk.tells _ _ _ c.in-Err.error (λ s t read. read.4) c.in-Err.ensures.given

@@ -1,8 +1,8 @@
 use Rattle.std.proofs.Common.{◌≡◌, ◌++◌, ◌≤◌, List, ℕ, length, take, drop, sym, ap, ◌∙◌}
 use Rattle.std.proofs.lemmas.List.{take-append-drop}
 use Rattle.std.proofs.lemmas.Result.{on_err_weaker}
-use Rattle.sqlcipher_tool.specs.Answer.{PutsPart}
-use Rattle.sqlcipher_tool.proofs.text.Text.put.Goals as goal
+use Rattle.text_lines.specs.Text.{PutsPart}
+use Rattle.text_lines.proofs.text.Text.put.Goals as goal
 
 -- the first bytes of a line are a part of it
 first_bytes : {line bytes before after : List ℕ} → bytes ≡ line → (n : ℕ) × (n ≤ length bytes) × (after ≡ before ++ take n bytes) → PutsPart line before after

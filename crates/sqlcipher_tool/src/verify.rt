@@ -19,13 +19,12 @@ ghost use Rattle.schema_map.specs.Parts.{IsEarliest};
 ghost use Rattle.sqlcipher_tool.specs.Answer.{HasCauses, PutsLine};
 ghost use Rattle.sqlcipher_tool.specs.Promises.{AnswersOne};
 ghost use Rattle.sqlcipher_tool.specs.Verify.{pages_answers};
-ghost use Rattle.sqlcipher_tool.specs.Walked.{walk_refusal, walk_stop};
 
 use crate::conclusion::{conclude, conclude_refusal, conclude_stop};
 use crate::in_use::check_tags;
-use crate::opening::Stop;
 use crate::status::{Refusal, Status};
 use crate::text::verify_report;
+use crate::walked::{walk_refusal, walk_stop};
 use btree_walk::WalkError;
 use db_format::Header;
 use edge_model::{Disk, Entropy, Sink};
@@ -123,32 +122,5 @@ fn report_stop<S: Sink, E: Entropy, D: Disk>(
             Err(status) => status,
         },
         Err(error) => conclude_stop(out, walk_stop(&error)),
-    }
-}
-
-/// How a walk stops a command.
-pub fn walk_stop(error: &WalkError<PageError>) -> Stop
-    requires { IsWalkStop error.now }
-    ensures { result ≡ walk_stop error.now }
-{
-    match walk_refusal(error) {
-        Ok(refusal) => Stop::Refused(refusal),
-        Err(stop) => stop,
-    }
-}
-
-// The defect or the refused page that a walk came upon, or what else stopped it.
-fn walk_refusal(error: &WalkError<PageError>) -> Result<Refusal, Stop>
-    requires { IsWalkStop error.now }
-    ensures { result ≡ walk_refusal error.now }
-{
-    match error {
-        WalkError::Defect(defect) => Ok(Refusal::Defect(*defect)),
-        WalkError::Source(PageError::TagRefused { page }) => Ok(Refusal::PageTag { page: *page }),
-        WalkError::Source(PageError::DiskFault) => Err(Stop::DiskFault),
-        // A walk pins fewer pages than there are frames, but no clause of a source of pages says that a frame is left.
-        WalkError::Source(PageError::AllPinned) | WalkError::OutOfMemory => Err(Stop::OutOfMemory),
-        // A walk asks for pages of the file alone.
-        WalkError::Source(PageError::OutOfRange | PageError::EntropyFault) => unreachable!(),
     }
 }

@@ -10,7 +10,7 @@ use Rattle.sqlcipher_tool.specs.Verify.{pages_answers, rest_answers}
 use Rattle.sqlcipher_tool.proofs.SomeDue.{rest_some}
 use Rattle.sqlcipher_tool.proofs.Answered.{printed_among}
 use Rattle.sqlcipher_tool.proofs.Verified.{counted, hold_next, none_left, refused_one, report_due, stopped_one, tags_due}
-use Rattle.sqlcipher_tool.proofs.walk.report_census.Goals as goal
+use Rattle.sqlcipher_tool.proofs.verify.report_census.Goals as goal
 
 pub returns-then-census-eq0-clause-answer : goal.returns-then-census-eq0-clause-answer
 returns-then-census-eq0-clause-answer g c = λ told.

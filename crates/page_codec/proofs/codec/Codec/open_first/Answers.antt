@@ -1,0 +1,16 @@
+use Rattle.std.proofs.Common.{◌≡◌, true, arith, ap, sym, subst, ◌∙◌}
+use Rattle.cipher_profile.specs.declared.profile.Profile.{Profile}
+use Rattle.cipher_profile.specs.Profile.{IsListed, is_plain}
+use Rattle.cipher_profile.proofs.Layouts.{IsListed-laid_out}
+use Rattle.page_codec.specs.Page.{FileKeys}
+use Rattle.page_codec.proofs.Parts.{opened_whole}
+use Rattle.page_codec.proofs.codec.Codec.open_first.Goals as goal
+
+pub returns-else-not-is_plain-clause-opened : goal.returns-else-not-is_plain-clause-opened
+returns-else-not-is_plain-clause-opened c = λ yes.
+    let file = c.args.self.now in
+    let same : c.self.inside.profile ≡ file.profile = ap (λ (f : FileKeys). f.profile) c.self.view_is in
+    let listed : IsListed file.profile = subst (λ (p : Profile). IsListed p) same c.self.invariant.listed in
+    let plain : is_plain file.profile ≡ true = sym (ap is_plain same) ∙ sym c.is_plain.ensures ∙ c.if-not-is_plain.false in
+    let laid_out = IsListed-laid_out file.profile listed in
+    opened_whole file 1 c.args.page.now plain (omega (arith, c.requires, laid_out.unreserved plain))
