@@ -1,0 +1,375 @@
+-- What a session's transaction leaves is the file with its changes.
+use Rattle.std.proofs.Common.{◌≡◌, ◌≢◌, inl, inr, ⊎_elim, ℕ, ◌+◌, ◌-◌, ◌*◌, ◌<◌, ◌≤◌, ◌==◌, ◌&&◌, ◌||◌, Bool, true, false, IsTrue, List, length, take, drop, Option, Some, None, is_some, if◌then◌else◌, refl, sym, ap, subst, ◌∙◌, arith, rules, length-take}
+use Rattle.std.specs.Prelude.{nat_lt, unwrap_or}
+use Rattle.std.proofs.lemmas.Bool.{cases_eq}
+use Rattle.std.proofs.lemmas.List.{take-take}
+use Rattle.edge_model.specs.Files.{Files, main_of}
+use Rattle.edge_model.specs.Images.{Each, LeavesOnly}
+use Rattle.edge_model.specs.Moments.{and_then, goes_less, started, weaker}
+use Rattle.edge_model.specs.OnlyRead.{OnlyRead}
+use Rattle.cipher_profile.proofs.Layouts.{IsListed-laid_out}
+use Rattle.cipher_profile.specs.Profile.{IsListed, is_plain, usable}
+use Rattle.cipher_profile.specs.declared.profile.Profile.{Profile}
+use Rattle.db_format.specs.Header.{header_read}
+use Rattle.db_format.specs.declared.header.Header.{Header}
+use Rattle.db_format.specs.declared.header.HeaderRefusal.{HeaderRefusal}
+use Rattle.std.proofs.Common.{Result, Ok, Err}
+use Rattle.page_codec.specs.Page.{FileKeys, accepts, magic, opened, salt_of, sealed}
+use Rattle.page_codec.proofs.Parts.{opened_plain_file}
+use Rattle.page_codec.proofs.Salt.{salt_stands}
+use Rattle.pager.specs.Base.{base_of}
+use Rattle.pager.specs.Changed.{same_layout, with_bytes}
+use Rattle.pager.specs.Database.{count_by, count_of, counted}
+use Rattle.pager.specs.File.{page_stored}
+use Rattle.pager.specs.Pages.{is_page_number, opened_pages}
+use Rattle.pager.specs.UnderWay.{HasNewPages}
+use Rattle.pager.proofs.BatchLemmas.{number_in, number_is}
+use Rattle.pager.proofs.TxnLemmas.{ciphered_alike, layout_same}
+use Rattle.pager.proofs.UnderWayLemmas.{opened_at}
+use Rattle.atomic_commit.specs.Commit.{IsCommitted, LeavesChanged}
+use Rattle.atomic_commit.specs.Database.{Base, HoldsEither, HoldsOld, stored_page, stored_pages}
+use Rattle.atomic_commit.specs.Draws.{drawn_at}
+use Rattle.session_hall.specs.Commit.{StopsCommit, base_by, content_at, put_change, put_over}
+use Rattle.session_hall.specs.Kept.{IsHallSettled, IsSessionSound}
+use Rattle.session_hall.specs.Key.{Access, codec_at, codec_of}
+use Rattle.session_hall.specs.Machine.{HasSessionChanges, committed_page, else_page, is_sealed, open_answer, opened_by, page_count, seen_page, write_access}
+use Rattle.session_hall.specs.Session.{HasPlainPages, Session, change_of}
+use Rattle.session_hall.specs.Writing.{HasWritten, IsChangeAnswer}
+use Rattle.session_hall.specs.declared.step.Answer.{Answer}
+use Rattle.session_hall.specs.declared.step.Answer.TheVariants.{Done as AnswerDone, Page as AnswerPage, Busy as AnswerBusy, Refused as AnswerRefused, TagRefused as AnswerTag, Misuse as AnswerMisuse, Down as AnswerDown, DiskFault as AnswerDisk, EntropyFault as AnswerDraws, OutOfMemory as AnswerMemory}
+use Rattle.pager.specs.Opening.{IsRefusedBy, Opened}
+use Rattle.pager.specs.declared.opening.OpenError.{OpenError}
+use Rattle.pager.specs.declared.opening.OpenError.TheVariants.{Empty as IsEmpty, Short as IsShort, KeyRefused as NoKey, HeaderFault as AtFault, WalMode as IsWal, AutoVacuum as IsVacuum, Ragged as IsRagged, TooLarge as IsLarge, DiskFault as DiskFails, OutOfMemory as MemoryEnds}
+use Rattle.session_hall.proofs.Counting.{count_whole, open_count, open_some}
+use Rattle.session_hall.proofs.Cutting.{committed_counts, cut_page, cut_pages, last_whole, one_page, page_whole}
+use Rattle.session_hall.proofs.Headers.{header_same, put_back_is}
+use Rattle.session_hall.proofs.Standing.{alone_old, base_begins, is_some_is, some_is, stands_alone}
+
+-- ---- profiles
+
+-- a file that is plain under the new keys was so under the old ones
+plain_alike : (read write : Profile) → IsListed read → IsListed write → (write.page_size ≡ read.page_size) × (write.reserve ≡ read.reserve)
+    → is_plain write ≡ true → is_plain read ≡ true
+plain_alike read write read_listed write_listed same plain = by_kind (is_plain read) refl
+  where
+    by_kind : (b : Bool) → is_plain read ≡ b → b ≡ true
+    by_kind true is = refl
+    by_kind false ciphered =
+        let both : false ≡ true = sym (ciphered_alike write read write_listed read_listed (sym same.0) (sym same.1) ciphered) ∙ plain in
+        cc
+
+-- the salt of a codec of an encrypted file is that of the file
+ciphered_salt : (access : Access) (file : List ℕ) → is_plain access.profile ≡ false → (codec_of access file).salt ≡ salt_of file
+ciphered_salt access file ciphered = ap (λ (b : Bool). if b then magic else salt_of file) ciphered
+
+-- the first bytes of a file are those of its page 1
+starts : (size : ℕ) (file : List ℕ) → 16 ≤ size → take 16 file ≡ take 16 (stored_page size 1 file)
+starts size file within =
+    sym (take-take 16 size file within)
+    ∙ ap (λ (at : ℕ). take 16 (take size (drop at file))) {x = 0} {y = (1 - 1) * size} (omega arith)
+
+-- ---- a session
+
+no_key : (o : Option Access) (access : Access) → is_some o ≡ false → unwrap_or o access ≡ access
+no_key None access is = refl
+no_key (Some key) access is = cc
+
+or_false : (a b : Bool) → (a || b) ≡ false → a ≡ false
+or_false true b is = cc
+or_false false b is = refl
+
+-- a commit that leaves a page as it is rekeys nothing
+pub same_access : (x : Session) (n : ℕ) → is_sealed x n ≡ false → write_access x ≡ x.access
+same_access x n is = no_key x.new_access x.access (or_false (is_some x.new_access) (is_some (change_of n x.changes)) is)
+
+content_least : (n : ℕ) → content_at n ≤ 100
+content_least n = by_number (n == 1)
+  where
+    by_number : (b : Bool) → (if b then 100 else 0) ≤ 100
+    by_number true = omega arith
+    by_number false = omega arith
+
+module _ (x : Session) (file : List ℕ) (listed : IsListed x.access.profile) (write_listed : IsListed (write_access x).profile) (plains : HasPlainPages x.access x.changes)
+    (sound : IsSessionSound file x) (opens : page_count (opened_by x.access file) ≡ Some x.pages) (some : 1 ≤ x.pages)
+    (layout : same_layout (codec_of x.access file) (codec_of (write_access x) file) ≡ true) (tells : Bool) (before after : List ℕ) where
+  abbrev keys : FileKeys
+  keys = codec_of x.access file
+
+  abbrev write : FileKeys
+  write = codec_of (write_access x) file
+
+  abbrev count : ℕ
+  count = x.pages
+
+  -- page n as it was committed
+  abbrev old_plain : ℕ → List ℕ
+  old_plain n = opened keys n (page_stored keys file n)
+
+  abbrev plain : ℕ → List ℕ
+  plain n = put_over x n ((opened_pages keys file count).page n)
+
+  -- what the transaction left
+  abbrev pub HasNew : List ℕ → Type 0
+  HasNew main = HasWritten (record { base = base_by x file; drawn = before }) keys write x plain tells after main
+
+  size_is : (write.profile.page_size ≡ keys.profile.page_size) × (write.profile.reserve ≡ keys.profile.reserve)
+  size_is = layout_same keys write layout
+
+  usable_is : usable write.profile ≡ usable keys.profile
+  usable_is = ap (λ (s : ℕ). s - write.profile.reserve) size_is.0 ∙ ap (λ (r : ℕ). keys.profile.page_size - r) size_is.1
+
+  large : 512 ≤ keys.profile.page_size
+  large = (IsListed-laid_out x.access.profile listed).least
+
+  long : count * keys.profile.page_size ≤ length file
+  long = count_whole keys file count opens
+
+  first : is_page_number count 1 ≡ true
+  first = number_is count 1 (omega arith) some
+
+  alike : is_plain write.profile ≡ true → is_plain keys.profile ≡ true
+  alike = plain_alike keys.profile write.profile listed write_listed size_is
+
+  salt_long : length (salt_of file) ≡ 16
+  salt_long = let each = one_page count keys.profile.page_size some in omega (arith, length-take 16 file, each, large, long)
+
+  abbrev base : Base
+  base = base_by x file
+
+  base_counts : (len : ℕ) → base.counts len ≡ true → count_by keys (page_stored keys file 1) len ≡ Some count
+  base_counts len is = some_is count (count_by keys (page_stored keys file 1) len) is
+
+  module _ (main : List ℕ) (new : HasNew main) where
+    abbrev has : HasNewPages (record { base = base_by x file; drawn = before }) write (is_sealed x) plain tells after main
+    has = new.1
+
+    -- ---- plain pages
+
+    plain_is : (n : ℕ) (page : List ℕ) → is_page_number count n ≡ true → change_of n x.changes ≡ Some page → plain n ≡ page
+    plain_is n page num is =
+        let o = (opened_pages keys file count).page n in
+        let sealed_too : is_sealed x n ≡ true = ap (λ (c : Option (List ℕ)). is_some x.new_access || is_some c) is ∙ or_true (is_some x.new_access) in
+        let written : plain n ≡ with_bytes (content_at n) (drop (content_at n) page) o =
+        ap (λ (c : Option (List ℕ)). put_change n c o) is in
+        let here : length page ≡ usable keys.profile = plains n page is in
+        let content = (IsListed-laid_out x.access.profile listed).content in
+        let sized : length (plain n) ≡ length page = has.sizes n num sealed_too ∙ (usable_is ∙ sym here) in
+        written
+        ∙ put_back_is (content_at n) page o (omega (arith, content_least n, content, here)) (begins n page o is (opened_at keys file count n num)) (ap length (sym written) ∙ sized)
+      where
+        or_true : (a : Bool) → (a || true) ≡ true
+        or_true true = refl
+        or_true false = refl
+
+        begins : (n : ℕ) (page o : List ℕ) → change_of n x.changes ≡ Some page → o ≡ old_plain n → take (content_at n) o ≡ take (content_at n) page
+        begins n page o is opens_to = ⊎_elim
+            (λ (same : n ≡ 1). subst (λ (m : ℕ). take (content_at m) o ≡ take (content_at m) page) (sym same)
+            (ap (take 100) (opens_to ∙ ap old_plain same) ∙ sym (sound.header page (subst (λ (m : ℕ). change_of m x.changes ≡ Some page) same is))))
+            (λ other. ap (λ (at : ℕ). take at o) (behind n other) ∙ sym (ap (λ (at : ℕ). take at page) (behind n other))) (cases_eq n 1)
+          where
+            behind : (n : ℕ) → n ≢ 1 → content_at n ≡ 0
+            behind n other = search (rules, other)
+
+    unchanged_is : (n : ℕ) → is_page_number count n ≡ true → change_of n x.changes ≡ None → plain n ≡ old_plain n
+    unchanged_is n num is =
+        ap (λ (c : Option (List ℕ)). put_change n c ((opened_pages keys file count).page n)) is ∙ opened_at keys file count n num
+
+    -- page 1 keeps its header
+    header_kept : take 100 (plain 1) ≡ take 100 (old_plain 1)
+    header_kept = by_change (change_of 1 x.changes) refl
+      where
+        by_change : (c : Option (List ℕ)) → change_of 1 x.changes ≡ c → take 100 (plain 1) ≡ take 100 (old_plain 1)
+        by_change None is = ap (take 100) (unchanged_is 1 first is)
+        by_change (Some page) is = ap (take 100) (plain_is 1 page first is) ∙ sound.header page is
+
+    -- ---- stored pages
+
+    -- one that was not sealed anew stands as it was
+    other_stored : (n : ℕ) → is_page_number count n ≡ true → is_sealed x n ≡ false → page_stored write main n ≡ page_stored write file n
+    other_stored n num is = has.others n num is
+
+    main_long : count * keys.profile.page_size ≤ length main
+    main_long =
+        subst (λ (s : ℕ). count * s ≤ length main) size_is.0
+        (last_whole count write.profile.page_size main some (omega (arith, size_is.0, large)) (by_seal (is_sealed x count) refl))
+      where
+        last : is_page_number count count ≡ true
+        last = number_is count count some (omega arith)
+
+        by_seal : (b : Bool) → is_sealed x count ≡ b → length (page_stored write main count) ≡ write.profile.page_size
+        by_seal true is = has.whole count last is
+        by_seal false is =
+            ap length (other_stored count last is)
+            ∙ page_whole count write.profile.page_size file some (subst (λ (s : ℕ). count * s ≤ length file) (sym size_is.0) long)
+
+    -- the first bytes stay: of an encrypted file they are the salt, and of a plain one they are in the header
+    main_salt : take 16 main ≡ salt_of file
+    main_salt = starts write.profile.page_size main (omega (arith, size_is.0, large)) ∙ by_seal (is_sealed x 1) refl
+      where
+        file_starts : take 16 (page_stored write file 1) ≡ salt_of file
+        file_starts = sym (starts write.profile.page_size file (omega (arith, size_is.0, large)))
+
+        old_starts : take 16 (page_stored keys file 1) ≡ salt_of file
+        old_starts = sym (starts keys.profile.page_size file (omega (arith, large)))
+
+        shorter : (l : List ℕ) → take 16 (take 100 l) ≡ take 16 l
+        shorter l = take-take 16 100 l (omega arith)
+
+        by_kind : (b : Bool) → is_plain write.profile ≡ b → is_sealed x 1 ≡ true → take 16 (page_stored write main 1) ≡ salt_of file
+        by_kind true is anew =
+            ap (take 16) (sym (opened_plain_file write 1 (page_stored write main 1) is) ∙ has.opens 1 first anew)
+            ∙ sym (shorter (plain 1)) ∙ ap (take 16) header_kept ∙ shorter (old_plain 1)
+            ∙ ap (take 16) (opened_plain_file keys 1 (page_stored keys file 1) (alike is)) ∙ old_starts
+        by_kind false ciphered anew =
+            ap (take 16) (has.own.is_sealed 1 (ap (λ (b : Bool). b && is_sealed x 1) first ∙ anew))
+            ∙ salt_stands write (plain 1) (drawn_at write.profile.reserve (has.own.place 1) has.draws) ciphered (ap length (ciphered_salt (write_access x) file ciphered) ∙ salt_long)
+            ∙ ciphered_salt (write_access x) file ciphered
+
+        by_seal : (b : Bool) → is_sealed x 1 ≡ b → take 16 (page_stored write main 1) ≡ salt_of file
+        by_seal true anew = by_kind (is_plain write.profile) refl anew
+        by_seal false is = ap (take 16) (other_stored 1 first is) ∙ file_starts
+
+    -- a length counts as many pages as before
+    counts_same : (len : ℕ) → count_by write (page_stored write main 1) len ≡ count_by keys (page_stored keys file 1) len
+    counts_same len = by_seal (is_sealed x 1) refl
+      where
+        by_seal : (b : Bool) → is_sealed x 1 ≡ b → count_by write (page_stored write main 1) len ≡ count_by keys (page_stored keys file 1) len
+        by_seal true anew =
+            ap (λ (s : ℕ). if nat_lt len s then None else counted len (header_read (opened write 1 (page_stored write main 1)) s write.profile.reserve)) size_is.0
+            ∙ ap (λ (r : ℕ). if nat_lt len keys.profile.page_size then None else counted len (header_read (opened write 1 (page_stored write main 1)) keys.profile.page_size r)) size_is.1
+            ∙ ap (λ (h : Result Header HeaderRefusal). if nat_lt len keys.profile.page_size then None else counted len h)
+            (header_same (opened write 1 (page_stored write main 1)) (old_plain 1) (ap (take 100) (has.opens 1 first anew) ∙ header_kept) keys.profile.page_size keys.profile.reserve)
+        by_seal false is =
+            ap (λ (page : List ℕ). count_by write page len) (other_stored 1 first is)
+            ∙ ap (λ (access : Access). count_by (codec_of access file) (page_stored (codec_of access file) file 1) len) (same_access x 1 is)
+
+    -- ---- the new file
+
+    -- a file with its pages, which counts them
+    with_pages : (g : List ℕ) → ((n : ℕ) → is_page_number count n ≡ true → page_stored write g n ≡ page_stored write main n) → take 16 g ≡ take 16 main
+        → base.counts (length g) ≡ true → HasSessionChanges x file g
+    with_pages g same begins is = record {
+      salt = salt_is;
+      counted = ap (λ (k : FileKeys). count_of k g) codec_is ∙ (ap (λ (l : List ℕ). count_by write l (length g)) (same 1 first) ∙ (counts_same (length g) ∙ base_counts (length g) is));
+      seen = λ n num anew. ap (λ (k : FileKeys). committed_page k g n) codec_is ∙ (given n num anew ∙ sym (seen_is n num anew (change_of n x.changes) refl));
+      others = λ n num is_other. subst (λ (s : ℕ). stored_page s n g ≡ stored_page s n file) size_is.0 (same n num ∙ other_stored n num is_other);
+    }
+      where
+        salt_is : salt_of g ≡ salt_of file
+        salt_is = begins ∙ main_salt
+
+        codec_is : codec_of (write_access x) g ≡ write
+        codec_is = ap (codec_at (write_access x)) salt_is
+
+        given : (n : ℕ) → is_page_number count n ≡ true → is_sealed x n ≡ true → committed_page write g n ≡ Some (plain n)
+        given n num anew =
+            ap (λ (l : List ℕ). if accepts write n l then Some (opened write n l) else None) (same n num)
+            ∙ ap (λ (b : Bool). if b then Some (opened write n (page_stored write main n)) else None) (has.accepted n num anew)
+            ∙ ap (λ (l : List ℕ). Some l) (has.opens n num anew)
+
+        seen_is : (n : ℕ) → is_page_number count n ≡ true → is_sealed x n ≡ true → (c : Option (List ℕ)) → change_of n x.changes ≡ c → seen_page x file n ≡ Some (plain n)
+        seen_is n num anew (Some page) is =
+            ap (λ (o : Option (List ℕ)). else_page o (committed_page keys file n)) is ∙ ap (λ (l : List ℕ). Some l) (sym (plain_is n page num is))
+        seen_is n num anew None is =
+            ap (λ (o : Option (List ℕ)). else_page o (committed_page keys file n)) is
+            ∙ ap (λ (b : Bool). if b then Some (old_plain n) else None) (sound.accepted n num anew)
+            ∙ ap (λ (l : List ℕ). Some l) (sym (unchanged_is n num is))
+
+    -- Main itself
+    pub main_changes : base.counts (length main) ≡ true → HasSessionChanges x file main
+    main_changes is = with_pages main (λ n num. refl) refl is
+
+    abbrev cut : List ℕ
+    cut = take (count * keys.profile.page_size) main
+
+    -- and what Main has without what stands behind its pages
+    pub cut_changes : HasSessionChanges x file cut
+    cut_changes = with_pages cut
+        (λ n num.
+        let within = number_in count n num in
+        subst (λ (s : ℕ). stored_page s n cut ≡ stored_page s n main) (sym size_is.0) (cut_page n count keys.profile.page_size main within.0 within.1 main_long))
+        (take-take 16 (count * keys.profile.page_size) main (omega (arith, large, one_page count keys.profile.page_size some)))
+        (subst (λ (k : ℕ). base.counts k ≡ true) (sym cut_length) (base_begins keys file count opens large some).whole)
+      where
+        cut_length : length cut ≡ count * keys.profile.page_size
+        cut_length = omega (arith, main_long, length-take (count * keys.profile.page_size) main)
+
+    pub cut_same : stored_pages keys.profile.page_size count main ≡ stored_pages keys.profile.page_size count cut
+    cut_same = sym (cut_pages count keys.profile.page_size main main_long)
+
+  -- where each image has this Main, and no journal
+  pub done_changes : (files : Files) (left : Files → Type 0) → left files → HasNew (main_of files) → Each left (IsCommitted base (main_of files)) → HasSessionChanges x file (main_of files)
+  done_changes files left here new each = main_changes (main_of files) new (committed_counts base (main_of files) files (each files here))
+
+  -- at each moment
+  pub leaves_changes : {D : Type 0} (moment : D → ℕ) (since : D → ℕ → Files → Type 0) (old_disk new_disk : D)
+      → LeavesChanged moment since base HasNew old_disk new_disk
+      → LeavesChanged moment since base (HasSessionChanges x file) old_disk new_disk
+  leaves_changes moment since old_disk new_disk (inl run) = inl run
+  leaves_changes moment since old_disk new_disk (inr new) = inr (
+    take (count * keys.profile.page_size) new.0,
+    cut_changes new.0 new.1,
+    subst (λ (db : List (List ℕ)). LeavesOnly moment since old_disk new_disk (HoldsEither base db)) (cut_same new.0 new.1) new.2,
+  )
+
+-- ---- the disk
+
+unrefused : (r : Result Opened OpenError) (x : Opened) (error : OpenError) → r ≡ Ok x → error ≢ DiskFails → error ≢ MemoryEnds → IsRefusedBy r error → ⊥
+unrefused r x error ok disk memory (inl is) = disk is
+unrefused r x error ok disk memory (inr (inl is)) = memory is.0
+unrefused r x error ok disk memory (inr (inr is)) = differ x error (sym ok ∙ is)
+  where
+    differ : (x : Opened) (error : OpenError) → ◌≡◌ {A = Result Opened OpenError} (Ok x) (Err error) → ⊥
+    differ x error is = cc
+
+-- a run that only reads a settled disk leaves the old pages
+pub old_read : {D : Type 0} (reads : D → Files) (images : D → Files → Type 0) (moment : D → ℕ) (since : D → ℕ → Files → Type 0)
+    (counts_now : (disk : D) (t : ℕ) (c : Files) → t ≤ moment disk → images disk c → since disk t c)
+    (only_now : (disk : D) (c : Files) → since disk (moment disk) c → images disk c) (x : Session) (old new : D)
+    → IsHallSettled (reads old) (images old) → page_count (opened_by x.access (main_of (reads old))) ≡ Some x.pages → OnlyRead reads images moment since old new
+    → LeavesOnly moment since old new (HoldsOld (base_by x (main_of (reads old))))
+old_read reads images moment since counts_now only_now x old new settled opens read =
+    goes_less counts_now (started only_now old (HoldsOld (base_by x (main_of (reads old)))) (λ image here. alone_old (codec_of x.access (main_of (reads old))) (main_of (reads old)) x.pages image
+    (open_count (codec_of x.access (main_of (reads old))) (main_of (reads old)) x.pages opens)
+    (stands_alone (reads old) (images old) settled (open_some (codec_of x.access (main_of (reads old))) (main_of (reads old)) x.pages opens) image here)))
+    read.time (λ c now. read.same_images.no_more c now)
+
+-- behind reads, the same run
+pub read_then : {D : Type 0} {moment : D → ℕ} {since : D → ℕ → Files → Type 0} {base : Base} {P : List ℕ → Type 0} {old mid new : D} → LeavesOnly moment since old mid (HoldsOld base)
+    → LeavesChanged moment since base P mid new → LeavesChanged moment since base P old new
+read_then first (inl run) = inl (and_then first run)
+read_then first (inr new) = inr (new.0, new.1, and_then (weaker (λ c old. inl old) first) new.2)
+
+-- a sync behind a commit adds no image
+pub then_settled : {D : Type 0} (images : D → Files → Type 0) {moment : D → ℕ} {since : D → ℕ → Files → Type 0} (from : Base) (P : List ℕ → Type 0) (main : List ℕ) {old mid new : D} → P main
+    → LeavesOnly moment since old mid (HoldsEither from (stored_pages from.size from.pages main)) → Each (images mid) (IsCommitted from main) → LeavesOnly moment since mid new (images mid)
+    → LeavesChanged moment since from P old new
+then_settled images from P main new_main run committed sync = inr (main, new_main, and_then run (weaker (λ c here. inr (committed c here).0) sync))
+
+-- a file that opens is refused by the disk or for memory alone
+pub refused_stops : {D : Type 0} (reads : D → Files) (images : D → Files → Type 0) (moment : D → ℕ) (since : D → ℕ → Files → Type 0) (old new : D) (r : Result Opened OpenError) (x : Opened) (error : OpenError)
+    → r ≡ Ok x → IsRefusedBy r error → OnlyRead reads images moment since old new → StopsCommit reads images moment since old new (open_answer error)
+refused_stops reads images moment since old new r x DiskFails ok refused read = tt
+refused_stops reads images moment since old new r x MemoryEnds ok refused read = read
+refused_stops reads images moment since old new r x IsEmpty ok refused read = absurd (unrefused r x IsEmpty ok (λ is. cc) (λ is. cc) refused)
+refused_stops reads images moment since old new r x (IsShort len) ok refused read = absurd (unrefused r x (IsShort len) ok (λ is. cc) (λ is. cc) refused)
+refused_stops reads images moment since old new r x NoKey ok refused read = absurd (unrefused r x NoKey ok (λ is. cc) (λ is. cc) refused)
+refused_stops reads images moment since old new r x (AtFault at found) ok refused read = absurd (unrefused r x (AtFault at found) ok (λ is. cc) (λ is. cc) refused)
+refused_stops reads images moment since old new r x IsWal ok refused read = absurd (unrefused r x IsWal ok (λ is. cc) (λ is. cc) refused)
+refused_stops reads images moment since old new r x IsVacuum ok refused read = absurd (unrefused r x IsVacuum ok (λ is. cc) (λ is. cc) refused)
+refused_stops reads images moment since old new r x (IsRagged len) ok refused read = absurd (unrefused r x (IsRagged len) ok (λ is. cc) (λ is. cc) refused)
+refused_stops reads images moment since old new r x (IsLarge pages) ok refused read = absurd (unrefused r x (IsLarge pages) ok (λ is. cc) (λ is. cc) refused)
+
+-- why a commit stops that was begun
+pub change_stops : {D : Type 0} (reads : D → Files) (images : D → Files → Type 0) (moment : D → ℕ) (since : D → ℕ → Files → Type 0) (old new : D) (answer : Answer) → IsChangeAnswer answer
+    → (answer ≡ AnswerMemory → OnlyRead reads images moment since old new) → StopsCommit reads images moment since old new answer
+change_stops reads images moment since old new AnswerDone is read = absurd is
+change_stops reads images moment since old new AnswerPage is read = absurd is
+change_stops reads images moment since old new AnswerBusy is read = absurd is
+change_stops reads images moment since old new (AnswerRefused error) is read = absurd is
+change_stops reads images moment since old new (AnswerTag page) is read = absurd is
+change_stops reads images moment since old new AnswerMisuse is read = absurd is
+change_stops reads images moment since old new AnswerDown is read = absurd is
+change_stops reads images moment since old new AnswerDisk is read = tt
+change_stops reads images moment since old new AnswerDraws is read = tt
+change_stops reads images moment since old new AnswerMemory is read = read refl

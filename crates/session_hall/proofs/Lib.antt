@@ -1,0 +1,14 @@
+pub mod Answers
+pub mod Committed
+pub mod Committing
+pub mod Counting
+pub mod Cutting
+pub mod Headers
+mod Lookups
+pub mod Places
+pub mod Recovered
+pub mod Runs
+pub mod Shared
+pub mod Sound
+pub mod Standing
+pub mod Written

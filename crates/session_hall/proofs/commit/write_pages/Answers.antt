@@ -1,0 +1,286 @@
+use Rattle.std.proofs.Common.{◌≡◌, ◌∙◌, ◌≤◌, inl, ℕ, true, IsTrue, List, length, Some, Ok, Err, refl, sym, ap, subst, arith, rules}
+use Rattle.std.proofs.lemmas.Result.{on_ok_weaker}
+use Rattle.atomic_commit.specs.Commit.{IsCommitted, LeavesChanged}
+use Rattle.atomic_commit.specs.Database.{HoldsEither, HoldsOld, stored_pages}
+use Rattle.cipher_profile.proofs.Layouts.{IsListed-laid_out}
+use Rattle.cipher_profile.specs.Profile.{IsListed, usable}
+use Rattle.cipher_profile.specs.declared.profile.Profile.{Profile}
+use Rattle.edge_model.specs.Files.{Files, main_of}
+use Rattle.edge_model.specs.Images.{Each, LeavesOnly}
+use Rattle.edge_model.specs.OnlyRead.{OnlyRead}
+use Rattle.page_codec.specs.Page.{FileKeys, accepts}
+use Rattle.pager.specs.File.{page_stored}
+use Rattle.pager.specs.Pages.{is_page_number, opened_pages}
+use Rattle.pager.specs.Opening.{IsRefusedBy, file_opened}
+use Rattle.pager.specs.Reads.{then_read}
+use Rattle.session_hall.specs.Commit.{StopsCommit, base_by, put_over}
+use Rattle.session_hall.specs.Key.{codec_of}
+use Rattle.session_hall.specs.Machine.{HasSessionChanges, is_sealed, opened_by, page_count, write_access}
+use Rattle.session_hall.specs.Session.{Session}
+use Rattle.session_hall.specs.Writing.{HasWritten}
+use Rattle.session_hall.specs.declared.step.Answer.{Answer}
+use Rattle.session_hall.proofs.Committed.{change_stops, old_read, refused_stops}
+use Rattle.session_hall.proofs.Committing.{all_old, begun, done, is_new, moments, one_new, still_accepted}
+use Rattle.session_hall.proofs.Counting.{counted_open, open_long}
+use Rattle.session_hall.proofs.Sound.{read_settled}
+use Rattle.session_hall.proofs.Standing.{any_base, base_sizes, is_base, settled_bare}
+use Rattle.session_hall.proofs.Written.{err_case, ok_both}
+use Rattle.session_hall.proofs.commit.write_pages.Goals as goal
+
+pub returns-in_default-clause-any_moment : goal.returns-in_default-clause-any_moment
+returns-in_default-clause-any_moment g c = λ told.
+    let d = g.D.Disk in
+    let x = c.args.session.now in
+    let old = c.args.disk.now in
+    let file = main_of (d.reads old) in
+    inl (old_read d.reads d.images d.moment d.since g.met.D.Disk.counts_now g.met.D.Disk.only_now x old c.codecs.new.disk (c.requires.settled told) ((c.requires.sound told).opens c.requires.holds) (c.codecs.ensures.only_read told))
+
+pub read-requires : goal.read-requires
+read-requires g c =
+    let d = g.D.Disk in
+    let mid = c.codecs.new.disk in
+    record {
+      frames = (omega arith, omega arith);
+      recovered = λ told byte. settled_bare (d.reads mid) (d.images mid) (read_settled (c.codecs.ensures.only_read told) (c.requires.settled told)) byte;
+    }
+
+pub returns-in-Err-clause-stopped : goal.returns-in-Err-clause-stopped
+returns-in-Err-clause-stopped g c = λ told.
+    let d = g.D.Disk in
+    let x = c.args.session.now in
+    let old = c.args.disk.now in
+    let file = main_of (d.reads old) in
+    let listed : IsListed x.access.profile = subst IsListed c.in-Ok.ensures.profiles.0 c.in-Ok.ensures.listed.0 in
+    let new = c.read.new.disk in
+    let opens = (c.requires.sound told).opens c.requires.holds in
+    let was = counted_open (opened_by x.access file) x.pages opens in
+    let whole = open_long (codec_of x.access file) file x.pages opens in
+    let large = (IsListed-laid_out x.access.profile listed).least in
+    let long : 16 ≤ length file = omega (arith, whole, large) in
+    let refused : IsRefusedBy (opened_by x.access file) c.in-Err.error =
+    subst (λ (k : FileKeys). IsRefusedBy (file_opened k file) c.in-Err.error) (c.in-Ok.ensures.read told long)
+    (subst (λ (fs : Files). IsRefusedBy (file_opened c.in-Ok.read (main_of fs)) c.in-Err.error) (c.codecs.ensures.only_read told).stays (c.in-Err.ensures.refused told)) in
+    subst (λ (a : Answer). StopsCommit d.reads d.images d.moment d.since old new a) (sym c.open_answer.ensures.value)
+    (refused_stops d.reads d.images d.moment d.since old new (opened_by x.access file) (record { header = was.0; count = x.pages }) c.in-Err.error was.1 refused
+    (then_read (c.codecs.ensures.only_read told) (c.read.ensures.only_read told)))
+
+pub returns-in-Err-clause-any_moment : goal.returns-in-Err-clause-any_moment
+returns-in-Err-clause-any_moment g c = λ told.
+    let d = g.D.Disk in
+    let x = c.args.session.now in
+    let old = c.args.disk.now in
+    let file = main_of (d.reads old) in
+    inl (old_read d.reads d.images d.moment d.since g.met.D.Disk.counts_now g.met.D.Disk.only_now x old c.read.new.disk (c.requires.settled told) ((c.requires.sound told).opens c.requires.holds)
+    (then_read (c.codecs.ensures.only_read told) (c.read.ensures.only_read told)))
+
+-- the conditions, by their places: sizes, drawn, base_is, begun, usable, accepted
+pub write_changes-disk-requires : goal.write_changes-disk-requires
+write_changes-disk-requires g c κs within =
+    let d = g.D.Disk in
+    let x = c.args.session.now in
+    let old = c.args.disk.now in
+    let file = main_of (d.reads old) in
+    let listed : IsListed x.access.profile = subst IsListed c.in-Ok.ensures.profiles.0 c.in-Ok.ensures.listed.0 in
+    let write_listed : IsListed (write_access x).profile = subst IsListed c.in-Ok.ensures.profiles.1 c.in-Ok.ensures.listed.1 in
+    let p = c.into_pager-pager.result in
+    let e = c.into_pager-pager.ensures in
+    let codec_is : p.codec ≡ c.in-Ok.read = e.file.0 ∙ c.in-Ok-read.ensures.codec in
+    let counts : IsTrue d.tells → page_count (file_opened p.codec (main_of (d.reads p.disk.now))) ≡ Some p.count =
+    λ told. ap (λ (k : FileKeys). page_count (file_opened k (main_of (d.reads p.disk.now)))) codec_is
+    ∙ ap (λ (y : _). page_count (file_opened c.in-Ok.read (main_of (d.reads y)))) e.disk.1
+    ∙ ap (λ (fs : Files). page_count (file_opened c.in-Ok.read (main_of fs))) (c.read.ensures.only_read told).stays
+    ∙ ap page_count (c.in-Ok-read.ensures.opens told)
+    ∙ ap (λ (n : ℕ). Some n) (sym e.file.2) in
+    let run : IsTrue d.tells → OnlyRead d.reads d.images d.moment d.since old p.disk.now =
+    λ told. subst (λ (y : _). OnlyRead d.reads d.images d.moment d.since old y) (sym e.disk.1) (then_read (c.codecs.ensures.only_read told) (c.read.ensures.only_read told)) in
+    let profile_is : p.codec.profile ≡ x.access.profile = ap (λ (k : FileKeys). k.profile) codec_is ∙ c.in-Ok.ensures.profiles.0 in
+    let least = (IsListed-laid_out x.access.profile listed).least in
+    let large : 512 ≤ p.codec.profile.page_size = subst (λ (f : Profile). 512 ≤ f.page_size) (sym profile_is) least in (
+      within.0,
+      (
+        within.1,
+        (
+          base_sizes d.tells p.codec (main_of (d.reads p.disk.now)) p.count,
+          (
+            refl,
+            (
+              is_base d.tells p.codec (main_of (d.reads p.disk.now)) p.count large e.some counts,
+              (
+                λ told. begun d.reads d.images d.moment d.since g.met.D.Disk.counts_now g.met.D.Disk.only_now d.tells told x old p.disk.now (c.requires.settled told) (c.requires.sound told) c.requires.holds
+                    c.sizes.ensures listed write_listed p.codec c.in-Ok.write p.count e.some (λ l. codec_is ∙ c.in-Ok.ensures.read told l) (λ l. c.in-Ok.ensures.write told l) (counts told) (run told),
+                (
+                  ap usable (profile_is ∙ ap (λ (s : Session). s.access.profile) (sym c.codecs.ensures.same)),
+                  λ told. subst (λ (s : Session). (n : ℕ) → is_page_number p.count n ≡ true → is_sealed s n ≡ true
+                      → accepts p.codec n (page_stored p.codec (any_base d.tells p.codec (main_of (d.reads p.disk.now)) p.count).start n) ≡ true) (sym c.codecs.ensures.same)
+                      (still_accepted d.reads d.images d.moment d.since g.met.D.Disk.counts_now g.met.D.Disk.only_now d.tells told x old p.disk.now (c.requires.settled told) (c.requires.sound told) c.requires.holds
+                      c.sizes.ensures listed write_listed p.codec c.in-Ok.write p.count e.some (λ l. codec_is ∙ c.in-Ok.ensures.read told l) (λ l. c.in-Ok.ensures.write told l) (counts told) (run told)),
+                ),
+              ),
+            ),
+          ),
+        ),
+      ),
+    )
+
+pub returns-clause-committed : goal.returns-clause-committed
+returns-clause-committed g c =
+    let d = g.D.Disk in
+    let x = c.args.session.now in
+    let old = c.args.disk.now in
+    let file = main_of (d.reads old) in
+    let listed : IsListed x.access.profile = subst IsListed c.in-Ok.ensures.profiles.0 c.in-Ok.ensures.listed.0 in
+    let write_listed : IsListed (write_access x).profile = subst IsListed c.in-Ok.ensures.profiles.1 c.in-Ok.ensures.listed.1 in
+    let p = c.into_pager-pager.result in
+    let e = c.into_pager-pager.ensures in
+    let codec_is : p.codec ≡ c.in-Ok.read = e.file.0 ∙ c.in-Ok-read.ensures.codec in
+    let counts : IsTrue d.tells → page_count (file_opened p.codec (main_of (d.reads p.disk.now))) ≡ Some p.count =
+    λ told. ap (λ (k : FileKeys). page_count (file_opened k (main_of (d.reads p.disk.now)))) codec_is
+    ∙ ap (λ (y : _). page_count (file_opened c.in-Ok.read (main_of (d.reads y)))) e.disk.1
+    ∙ ap (λ (fs : Files). page_count (file_opened c.in-Ok.read (main_of fs))) (c.read.ensures.only_read told).stays
+    ∙ ap page_count (c.in-Ok-read.ensures.opens told)
+    ∙ ap (λ (n : ℕ). Some n) (sym e.file.2) in
+    let run : IsTrue d.tells → OnlyRead d.reads d.images d.moment d.since old p.disk.now =
+    λ told. subst (λ (y : _). OnlyRead d.reads d.images d.moment d.since old y) (sym e.disk.1) (then_read (c.codecs.ensures.only_read told) (c.read.ensures.only_read told)) in
+    let w = c.write_changes-disk in
+    let end = w.result.0.now in
+    let last : c.disk-1.given.0 ≡ end = search rules in
+    ok_both w.result.2 (λ changed new told. subst (λ (y : _). HasSessionChanges x file (main_of (d.reads y))) (sym last)
+    (done d.reads d.images d.moment d.since g.met.D.Disk.counts_now g.met.D.Disk.only_now d.tells told x old p.disk.now (c.requires.settled told) (c.requires.sound told) c.requires.holds
+    c.sizes.ensures listed write_listed p.codec c.in-Ok.write p.count e.some (λ l. codec_is ∙ c.in-Ok.ensures.read told l) (λ l. c.in-Ok.ensures.write told l) (counts told) (run told) g.E.Entropy.tells (g.E.Entropy.drawn p.entropy.now) (g.E.Entropy.drawn w.result.1.now)
+    (d.reads end) (d.images end) (g.met.D.Disk.reads_now end) (subst (λ (s : Session). HasWritten (record { base = any_base d.tells p.codec (main_of (d.reads p.disk.now)) p.count; drawn = g.E.Entropy.drawn p.entropy.now }) p.codec c.in-Ok.write s
+    (λ n. put_over s n ((opened_pages p.codec (main_of (d.reads p.disk.now)) p.count).page n)) g.E.Entropy.tells (g.E.Entropy.drawn w.result.1.now) (main_of (d.reads end))) c.codecs.ensures.same (changed told)) (new told))) w.ensures.changed w.ensures.new
+
+pub returns-clause-new : goal.returns-clause-new
+returns-clause-new g c =
+    let d = g.D.Disk in
+    let x = c.args.session.now in
+    let old = c.args.disk.now in
+    let file = main_of (d.reads old) in
+    let listed : IsListed x.access.profile = subst IsListed c.in-Ok.ensures.profiles.0 c.in-Ok.ensures.listed.0 in
+    let write_listed : IsListed (write_access x).profile = subst IsListed c.in-Ok.ensures.profiles.1 c.in-Ok.ensures.listed.1 in
+    let p = c.into_pager-pager.result in
+    let e = c.into_pager-pager.ensures in
+    let codec_is : p.codec ≡ c.in-Ok.read = e.file.0 ∙ c.in-Ok-read.ensures.codec in
+    let counts : IsTrue d.tells → page_count (file_opened p.codec (main_of (d.reads p.disk.now))) ≡ Some p.count =
+    λ told. ap (λ (k : FileKeys). page_count (file_opened k (main_of (d.reads p.disk.now)))) codec_is
+    ∙ ap (λ (y : _). page_count (file_opened c.in-Ok.read (main_of (d.reads y)))) e.disk.1
+    ∙ ap (λ (fs : Files). page_count (file_opened c.in-Ok.read (main_of fs))) (c.read.ensures.only_read told).stays
+    ∙ ap page_count (c.in-Ok-read.ensures.opens told)
+    ∙ ap (λ (n : ℕ). Some n) (sym e.file.2) in
+    let run : IsTrue d.tells → OnlyRead d.reads d.images d.moment d.since old p.disk.now =
+    λ told. subst (λ (y : _). OnlyRead d.reads d.images d.moment d.since old y) (sym e.disk.1) (then_read (c.codecs.ensures.only_read told) (c.read.ensures.only_read told)) in
+    let w = c.write_changes-disk in
+    let end = w.result.0.now in
+    let last : c.disk-1.given.0 ≡ end = search rules in
+    on_ok_weaker w.result.2 (λ new told. subst (λ (y : _). Each (d.images y) (IsCommitted (base_by x file) (main_of (d.reads y)))) (sym last)
+    (is_new d.reads d.images d.moment d.since g.met.D.Disk.counts_now g.met.D.Disk.only_now d.tells told x old p.disk.now (c.requires.settled told) (c.requires.sound told) c.requires.holds
+    c.sizes.ensures listed write_listed p.codec c.in-Ok.write p.count e.some (λ l. codec_is ∙ c.in-Ok.ensures.read told l) (λ l. c.in-Ok.ensures.write told l) (counts told) (run told)
+    (d.images end) (main_of (d.reads end)) (new told))) w.ensures.new
+
+pub returns-clause-one_new : goal.returns-clause-one_new
+returns-clause-one_new g c =
+    let d = g.D.Disk in
+    let x = c.args.session.now in
+    let old = c.args.disk.now in
+    let file = main_of (d.reads old) in
+    let listed : IsListed x.access.profile = subst IsListed c.in-Ok.ensures.profiles.0 c.in-Ok.ensures.listed.0 in
+    let write_listed : IsListed (write_access x).profile = subst IsListed c.in-Ok.ensures.profiles.1 c.in-Ok.ensures.listed.1 in
+    let p = c.into_pager-pager.result in
+    let e = c.into_pager-pager.ensures in
+    let codec_is : p.codec ≡ c.in-Ok.read = e.file.0 ∙ c.in-Ok-read.ensures.codec in
+    let counts : IsTrue d.tells → page_count (file_opened p.codec (main_of (d.reads p.disk.now))) ≡ Some p.count =
+    λ told. ap (λ (k : FileKeys). page_count (file_opened k (main_of (d.reads p.disk.now)))) codec_is
+    ∙ ap (λ (y : _). page_count (file_opened c.in-Ok.read (main_of (d.reads y)))) e.disk.1
+    ∙ ap (λ (fs : Files). page_count (file_opened c.in-Ok.read (main_of fs))) (c.read.ensures.only_read told).stays
+    ∙ ap page_count (c.in-Ok-read.ensures.opens told)
+    ∙ ap (λ (n : ℕ). Some n) (sym e.file.2) in
+    let run : IsTrue d.tells → OnlyRead d.reads d.images d.moment d.since old p.disk.now =
+    λ told. subst (λ (y : _). OnlyRead d.reads d.images d.moment d.since old y) (sym e.disk.1) (then_read (c.codecs.ensures.only_read told) (c.read.ensures.only_read told)) in
+    let w = c.write_changes-disk in
+    let end = w.result.0.now in
+    let last : c.disk-1.given.0 ≡ end = search rules in
+    on_ok_weaker w.result.2 (λ one told. subst (λ (y : _). LeavesOnly d.moment d.since old y (HoldsEither (base_by x file) (stored_pages x.access.profile.page_size x.pages (main_of (d.reads y))))) (sym last)
+    (one_new d.reads d.images d.moment d.since g.met.D.Disk.counts_now g.met.D.Disk.only_now d.tells told x old p.disk.now (c.requires.settled told) (c.requires.sound told) c.requires.holds
+    c.sizes.ensures listed write_listed p.codec c.in-Ok.write p.count e.some (λ l. codec_is ∙ c.in-Ok.ensures.read told l) (λ l. c.in-Ok.ensures.write told l) (counts told) (run told)
+    end (main_of (d.reads end)) (one told))) w.ensures.one_new
+
+pub returns-clause-stopped : goal.returns-clause-stopped
+returns-clause-stopped g c =
+    let d = g.D.Disk in
+    let x = c.args.session.now in
+    let old = c.args.disk.now in
+    let file = main_of (d.reads old) in
+    let listed : IsListed x.access.profile = subst IsListed c.in-Ok.ensures.profiles.0 c.in-Ok.ensures.listed.0 in
+    let write_listed : IsListed (write_access x).profile = subst IsListed c.in-Ok.ensures.profiles.1 c.in-Ok.ensures.listed.1 in
+    let p = c.into_pager-pager.result in
+    let e = c.into_pager-pager.ensures in
+    let codec_is : p.codec ≡ c.in-Ok.read = e.file.0 ∙ c.in-Ok-read.ensures.codec in
+    let counts : IsTrue d.tells → page_count (file_opened p.codec (main_of (d.reads p.disk.now))) ≡ Some p.count =
+    λ told. ap (λ (k : FileKeys). page_count (file_opened k (main_of (d.reads p.disk.now)))) codec_is
+    ∙ ap (λ (y : _). page_count (file_opened c.in-Ok.read (main_of (d.reads y)))) e.disk.1
+    ∙ ap (λ (fs : Files). page_count (file_opened c.in-Ok.read (main_of fs))) (c.read.ensures.only_read told).stays
+    ∙ ap page_count (c.in-Ok-read.ensures.opens told)
+    ∙ ap (λ (n : ℕ). Some n) (sym e.file.2) in
+    let run : IsTrue d.tells → OnlyRead d.reads d.images d.moment d.since old p.disk.now =
+    λ told. subst (λ (y : _). OnlyRead d.reads d.images d.moment d.since old y) (sym e.disk.1) (then_read (c.codecs.ensures.only_read told) (c.read.ensures.only_read told)) in
+    let w = c.write_changes-disk in
+    let end = w.result.0.now in
+    let last : c.disk-1.given.0 ≡ end = search rules in
+    err_case _ _ w.result.2 (λ answer is stopped told. change_stops d.reads d.images d.moment d.since old c.disk-1.given.0 answer (stopped told)
+    (λ memory. subst (λ (y : _). OnlyRead d.reads d.images d.moment d.since old y) (sym (last ∙ w.ensures.unwritten (is ∙ ap (λ (a : Answer). Err a) memory) told)) (run told))) w.ensures.stopped
+
+pub returns-clause-any_moment : goal.returns-clause-any_moment
+returns-clause-any_moment g c = λ told.
+    let d = g.D.Disk in
+    let x = c.args.session.now in
+    let old = c.args.disk.now in
+    let file = main_of (d.reads old) in
+    let listed : IsListed x.access.profile = subst IsListed c.in-Ok.ensures.profiles.0 c.in-Ok.ensures.listed.0 in
+    let write_listed : IsListed (write_access x).profile = subst IsListed c.in-Ok.ensures.profiles.1 c.in-Ok.ensures.listed.1 in
+    let p = c.into_pager-pager.result in
+    let e = c.into_pager-pager.ensures in
+    let codec_is : p.codec ≡ c.in-Ok.read = e.file.0 ∙ c.in-Ok-read.ensures.codec in
+    let counts : IsTrue d.tells → page_count (file_opened p.codec (main_of (d.reads p.disk.now))) ≡ Some p.count =
+    λ told. ap (λ (k : FileKeys). page_count (file_opened k (main_of (d.reads p.disk.now)))) codec_is
+    ∙ ap (λ (y : _). page_count (file_opened c.in-Ok.read (main_of (d.reads y)))) e.disk.1
+    ∙ ap (λ (fs : Files). page_count (file_opened c.in-Ok.read (main_of fs))) (c.read.ensures.only_read told).stays
+    ∙ ap page_count (c.in-Ok-read.ensures.opens told)
+    ∙ ap (λ (n : ℕ). Some n) (sym e.file.2) in
+    let run : IsTrue d.tells → OnlyRead d.reads d.images d.moment d.since old p.disk.now =
+    λ told. subst (λ (y : _). OnlyRead d.reads d.images d.moment d.since old y) (sym e.disk.1) (then_read (c.codecs.ensures.only_read told) (c.read.ensures.only_read told)) in
+    let w = c.write_changes-disk in
+    let end = w.result.0.now in
+    let last : c.disk-1.given.0 ≡ end = search rules in
+    subst (λ (y : _). LeavesChanged d.moment d.since (base_by x file) (HasSessionChanges x file) old y) (sym last)
+    (moments d.reads d.images d.moment d.since g.met.D.Disk.counts_now g.met.D.Disk.only_now d.tells told x old p.disk.now (c.requires.settled told) (c.requires.sound told) c.requires.holds
+    c.sizes.ensures listed write_listed p.codec c.in-Ok.write p.count e.some (λ l. codec_is ∙ c.in-Ok.ensures.read told l) (λ l. c.in-Ok.ensures.write told l) (counts told) (run told) g.E.Entropy.tells (g.E.Entropy.drawn p.entropy.now) (g.E.Entropy.drawn w.result.1.now)
+    end (subst (λ (s : Session). LeavesChanged d.moment d.since (any_base d.tells p.codec (main_of (d.reads p.disk.now)) p.count)
+    (λ main. HasWritten (record { base = any_base d.tells p.codec (main_of (d.reads p.disk.now)) p.count; drawn = g.E.Entropy.drawn p.entropy.now }) p.codec c.in-Ok.write s
+    (λ n. put_over s n ((opened_pages p.codec (main_of (d.reads p.disk.now)) p.count).page n)) g.E.Entropy.tells (g.E.Entropy.drawn w.result.1.now) main) p.disk.now end) c.codecs.ensures.same (w.ensures.any_moment told)))
+
+pub returns-clause-only_old : goal.returns-clause-only_old
+returns-clause-only_old g c = λ is told.
+    let d = g.D.Disk in
+    let x = c.args.session.now in
+    let old = c.args.disk.now in
+    let file = main_of (d.reads old) in
+    let listed : IsListed x.access.profile = subst IsListed c.in-Ok.ensures.profiles.0 c.in-Ok.ensures.listed.0 in
+    let write_listed : IsListed (write_access x).profile = subst IsListed c.in-Ok.ensures.profiles.1 c.in-Ok.ensures.listed.1 in
+    let p = c.into_pager-pager.result in
+    let e = c.into_pager-pager.ensures in
+    let codec_is : p.codec ≡ c.in-Ok.read = e.file.0 ∙ c.in-Ok-read.ensures.codec in
+    let counts : IsTrue d.tells → page_count (file_opened p.codec (main_of (d.reads p.disk.now))) ≡ Some p.count =
+    λ told. ap (λ (k : FileKeys). page_count (file_opened k (main_of (d.reads p.disk.now)))) codec_is
+    ∙ ap (λ (y : _). page_count (file_opened c.in-Ok.read (main_of (d.reads y)))) e.disk.1
+    ∙ ap (λ (fs : Files). page_count (file_opened c.in-Ok.read (main_of fs))) (c.read.ensures.only_read told).stays
+    ∙ ap page_count (c.in-Ok-read.ensures.opens told)
+    ∙ ap (λ (n : ℕ). Some n) (sym e.file.2) in
+    let run : IsTrue d.tells → OnlyRead d.reads d.images d.moment d.since old p.disk.now =
+    λ told. subst (λ (y : _). OnlyRead d.reads d.images d.moment d.since old y) (sym e.disk.1) (then_read (c.codecs.ensures.only_read told) (c.read.ensures.only_read told)) in
+    let w = c.write_changes-disk in
+    let end = w.result.0.now in
+    let last : c.disk-1.given.0 ≡ end = search rules in
+    subst (λ (y : _). LeavesOnly d.moment d.since old y (HoldsOld (base_by x file))) (sym last)
+    (all_old d.reads d.images d.moment d.since g.met.D.Disk.counts_now g.met.D.Disk.only_now d.tells told x old p.disk.now (c.requires.settled told) (c.requires.sound told) c.requires.holds
+    c.sizes.ensures listed write_listed p.codec c.in-Ok.write p.count e.some (λ l. codec_is ∙ c.in-Ok.ensures.read told l) (λ l. c.in-Ok.ensures.write told l) (counts told) (run told)
+    end (w.ensures.only_old is told))

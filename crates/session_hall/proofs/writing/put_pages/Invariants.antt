@@ -1,0 +1,32 @@
+use Rattle.std.proofs.Common.{◌≡◌, ◌≤◌, ℕ, true, false, IsTrue}
+use Rattle.edge_model.specs.Files.{main_of}
+use Rattle.edge_model.specs.Images.{LeavesOnly}
+use Rattle.pager.specs.Pages.{is_page_number}
+use Rattle.pager.specs.UnderWay.{IsReadyFor, IsUnderWay, is_touched, seen_pages}
+use Rattle.atomic_commit.specs.Database.{HoldsOld}
+use Rattle.session_hall.specs.Commit.{put_over}
+use Rattle.session_hall.specs.Machine.{is_sealed}
+use Rattle.session_hall.proofs.Written.{so_far}
+use Rattle.session_hall.proofs.writing.put_pages.Given as goal
+
+abbrev pub ghost-put_page : goal.ghost-put_page
+ghost-put_page g a = g.start
+
+-- The pages so far are written, where the commit seals them anew.
+abbrev pub invariant-loop-done : goal.invariant-loop-done
+invariant-loop-done g l = record {
+  seen : IsTrue g.D.Disk.tells → (n : ℕ) → is_page_number l.initial.txn.count n ≡ true
+      → (seen_pages l.txn.read l.txn.write (main_of (g.D.Disk.reads l.txn.disk.now)) l.txn.count l.txn.written l.txn.changed.held).page n
+      ≡ so_far
+      (λ k. put_over l.session k ((seen_pages l.initial.txn.read l.initial.txn.write (main_of (g.D.Disk.reads l.initial.txn.disk.now)) l.initial.txn.count l.initial.txn.written l.initial.txn.changed.held).page k))
+      (λ k. (seen_pages l.initial.txn.read l.initial.txn.write (main_of (g.D.Disk.reads l.initial.txn.disk.now)) l.initial.txn.count l.initial.txn.written l.initial.txn.changed.held).page k)
+      l.done n;
+  touched : (n : ℕ) → is_page_number l.initial.txn.count n ≡ true → is_touched l.txn.written l.txn.changed.held n ≡ so_far (is_sealed l.session) (λ k. false) l.done n;
+  ready : IsReadyFor l.txn.recorded l.txn.writer;
+  under_way : IsTrue g.D.Disk.tells → IsUnderWay g.start l.txn.write l.txn.recorded l.txn.written l.txn.writer (g.D.Disk.reads l.txn.disk.now)
+      (g.D.Disk.images l.txn.disk.now) g.E.Entropy.tells (g.E.Entropy.drawn l.txn.entropy.now);
+  any_moment : IsTrue g.D.Disk.tells → LeavesOnly g.D.Disk.moment g.D.Disk.since l.initial.txn.disk.now l.txn.disk.now (HoldsOld g.start.base);
+  names : (l.txn.disk.ghost_name ≡ l.initial.txn.disk.ghost_name) × (l.txn.entropy.ghost_name ≡ l.initial.txn.entropy.ghost_name);
+  later : (g.D.Disk.faults l.initial.txn.disk.now ≤ g.D.Disk.faults l.txn.disk.now) × (g.E.Entropy.faults l.initial.txn.entropy.now ≤ g.E.Entropy.faults l.txn.entropy.now);
+  file : (l.txn.read ≡ l.initial.txn.read) × (l.txn.write ≡ l.initial.txn.write) × (l.txn.count ≡ l.initial.txn.count);
+}

@@ -1,0 +1,9 @@
+pub mod Key
+pub mod Locks
+pub mod Session
+pub mod Machine
+pub mod Kept
+pub mod Faults
+pub mod Commit
+pub mod Writing
+pub mod Run

@@ -1,0 +1,5 @@
+pub mod ScriptText
+pub mod Words
+pub mod Progress
+pub mod Stopping
+pub mod RunSteps

@@ -1,0 +1,7 @@
+pub mod Script
+pub mod Lines
+pub mod AnswerText
+pub mod Reply
+pub mod Moments
+pub mod Play
+pub mod Runs

@@ -1,0 +1,56 @@
+-- What a stop leaves of the disk, at each moment of a script.
+use Rattle.std.specs.Prelude.{◌≡◌, ◌⊎◌, ◌<◌, ℕ, List, [], ◌∷◌, length, Option, Some, None}
+use Rattle.edge_model.specs.Files.{Files, main_of}
+use Rattle.cipher_profile.specs.declared.profile.Profile.{Profile}
+use Rattle.session_hall.specs.Commit.{HoldsSessionPages}
+use Rattle.session_hall.specs.Machine.{HasSessionChanges, State}
+use Rattle.session_hall.specs.Session.{Session, session_at}
+use Rattle.session_hall.specs.declared.step.Answer.{Answer}
+use Rattle.session_hall.specs.declared.step.Answer.TheVariants.{Done, Page, Busy, Refused, TagRefused, Misuse, Down, DiskFault, EntropyFault, OutOfMemory}
+use Rattle.session_hall.specs.declared.step.Step.TheVariants.{Commit}
+use Rattle.session_play.specs.Reply.{Reply}
+use Rattle.session_play.specs.Script.{step_of}
+use Rattle.session_play.specs.declared.script.ScriptStep.{ScriptStep}
+
+-- Main has these bytes, and beside a Main with a byte is no Journal: the image recovers to this file alone.
+pub record HasMain (file : List ℕ) (image : Files) : Type 0 where
+  pub main : main_of image ≡ file
+  pub alone : 0 < length file → image.journal ≡ None
+
+-- the image holds the pages from before this session's commit
+abbrev pub IsBeforeCommit : Session → List ℕ → Files → Type 0
+IsBeforeCommit session file image = HoldsSessionPages session file file image
+
+-- It holds those, or the pages of a file that the commit may come to.
+abbrev pub IsInCommit : Session → List ℕ → Files → Type 0
+IsInCommit session file image =
+    IsBeforeCommit session file image ⊎ ((main : List ℕ) × HasSessionChanges session file main × HoldsSessionPages session file main image)
+
+-- so it is within a commit that is answered so: where the entropy failed, nothing was written over the old pages
+abbrev pub IsInAnswered : Answer → Session → List ℕ → Files → Type 0
+IsInAnswered Done session file image = IsInCommit session file image
+IsInAnswered Page session file image = IsInCommit session file image
+IsInAnswered Busy session file image = IsInCommit session file image
+IsInAnswered (Refused error) session file image = IsInCommit session file image
+IsInAnswered (TagRefused page) session file image = IsInCommit session file image
+IsInAnswered Misuse session file image = IsInCommit session file image
+IsInAnswered Down session file image = IsInCommit session file image
+IsInAnswered DiskFault session file image = IsInCommit session file image
+IsInAnswered EntropyFault session file image = IsBeforeCommit session file image
+IsInAnswered OutOfMemory session file image = IsInCommit session file image
+
+-- within a step that is answered so, the file stands as it was; within a commit its pages are those from before or after it
+abbrev pub IsInStep : Option ScriptStep → Answer → State → Files → Type 0
+IsInStep None answer old image = ⊥
+IsInStep (Some entry) answer old image =
+    HasMain old.file image ⊎ ((entry.step ≡ Commit) × IsInAnswered answer (session_at old.sessions entry.session) old.file image)
+
+-- the machine's state behind the replies
+abbrev pub state_behind : State → List Reply → State
+state_behind old [] = old
+state_behind old (reply ∷ replies) = state_behind reply.after replies
+
+-- the image is of a moment within one of the steps, or behind the last
+abbrev pub IsOnWay : Profile → State → List Reply → Files → Type 0
+IsOnWay layout old [] image = HasMain old.file image
+IsOnWay layout old (reply ∷ replies) image = IsInStep (step_of layout reply.line) reply.answer old image ⊎ IsOnWay layout reply.after replies image
