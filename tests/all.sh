@@ -21,6 +21,7 @@ stops.sh
 make.sh
 real_files.sh
 plain.sh
+play.sh
 stamp.sh
 hostile_files.sh
 find.sh
@@ -32,10 +33,11 @@ edges.sh
 wal.sh
 export_to_sql.py
 salvage_to_sql.py
+session_machine.py
 documents.sh
 '
-# What the others of this folder are: this script, what scripts share, what makes the product's files, and what .ci/run runs before.
-not_run='all.sh common.sh others.sh install_product.sh product_files.sh lent_page.sh'
+# What the others of this folder are: this script, what scripts share and call, what makes the product's files, and what .ci/run runs before.
+not_run='all.sh common.sh others.sh install_product.sh product_files.sh lent_page.sh play_beside_product.py'
 
 set -u
 top=$(cd "$(dirname "$0")/.." && pwd) || exit 1

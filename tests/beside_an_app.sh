@@ -34,7 +34,8 @@ salvage 3
 recover 3
 stamp 3 user-version 9
 rekey 3 3
-migrate 3 3'
+migrate 3 3
+play 3'
 
 # ---- while the product has the file
 
@@ -59,7 +60,7 @@ held() { # held NAME SQL_BEFORE SQL_AFTER ROWS: what stands in the log afterward
             *) say "$1: status, bytes printed, file, lines that say so: $line" ;;
         esac
     done < "$out"
-    [ "$count" -eq 11 ] || say "$1: only $count commands ran"
+    [ "$count" -eq 12 ] || say "$1: only $count commands ran"
     [ "$(echo 'SELECT count(*) FROM log;' | sql 3 "$k1" "$file")" = "$4" ] || say "$1: LOST: the product's transaction is not there"
     [ "$(check 3 "$k1" "$file")" = ok ] || say "$1: LOST: the product does not find it sound"
     [ "$(printf '%s\n' "$k1" | "$program" "$file" verify 3 2>&1 | cut -d: -f1)" = ok ] || say "$1: the program does not find it sound afterwards"

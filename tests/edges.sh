@@ -211,6 +211,34 @@ row 3 'key refused' "$no_page 4" '"$tool" broken.db salvage 4 < key'
 rm -f found exported broken.db
 kept
 
+# Scripts of sessions: what standard error says where one ends early, and what of it stays.
+no_step='a step is `open S PROFILE KEY`, `share S`, `read S N AT`'
+unchanged='no line of the script has changed the file'
+stays='what was committed stays in the file'
+row 1 usage '`play` takes the version that wrote the file, 1, 2, 3 or 4, which `probe` finds' '"$tool" file.db play < key'
+row 1 usage '`play` takes a version and nothing else' '"$tool" file.db play 4 4 < key'
+row 1 usage '`5` is no version' '"$tool" file.db play 5 < key'
+row 1 usage 'unknown command `Play`' '"$tool" file.db Play 4 < key'
+row 0 '' '' '"$tool" file.db play 4 < /dev/null'
+row 0 'done' '' 'echo stop | "$tool" file.db play 4'
+row 0 'done' '' 'printf stop | "$tool" file.db play 4'
+row 2 'line 1: no step' "line 1 of the script is no step: $no_step"$'\n'"$unchanged" '"$tool" file.db play 4 < key'
+row 2 'line 1: too long' "line 1 of the script is longer than 1,100 bytes: $no_step"$'\n'"$unchanged" 'head -c 1101 /dev/zero | "$tool" file.db play 4'
+row 2 'more than 100000 lines' "the script goes on after its first 100,000 lines"$'\n'"$unchanged" 'yes stop | "$tool" file.db play 4 | tail -n 1; exit "${PIPESTATUS[1]}"'
+row 6 '' $'standard input: read: Is a directory\n'"$unchanged" '"$tool" file.db play 4 < .'
+row 6 '' $'standard input: read: Bad file descriptor\n'"$unchanged" '"$tool" file.db play 4 <&-'
+row 5 '' $'standard output: write: No space left on device\n'"$unchanged" 'echo stop | "$tool" file.db play 4 > /dev/full'
+row 5 '' $'standard output: write: Bad file descriptor\n'"$unchanged" 'echo stop | "$tool" file.db play 4 >&-'
+row 4 '' $'file.db: another run of sqlcipher-tool has the file\nfile.db: it was not touched' 'echo stop | flock file.db "$tool" file.db play 4'
+row 0 $'done\nfile is empty' 'absent.db: there is no such file' 'printf "open 0 4 %s\nshare 0\n" "$k0" | "$tool" absent.db play 4'
+kept
+cp file.db played.db
+printf 'open 0 4 %s\nshare 0\nreserve 0\nchange 0 2 4000 7\ncommit 0\nwalk 0\n' "$k0" > script
+row 2 $'done\ndone\ndone\ndone\ndone\nline 6: no step' "line 6 of the script is no step: $no_step"$'\n'"$stays" '"$tool" played.db play 4 < script'
+row 1 '' '' 'cmp -s file.db played.db'
+rm -f played.db script
+kept
+
 # Where the file lies.
 mkdir real linked
 cp file.db real/app.db

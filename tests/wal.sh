@@ -29,7 +29,7 @@ cp "$scratch/file" "$scratch/older" && cp "$scratch/live-wal" "$scratch/older-wa
 for name in live older; do
     file=$scratch/$name
     cp "$file" "$file.kept" && cp "$file-wal" "$file.kept-wal"
-    for words in "verify 3" "tags 3" "header 3" "export 3" "find 3 items 1 9" "salvage 3" "recover 3" "stamp 3 user-version 9" "rekey 3 3" "migrate 3 4" "make 3 1"; do
+    for words in "verify 3" "tags 3" "header 3" "export 3" "find 3 items 1 9" "salvage 3" "recover 3" "stamp 3 user-version 9" "rekey 3 3" "migrate 3 4" "make 3 1" "play 3"; do
         rows=$((rows + 1))
         # shellcheck disable=SC2086
         "$program" "$file" $words < "$scratch/keys" > "$scratch/lines" 2> "$scratch/errors"

@@ -15,6 +15,8 @@ mod pages;
 #[cfg(test)]
 mod plain_files;
 #[cfg(test)]
+mod plays;
+#[cfg(test)]
 mod renewal;
 #[cfg(test)]
 mod rows;

@@ -1,6 +1,7 @@
 // What a stop, a failure of one call and an end of the entropy leave of each command that writes: the old file or the new one, byte by
 // byte. By which key these open, and to what, is asked once.
 use crate::pages::sealed;
+use crate::plays::REKEYED;
 use crate::served::{Given, KEY, OTHER_KEY, disk_with, file_in, made, recovered, serve, told};
 use edge_model::{ImagePick, MemDisk, Role};
 use sqlcipher_tool::Status;
@@ -36,6 +37,13 @@ const DECRYPT: Given<'static> = Given {
     words: &["migrate", "4", "plain:1024"],
     lines: &[KEY],
     drawn: 0,
+};
+
+// A script of one commit, which seals the four pages of a file of version 4 under another key.
+const PLAY: Given<'static> = Given {
+    words: &["play", "4"],
+    lines: &REKEYED,
+    drawn: 320,
 };
 
 // More calls of the disk than a run here makes.
@@ -230,6 +238,70 @@ fn a_stop_of_a_decryption_leaves_the_old_file_or_the_plain_one(
     a_plain_migration_leaves_one(&rt, rt.alloc(), DECRYPT, "4")
 }
 
+// The old file opens by the old key alone, and the new one by the new key.
+#[test]
+fn a_stop_of_a_script_leaves_the_old_file_or_the_committed_one(
+    rt: HostRuntime,
+) -> Result<(), Fail> {
+    let alloc = rt.alloc();
+    let play = trial_on(alloc, PLAY, "4", made(alloc, "4", "0")?)?;
+    for (file, key) in [(&play.old, KEY), (&play.new, OTHER_KEY)] {
+        let said = told(alloc, &["verify", "4"], key, file.as_slice())?;
+        assert!(rt; said.starts_with(b"ok: 4 trees, 4 entries, "));
+    }
+    for alone in [false, true] {
+        let (end, renewed) = each_leaves_one(&rt, alloc, &play, 0, 1, alone)?;
+        assert!(rt; end > 20 && renewed > 0, "{end}");
+    }
+    Ok(())
+}
+
+// A script recovers the file first, also where its first line is no step.
+#[test]
+fn a_script_begins_with_the_recovery(rt: HostRuntime) -> Result<(), Fail> {
+    let alloc = rt.alloc();
+    let old = made(alloc, "3", "7")?;
+    let start = half_rekeyed(alloc, old.as_slice())?;
+    let half = file_in(alloc, &start, Role::Main)?;
+    assert!(rt; half.as_slice() != old.as_slice());
+    let rows: [(&[&[u8]], &str, u8); 2] = [
+        (
+            &[b"open 0 3 ", KEY, b"share 0\nread 0 1 0\n"],
+            "done\ndone\nbyte 83\n",
+            0,
+        ),
+        (&[b"walk 0\n"], "line 1: no step\n", 2),
+    ];
+    for (lines, text, code) in rows {
+        let mut disk = start.image(ImagePick::Kept)?;
+        let given = Given {
+            words: &["play", "3"],
+            lines,
+            drawn: 0,
+        };
+        let served = serve(alloc, &given, &mut disk)?;
+        assert_eq!(rt; served.text.as_slice(), text.as_bytes());
+        assert_eq!(rt; served.status.code(), code);
+        assert!(rt; disk.bytes(Role::Main) == Some(old.as_slice()));
+        assert!(rt; disk.bytes(Role::Journal).is_none());
+    }
+    let mut disk = start.image(ImagePick::Kept)?;
+    let given = Given {
+        words: &["play", "4"],
+        lines: &[b"walk 0\n"],
+        drawn: 0,
+    };
+    let served = serve(alloc, &given, &mut disk)?;
+    assert_eq!(rt;
+        served.text.as_slice(),
+        b"journal page size 1024\n".as_slice()
+    );
+    assert_eq!(rt; served.status.code(), 2);
+    assert!(rt; disk.bytes(Role::Main) == Some(half.as_slice()));
+    assert!(rt; disk.bytes(Role::Journal).is_some());
+    Ok(())
+}
+
 // Such a migration recovers the file first. Without its journal it has none of the rows.
 #[test]
 fn a_half_rekeyed_file_is_migrated_with_its_old_rows(rt: HostRuntime) -> Result<(), Fail> {
@@ -279,6 +351,10 @@ fn an_entropy_that_ends_at_any_page_leaves_the_old_file(rt: HostRuntime) -> Resu
     let alloc = rt.alloc();
     let stamped = sealed(&rt, alloc, "4", KEY, 4, &[])?;
     starves(&rt, alloc, &STAMP, "4", stamped.as_slice(), 79)?;
+    let shared = made(alloc, "4", "0")?;
+    for drawn in [0, 79, 80, 319] {
+        starves(&rt, alloc, &PLAY, "4", shared.as_slice(), drawn)?;
+    }
     let old = made(alloc, "3", "30")?;
     for before in 0..old.len() / SIZE {
         let drawn = before.saturating_mul(RESERVE).saturating_add(47);

@@ -5,8 +5,8 @@
 -- | `--help`, `-h`, `help`, `FILE --help`, `--version`              | 0                                               |
 -- | FILE and no command, as a misspelt one; no word at all          | 1                                               |
 -- | FILE and a command that its words refuse                        | 2                                               |
--- | FILE and another command                                        | any but 1; 6 where it takes a key line,         |
--- |                                                                 | 7 where it draws                                |
+-- | FILE and another command, or `play`                             | any but 1; 6 where it takes key lines or a      |
+-- |                                                                 | script, 7 where it draws                        |
 -- | words that can't be read: one is not UTF-8                      | 1                                               |
 --
 -- In the place of each of them 5 may come, where standard output failed, or 8, where memory ran out. Somebody else at the files, a
@@ -15,8 +15,8 @@ use Rattle.std.specs.Prelude.{◌≡◌, ◌⊎◌, ◌||◌, ℕ, Bool, true, f
 use Rattle.std.specs.Str.{bytes_eq}
 use Rattle.sqlcipher_tool.specs.Answer.{code_of}
 use Rattle.sqlcipher_tool.specs.Due.{word_refusal}
-use Rattle.sqlcipher_tool.specs.Promises.{AreWordsThat, takes_keys}
-use Rattle.sqlcipher_tool.specs.Words.{draws, form}
+use Rattle.sqlcipher_tool.specs.Play.{AreNoWords, DrawsBytes, TakesInput}
+use Rattle.sqlcipher_tool.specs.Words.{form}
 use Rattle.sqlcipher_tool.specs.declared.command.Command.{Command}
 use Rattle.sqlcipher_tool.specs.declared.status.Refusal.{Refusal}
 use Rattle.sqlcipher_tool.specs.declared.status.Status.{Status}
@@ -53,11 +53,11 @@ EndsAs due status = (status ≡ due) ⊎ (status ≡ OutputFault) ⊎ (status �
 
 -- how a command ends, with its words
 pub record EndsCommand (words : List (List ℕ)) (status : Status) : Type 0 where
-  pub usage : form words ≡ None → EndsAs Usage status
+  pub usage : AreNoWords words → EndsAs Usage status
   pub refused : (command : Command) (refusal : Refusal) → form words ≡ Some command → word_refusal command ≡ Some refusal → EndsAs (Refused refusal) status
-  pub no_usage : status ≡ Usage → form words ≡ None
-  pub input_fault : status ≡ InputFault → AreWordsThat takes_keys words
-  pub entropy_fault : status ≡ EntropyFault → AreWordsThat draws words
+  pub no_usage : status ≡ Usage → AreNoWords words
+  pub input_fault : status ≡ InputFault → TakesInput words
+  pub entropy_fault : status ≡ EntropyFault → DrawsBytes words
 
 -- how the program ends, with the words of its command line but for its own name
 pub record EndsOn (words : List (List ℕ)) (status : Status) : Type 0 where

@@ -63,6 +63,14 @@ const TAGS_REFUSED: &str =
 const OTHER_JOURNAL: &str =
     "the journal may have been another file's, and its pages then stand in this one: a copy made before is the way back";
 
+const SCRIPT_FORMS: &str =
+    "a step is `open S PROFILE KEY`, `share S`, `read S N AT`, `reserve S`, `change S N AT BYTE`, `rekey S PROFILE KEY`, `commit S`, \
+    `release S` or `stop`, its words parted by one space; --help says what they are";
+
+const COMMITS_STAY: &str = "what was committed stays in the file";
+
+const NO_COMMIT: &str = "no line of the script has changed the file";
+
 const CHANGED_MEANWHILE: &str =
     "another program wrote to the file meanwhile, so this answer is on no one state of it";
 
@@ -86,6 +94,11 @@ pub struct Ended<'r, 'f> {
 impl<'r, 'f> Ended<'r, 'f> {
     fn conflict(&self) -> Option<Conflict> {
         self.failure?.conflict()
+    }
+
+    // Whether a script was played.
+    fn is_play(&self) -> bool {
+        self.words.first() == Some(&"play")
     }
 
     // The version in the words; 4 where there is none.
@@ -295,6 +308,18 @@ fn explain_refusal(rt: &HostRuntime, run: &Ended, refusal: Refusal, folder: &mut
         Refusal::NoTable => explain_names(rt, run.words, run.near.as_slice()),
         Refusal::JournalPageSize { found } => explain_journal(rt, run.version(), found, folder),
         Refusal::WalMode | Refusal::AutoVacuum => explain_mode(rt, run.version()),
+        Refusal::ScriptLine { line } => say(
+            rt,
+            format_args!("line {line} of the script is no step: {SCRIPT_FORMS}"),
+        ),
+        Refusal::LineTooLong { line } => say(
+            rt,
+            format_args!("line {line} of the script is longer than 1,100 bytes: {SCRIPT_FORMS}"),
+        ),
+        Refusal::TooManyLines => say(
+            rt,
+            "the script goes on after its first 100,000 lines, which were played: the others are a script of their own",
+        ),
         _ => explain_briefly(rt, run.words, refusal, folder.deeds.laid > 0),
     }
 }
@@ -406,13 +431,24 @@ fn say_mode<D: Display + Drop>(rt: &HostRuntime, settings: D) {
 
 // What the files are where a fault leaves it open.
 fn explain_state(rt: &HostRuntime, run: &Ended, folder: &Folder) {
+    let deeds = folder.deeds;
+    if run.is_play() && is_cut_off(run.status) {
+        say(
+            rt,
+            if deeds.has_changed {
+                COMMITS_STAY
+            } else {
+                NO_COMMIT
+            },
+        );
+        return;
+    }
     if !matches!(
         run.status,
         Status::DiskFault | Status::OutputFault | Status::EntropyFault
     ) {
         return;
     }
-    let deeds = folder.deeds;
     if deeds.has_changed && run.conflict() == Some(Conflict::JournalTaken) {
         explain_taken(rt, run, folder);
     } else if deeds.has_changed || deeds.has_renamed {
@@ -420,6 +456,19 @@ fn explain_state(rt: &HostRuntime, run: &Ended, folder: &Folder) {
     } else if matches!(run.status, Status::DiskFault | Status::EntropyFault) {
         explain_untouched(rt, run, folder);
     }
+}
+
+// Whether a script ended before its last line, and not within a commit.
+fn is_cut_off(status: Status) -> bool {
+    matches!(
+        status,
+        Status::OutputFault
+            | Status::InputFault
+            | Status::OutOfMemory
+            | Status::Refused(
+                Refusal::ScriptLine { .. } | Refusal::LineTooLong { .. } | Refusal::TooManyLines
+            )
+    )
 }
 
 // The journal was taken away while the file was part new.
@@ -432,7 +481,7 @@ fn explain_taken(rt: &HostRuntime, run: &Ended, folder: &Folder) {
         );
     } else if folder.deeds.is_played_back {
         let version = run.version();
-        let by = if is_plain_word(version) {
+        let by = if is_plain_word(version) || run.is_play() {
             ""
         } else {
             " with the old key"
@@ -486,13 +535,23 @@ fn explain_either(rt: &HostRuntime, run: &Ended, folder: &Folder) {
             rt,
             format_args!("there is no file, or the whole one: `verify {version}` tells which"),
         ),
+        ["play", ..] => say(
+            rt,
+            format_args!(
+                "unless another program changed it meanwhile, the file is whole, with each commit that was answered `done`, and with a later one \
+                or without it: give `recover {version}`, and where that one was a rekey, `probe` with each key"
+            ),
+        ),
         _ => {}
     }
 }
 
 // Nothing was written, or nothing but a recovery.
 fn explain_untouched(rt: &HostRuntime, run: &Ended, folder: &Folder) {
-    let is_change = matches!(run.words, ["rekey" | "migrate" | "stamp" | "make", ..]);
+    let is_change = matches!(
+        run.words,
+        ["rekey" | "migrate" | "stamp" | "make" | "play", ..]
+    );
     let deeds = folder.deeds;
     if !is_change && run.conflict().is_none() || deeds.laid > 0 && !deeds.has_dropped {
         return;

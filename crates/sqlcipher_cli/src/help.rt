@@ -4,10 +4,12 @@
 pub const HELP: &str = "\
 sqlcipher-tool checks SQLCipher and plain SQLite database files, prints their rows,
 plays back the journal that a stop has left, sets two numbers of their header,
-changes their key, and writes their database anew in another version, encrypted or
-plain. It writes nothing else to them. It also makes databases of any number of rows.
+changes their key, writes their database anew in another version, encrypted or
+plain, and plays scripts of sessions that read and change their pages. It writes
+nothing else to them. It also makes databases of any number of rows.
 
 usage: sqlcipher-tool FILE COMMAND [PROFILE [PROFILE | N | FIELD N | NAME LOW HIGH]] < KEYS
+       sqlcipher-tool FILE play PROFILE < SCRIPT
        sqlcipher-tool --help | -h | help | --version
 
 commands
@@ -55,6 +57,29 @@ commands
                   neither a file nor a journal; prints `made: N rows, B data bytes`.
                   A stop at any moment leaves no file or the whole one. It uses the
                   name FILE-migrated too
+  play PROFILE    play the script on standard input: up to 16 sessions share the file
+                  under SQLite's locks, step by step. It recovers the file, then reads
+                  a line, makes its step and prints the answer, and so on to the end.
+                  A stop at any moment leaves the commits so far, and that under way
+                  whole or not at all
+
+a script: a step a line, the words parted by one space. S is a session, 0 to 15, N a
+page, 1 being the first, AT a place in it, from 0, BYTE a byte, 0 to 255; KEY is written
+as a key line, and is left out with plain:SIZE. At most 100,000 lines of 1,100 bytes
+  open S PROFILE KEY    begin the session under this key; the pages have the size and
+                        the reserve of the command's PROFILE
+  share S               take a shared lock, and look at the file and its key
+  read S N AT           print `byte B`, as the session sees it
+  reserve S             take the one lock of those who mean to write
+  change S N AT BYTE    change this byte; only the session itself sees that so far
+  rekey S PROFILE KEY   mean to seal every page under another key
+  commit S              write it all; `busy`, and no new reader, while others share
+  release S             let go of the lock, the changes and the new key
+  stop                  end every session
+  Answers: `done`, `byte B`, `busy` where another session's lock stands in the way,
+  `misuse` where the session may not make this step now, or why the file, its key or
+  a page is refused. A line that is no step ends the script with status 2; what was
+  committed stays
 
 who else has the file
   Where another run of this program has it, or a program that keeps SQLite's
@@ -75,7 +100,7 @@ profiles
                   and `rekey` refuse it. `header plain:4096` names another size
 
 standard input: a line for each version in the words, its key, the old one first;
-one for `probe`; none for `recover` and none for plain:SIZE
+one for `probe`; none for `recover` and none for plain:SIZE; for `play` its script
   x'HEX'          a raw key, 64 hex digits
   anything else   a passphrase, 1 to 1,024 bytes up to the line feed
 `rekey`, `migrate` and `make` say which of the two the new key was taken as, and
@@ -87,7 +112,8 @@ exit status
   2  refused: the lines say why
   3  the key does not fit the file
   4  the disk failed, or somebody else is at the file. A command that changes or
-     makes a file may be done or not: standard error says what is known
+     makes a file may be done or not, and so may the last commit of a script:
+     standard error says what is known
   5  standard output failed. The same
   6  standard input failed
   7  the source of random bytes failed
@@ -103,6 +129,7 @@ examples, on a file FILE
   cat OLD_KEYFILE NEW_KEYFILE | sqlcipher-tool FILE rekey 4 4
   cat KEYFILE KEYFILE | sqlcipher-tool FILE migrate 3 4
   sqlcipher-tool FILE migrate plain:4096 4 < NEW_KEYFILE
+  sqlcipher-tool FILE play 4 < SCRIPT
 ";
 
 /// The text of `--version`.

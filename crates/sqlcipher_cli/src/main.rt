@@ -6,8 +6,8 @@ ghost use Rattle.std.specs.Process.{exit_status};
 ghost use Rattle.sqlcipher_cli.specs.Exit.{EndsAs, EndsOn, ExitsAs, asks_help, asks_version, behind_file};
 ghost use Rattle.sqlcipher_tool.specs.Answer.{code_of};
 ghost use Rattle.sqlcipher_tool.specs.Due.{word_refusal};
-ghost use Rattle.sqlcipher_tool.specs.Promises.{AreWordsThat, takes_keys};
-ghost use Rattle.sqlcipher_tool.specs.Words.{draws, form, texts};
+ghost use Rattle.sqlcipher_tool.specs.Play.{AreNoWords, DrawsBytes, TakesInput};
+ghost use Rattle.sqlcipher_tool.specs.Words.{form, texts};
 ghost use Rattle.sqlcipher_tool.specs.declared.command.Command.{Command as Asked};
 ghost use Rattle.sqlcipher_tool.specs.declared.status.Refusal.{Refusal as Refused};
 
@@ -175,12 +175,12 @@ fn print(rt: &HostRuntime, text: &str) -> Status
 
 // A command on the file, and what is to be said of it. The clauses are those of `run` that go by the words alone.
 fn serve(rt: &HostRuntime, file: &str, words: &[&str]) -> Status
-    ensures usage { form (texts words.now) ≡ None → EndsAs Status.Usage result }
+    ensures usage { AreNoWords (texts words.now) → EndsAs Status.Usage result }
     ensures refused { (command : Asked) (refusal : Refused) → form (texts words.now) ≡ Some command → word_refusal command ≡ Some refusal
         → EndsAs (Status.Refused refusal) result }
-    ensures no_usage { result ≡ Status.Usage → form (texts words.now) ≡ None }
-    ensures input_fault { result ≡ Status.InputFault → AreWordsThat takes_keys (texts words.now) }
-    ensures entropy_fault { result ≡ Status.EntropyFault → AreWordsThat draws (texts words.now) }
+    ensures no_usage { result ≡ Status.Usage → AreNoWords (texts words.now) }
+    ensures input_fault { result ≡ Status.InputFault → TakesInput (texts words.now) }
+    ensures entropy_fault { result ≡ Status.EntropyFault → DrawsBytes (texts words.now) }
 {
     let Ok(paths) = Paths::new(rt, file) else {
         return out_of_memory(rt);

@@ -4,7 +4,9 @@ use crate::failure::Shown;
 use cipher_profile::profile_of;
 
 /// The commands that take a version and nothing else.
-const READERS: [&str; 6] = ["tags", "header", "verify", "export", "salvage", "recover"];
+const ON_ONE_VERSION: [&str; 7] = [
+    "tags", "header", "verify", "export", "salvage", "recover", "play",
+];
 
 /// Says what is missing, or which word is none.
 pub fn explain_usage(rt: &HostRuntime, words: &[&str]) {
@@ -34,7 +36,7 @@ pub fn explain_usage(rt: &HostRuntime, words: &[&str]) {
         ),
         ["rekey", rest @ ..] => explain_pair(rt, "rekey", rest),
         ["migrate", rest @ ..] => explain_pair(rt, "migrate", rest),
-        [name, rest @ ..] if READERS.contains(name) => explain_reader(rt, name, rest),
+        [name, rest @ ..] if ON_ONE_VERSION.contains(name) => explain_one(rt, name, rest),
         [name, ..] => say(
             rt,
             format_args!(
@@ -46,7 +48,7 @@ pub fn explain_usage(rt: &HostRuntime, words: &[&str]) {
 }
 
 // A command that takes one version.
-fn explain_reader(rt: &HostRuntime, name: &str, words: &[&str]) {
+fn explain_one(rt: &HostRuntime, name: &str, words: &[&str]) {
     match words {
         [version] => explain_version(rt, version),
         [] => say(

@@ -422,7 +422,7 @@ complete words left files after can =
 -- ---- the status
 
 -- a fault that no count shows is want of memory
-faulted : (status : Status) (a b d e f g h i : ℕ) → IsFault status → (status ≡ InputFault → Rose a b) → (status ≡ OutputFault → Rose d e) → (status ≡ EntropyFault → Rose f g)
+pub faulted : (status : Status) (a b d e f g h i : ℕ) → IsFault status → (status ≡ InputFault → Rose a b) → (status ≡ OutputFault → Rose d e) → (status ≡ EntropyFault → Rose f g)
     → (status ≡ DiskFault → Rose h i) → NoneRose ((a, b) ∷ (d, e) ∷ (f, g) ∷ (h, i) ∷ []) → IsDoneOrStarved status
 faulted Done a b d e f g h i fault input output entropy disk none = inl refl
 faulted Usage a b d e f g h i fault input output entropy disk none = absurd fault

@@ -41,5 +41,6 @@ pub mod Served
 pub mod Salvaging
 pub mod Readings
 pub mod Completeness
+pub mod Playing
 pub mod MadeServable
 pub mod MigrateServable

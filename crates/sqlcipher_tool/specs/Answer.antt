@@ -3,7 +3,7 @@ use Rattle.std.specs.Prelude.{◌≡◌, ◌⊎◌, ◌≤◌, ℕ, Bool, true, 
 use Rattle.edge_model.specs.Causes.{Rose}
 use Rattle.text_lines.specs.Text.{PutsPart}
 use Rattle.sqlcipher_tool.specs.declared.status.Refusal.{Refusal}
-use Rattle.sqlcipher_tool.specs.declared.status.Refusal.TheVariants.{NoTags, LayoutDiffers, KeyMissing, KeyEmpty, KeyTooLong, KeyForm, FileThere, JournalThere, Empty, Short, HeaderFault, WalMode, AutoVacuum, Ragged, TooLarge, PageTag, JournalPageSize, SuperJournal, Defect, TooManyPages, NoTable}
+use Rattle.sqlcipher_tool.specs.declared.status.Refusal.TheVariants.{NoTags, LayoutDiffers, KeyMissing, KeyEmpty, KeyTooLong, KeyForm, FileThere, JournalThere, Empty, Short, HeaderFault, WalMode, AutoVacuum, Ragged, TooLarge, PageTag, JournalPageSize, SuperJournal, Defect, TooManyPages, NoTable, ScriptLine, LineTooLong, TooManyLines}
 use Rattle.sqlcipher_tool.specs.declared.status.Status.{Status}
 use Rattle.sqlcipher_tool.specs.declared.status.Status.TheVariants.{Done, Usage, Refused, KeyRefused, DiskFault, OutputFault, InputFault, EntropyFault, OutOfMemory}
 use Rattle.sqlcipher_tool.specs.Text.{refusal_line, usage_line, key_refused_line}
@@ -107,6 +107,9 @@ is_early_refusal SuperJournal = false
 is_early_refusal (Defect defect) = false
 is_early_refusal (TooManyPages limit) = false
 is_early_refusal NoTable = false
+is_early_refusal (ScriptLine line) = false
+is_early_refusal (LineTooLong line) = false
+is_early_refusal TooManyLines = false
 
 -- it is a page whose tag does not hold
 abbrev pub is_page_refusal : Refusal → Bool
@@ -131,6 +134,9 @@ is_page_refusal SuperJournal = false
 is_page_refusal (Defect defect) = false
 is_page_refusal (TooManyPages limit) = false
 is_page_refusal NoTable = false
+is_page_refusal (ScriptLine line) = false
+is_page_refusal (LineTooLong line) = false
+is_page_refusal TooManyLines = false
 
 -- the one line of an answer that has one; pages whose tags do not hold have a line each
 abbrev pub status_line : Status → Option (List ℕ)

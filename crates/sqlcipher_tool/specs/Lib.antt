@@ -3,6 +3,7 @@ pub mod Behind
 pub mod Change
 pub mod Crash
 pub mod Plain
+pub mod Play
 pub mod Due
 pub mod Export
 pub mod Find

@@ -16,6 +16,7 @@
 -- | `rekey P P2`               | Change profile P, Rekey profile P2    |
 -- | `migrate P P2`             | Change profile P, Migrate profile P2  |
 -- | `make P N`                 | Make profile P N                      |
+-- | `play P`                   | none of these: a script is played, as specs/Play.antt says |
 use Rattle.std.specs.Prelude.{ℕ, ℤ, pos, neg_ℤ, ◌^◌, ◌-◌, drop, ◌==◌, ◌&&◌, ◌||◌, not, nat_le, nat_lt, Bool, true, false, List, [], ◌∷◌, length, map, Option, Some, None, codes, if◌then◌else◌}
 use Rattle.std.specs.Borrow.{Bor}
 use Rattle.std.specs.Char.{digit_value}
@@ -102,6 +103,13 @@ form (name ∷ first ∷ second ∷ []) =
 form (name ∷ first ∷ second ∷ third ∷ []) = if bytes_eq name (codes "stamp") then stamp_form first second third else None
 form (name ∷ first ∷ second ∷ third ∷ fourth ∷ []) = if bytes_eq name (codes "find") then find_form first second third fourth else None
 form (name ∷ first ∷ second ∷ third ∷ fourth ∷ fifth ∷ rest) = None
+
+-- the profile of a `play`, none where the words are none
+abbrev pub play_form : List (List ℕ) → Option Profile
+play_form [] = None
+play_form (name ∷ []) = None
+play_form (name ∷ word ∷ []) = if bytes_eq name (codes "play") then profile_named word else None
+play_form (name ∷ word ∷ next ∷ rest) = None
 
 -- ---- what is yes or no of a command
 

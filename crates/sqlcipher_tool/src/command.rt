@@ -3,7 +3,8 @@ ghost use Rattle.std.specs.Prelude.{◌≡◌, ◌∷◌, [], IfSome};
 ghost use Rattle.text_lines.specs.Numbers.{number_named};
 ghost use Rattle.sqlcipher_tool.specs.Due.{word_refusal};
 ghost use Rattle.sqlcipher_tool.specs.declared.change.Change.TheVariants.{Rekey as RekeyOf, Migrate as MigrateOf};
-ghost use Rattle.sqlcipher_tool.specs.Words.{form, find_form, stamp_form, two_profiles, make_form, field_named, rowid_named, texts, asked_keys, draws, lacks_tags, layouts_differ, IsServed};
+ghost use Rattle.cipher_profile.specs.Profile.{IsListed};
+ghost use Rattle.sqlcipher_tool.specs.Words.{form, play_form, find_form, stamp_form, two_profiles, make_form, field_named, rowid_named, texts, asked_keys, draws, lacks_tags, layouts_differ, IsServed};
 
 use crate::change::Change;
 use crate::reading::{Job, Reading};
@@ -128,6 +129,17 @@ impl<'w> Command<'w> {
             Command::Probe | Command::Recover(_) | Command::Read(_, _) | Command::Make { .. } =>
                 false,
         }
+    }
+}
+
+/// The profile of a `play`, where the words are one.
+pub fn played_profile(words: &[&str]) -> Option<Profile>
+    ensures form { result ≡ play_form (texts words.now) }
+    ensures listed { IfSome result IsListed }
+{
+    match words {
+        [name, word] if *name == "play" => profile_of(word),
+        _ => None,
     }
 }
 

@@ -15,6 +15,7 @@ mod migrate;
 mod names;
 mod no_entropy;
 mod opening;
+mod play;
 mod probe;
 mod reading;
 mod recovery;

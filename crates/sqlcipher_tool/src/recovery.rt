@@ -5,6 +5,7 @@ ghost use Rattle.edge_model.specs.Files.{bytes_of, main_of};
 ghost use Rattle.edge_model.specs.Images.{Each, From, LeavesOnly};
 ghost use Rattle.cipher_profile.specs.Profile.{IsListed};
 ghost use Rattle.rollback_journal.specs.Recovery.{IsPlaybackDone, KeepsRecovered};
+ghost use Rattle.session_hall.specs.Kept.{IsHallSettled};
 ghost use Rattle.sqlcipher_tool.specs.Behind.{HasOnlyRead, IsOfRecovery, IsRecovered};
 ghost use Rattle.sqlcipher_tool.specs.Answer.{IsAnswered, HasCauses, Puts, PutsLine};
 ghost use Rattle.sqlcipher_tool.specs.Promises.{IsUnrecovered};
@@ -79,6 +80,7 @@ pub fn recover_main<D: Disk>(
     ensures main { OnOk result (IsTrue D.tells → main_of (D.reads disk.new) ≡ recovered_main profile (D.reads disk.old)) }
     ensures done { OnOk result (IsTrue D.tells → 0 < length (main_of (D.reads disk.old)) →
         Each (D.images disk.new) (IsPlaybackDone profile.page_size (bytes_of (D.reads disk.old).main) (bytes_of (D.reads disk.old).journal))) }
+    ensures settled { OnOk result (IsTrue D.tells → IsHallSettled (D.reads disk.new) (D.images disk.new)) }
     ensures stop { IfErr result (λ stop. IsTrue D.tells → IsOutside stop ⊎ (stop_answer stop ≡ refused_answer (recovery_of profile (D.reads disk.old)))) }
     ensures refused { IfErr result (λ stop. IsTrue D.tells → IsOutside stop ⊎ (D.reads disk.new ≡ D.reads disk.old)) }
     ensures untouched { IsTrue D.tells → HasNoFile profile (D.reads disk.old) → IsUnwritten (disk_run D.reads D.images D.moment D.since disk.old disk.new) }

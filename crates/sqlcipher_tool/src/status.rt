@@ -72,6 +72,18 @@ pub enum Refusal {
     },
     /// The schema has no table of this name whose rows have rowids.
     NoTable,
+    /// This line of a script is no step.
+    ScriptLine {
+        /// The line, counted from 1.
+        line: u32,
+    },
+    /// 1,101 bytes of this line came without a line feed.
+    LineTooLong {
+        /// The line, counted from 1.
+        line: u32,
+    },
+    /// A byte follows the last line that a script may have.
+    TooManyLines,
 }
 
 /// How a run ended.

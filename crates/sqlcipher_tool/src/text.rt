@@ -87,6 +87,11 @@ fn refusal_text(refusal: &Refusal) -> Text
             text.push_number(u64::from(*limit));
         }
         Refusal::NoTable => text.push(b"no such table"),
+        Refusal::ScriptLine { line } => text.push_around(b"line ", u64::from(*line), b": no step"),
+        Refusal::LineTooLong { line } => {
+            text.push_around(b"line ", u64::from(*line), b": too long");
+        }
+        Refusal::TooManyLines => text.push(b"more than 100000 lines"),
     }
     text
 }

@@ -9,19 +9,22 @@ ghost use Rattle.sqlcipher_tool.specs.Behind.{LeavesRecovered};
 ghost use Rattle.sqlcipher_tool.specs.Crash.{Keeps, ChangesBy, GaveKeys, DrewOwn};
 ghost use Rattle.sqlcipher_tool.specs.Due.{due, key_answer, key_lines, word_refusal, asked_answers, secret_answers};
 ghost use Rattle.sqlcipher_tool.specs.Holding.{disk_run};
+ghost use Rattle.cipher_profile.specs.declared.profile.Profile.{Profile as Played};
+ghost use Rattle.sqlcipher_tool.specs.Play.{AreNoWords, CanBePlayed, DrawsBytes, IsPlay, PlaysScript, TakesInput};
 ghost use Rattle.sqlcipher_tool.specs.Promises.{AnswersOne, AreWordsThat, ComesLate, IsAnsweredEarly, IsUnrecovered, TakesLines, TellsKeys, is_in_the_way, WhereTaken, secrets_of, takes_keys};
 ghost use Rattle.sqlcipher_tool.specs.Servable.{CanBeServed, IsDoneOrStarved, NoneRose};
 ghost use Rattle.sqlcipher_tool.specs.Text.{usage_line};
 ghost use Rattle.sqlcipher_tool.specs.Untouched.{LeavesAlone};
 ghost use Rattle.sqlcipher_tool.specs.declared.command.Command.{Command as Asked};
 ghost use Rattle.sqlcipher_tool.specs.declared.status.Refusal.{Refusal as Refused};
-ghost use Rattle.sqlcipher_tool.specs.Words.{alters, draws, finds, form, texts, asked_keys, recovers_by, takes_memory, writes_beside, IsServed};
+ghost use Rattle.sqlcipher_tool.specs.Words.{alters, draws, finds, form, play_form, texts, asked_keys, recovers_by, takes_memory, writes_beside, IsServed};
 
 use crate::change::change_file;
-use crate::command::{Command, parse_words};
+use crate::command::{Command, parse_words, played_profile};
 use crate::conclusion::{conclude, conclude_key, conclude_refusal};
 use crate::make::make_file;
 use crate::no_entropy::NoEntropy;
+use crate::play::play_file;
 use crate::probe::probe;
 use crate::reading::read_file;
 use crate::recovery::report_recovery;
@@ -32,7 +35,7 @@ use edge_model::{Disk, Entropy, Sink, Source};
 use std::alloc::Global;
 
 /// Carries out the command that the words make: key lines come from the input, lines go to the output, and the files
-/// are those of the disk.
+/// are those of the disk. `play` stands beside the commands: what holds of it is said at the end.
 pub fn run<K: Source, S: Sink, E: Entropy, D: Disk>(
     alloc: Global,
     words: &[&str],
@@ -42,46 +45,46 @@ pub fn run<K: Source, S: Sink, E: Entropy, D: Disk>(
     disk: &mut D,
 ) -> Status
     // Which answer comes: what the words decide, then what the input decides, then what the files decide.
-    ensures usage { result ≡ Status.Usage → form (texts words.now) ≡ None }
-    ensures usage_comes { form (texts words.now) ≡ None → (result ≡ Status.Usage) ⊎ (result ≡ Status.OutputFault) }
+    ensures usage { result ≡ Status.Usage → AreNoWords (texts words.now) }
+    ensures usage_comes { AreNoWords (texts words.now) → (result ≡ Status.Usage) ⊎ (result ≡ Status.OutputFault) }
     ensures word_refusals { (command : Asked) (refusal : Refused) → form (texts words.now) ≡ Some command → word_refusal command ≡ Some refusal
         → (result ≡ Status.Refused refusal) ⊎ (result ≡ Status.OutputFault) }
     ensures key_refusals { IsTrue K.tells → WhereTaken (texts words.now) (λ command. (error : KeyRefusal)
         → key_lines (asked_keys command) (K.left input.old) ≡ Err error → IsAnsweredEarly result (key_answer error)) }
-    ensures answer { TellsKeys K.tells (texts words.now) → IsTrue D.tells
+    ensures answer { TellsKeys K.tells (texts words.now) → IsTrue D.tells → play_form (texts words.now) ≡ None
         → AnswersOne (due (texts words.now) (K.left input.old) (D.reads disk.old) (D.reads disk.new)) result S.tells (S.taken out.old) (S.taken out.new) }
     ensures complete { TellsKeys K.tells (texts words.now) → IsTrue D.tells → CanBeServed (texts words.now) (K.left input.old) (D.reads disk.old)
         → NoneRose ((K.faults input.old, K.faults input.new) ∷ (S.faults out.old, S.faults out.new)
         ∷ (E.faults entropy.old, E.faults entropy.new) ∷ (D.faults disk.old, D.faults disk.new) ∷ []) → IsDoneOrStarved result }
 
     // When something outside failed in its place, or memory ran out.
-    ensures input_fault { result ≡ Status.InputFault → Rose (K.faults input.old) (K.faults input.new) × AreWordsThat takes_keys (texts words.now) }
+    ensures input_fault { result ≡ Status.InputFault → Rose (K.faults input.old) (K.faults input.new) × TakesInput (texts words.now) }
     ensures output_fault { result ≡ Status.OutputFault → Rose (S.faults out.old) (S.faults out.new) }
     ensures disk_fault { result ≡ Status.DiskFault → Rose (D.faults disk.old) (D.faults disk.new) }
-    ensures entropy_fault { result ≡ Status.EntropyFault → Rose (E.faults entropy.old) (E.faults entropy.new) × AreWordsThat draws (texts words.now) }
-    ensures memory { result ≡ Status.OutOfMemory → ComesLate (texts words.now) K.tells (K.left input.old) }
+    ensures entropy_fault { result ≡ Status.EntropyFault → Rose (E.faults entropy.old) (E.faults entropy.new) × DrawsBytes (texts words.now) }
+    ensures memory { result ≡ Status.OutOfMemory → ComesLate (texts words.now) K.tells (K.left input.old) ⊎ IsPlay (texts words.now) }
     ensures input_later { K.faults input.old ≤ K.faults input.new }
     ensures output_later { S.faults out.old ≤ S.faults out.new }
     ensures disk_later { D.faults disk.old ≤ D.faults disk.new }
     ensures entropy_later { E.faults entropy.old ≤ E.faults entropy.new }
 
     // What is printed, where the input or the disk does not tell.
-    ensures usage_text { IsTrue S.tells → form (texts words.now) ≡ None → Puts result usage_line (S.taken out.old) (S.taken out.new) }
+    ensures usage_text { IsTrue S.tells → AreNoWords (texts words.now) → Puts result usage_line (S.taken out.old) (S.taken out.new) }
     // before the line of a defect that `find` met, rows may stand
-    ensures line { IsTrue S.tells → (AreWordsThat finds (texts words.now) → is_defect_status result ≡ false) → PutsLine result (S.taken out.old) (S.taken out.new) }
-    ensures input_text { result ≡ Status.InputFault → out.new ≡ out.old }
+    ensures line { IsTrue S.tells → play_form (texts words.now) ≡ None → (AreWordsThat finds (texts words.now) → is_defect_status result ≡ false) → PutsLine result (S.taken out.old) (S.taken out.new) }
+    ensures input_text { play_form (texts words.now) ≡ None → result ≡ Status.InputFault → out.new ≡ out.old }
 
     // What is taken and drawn, and that an answer which needs no disk makes no call of it.
-    ensures words_first { form (texts words.now) ≡ None → (input.new ≡ input.old) × (disk.new ≡ disk.old) }
+    ensures words_first { AreNoWords (texts words.now) → (input.new ≡ input.old) × (disk.new ≡ disk.old) }
     ensures refused_first { (command : Asked) (refusal : Refused) → form (texts words.now) ≡ Some command → word_refusal command ≡ Some refusal
         → (input.new ≡ input.old) × (disk.new ≡ disk.old) }
     ensures key_first { IsTrue K.tells → WhereTaken (texts words.now) (λ command. IsErr (key_lines (asked_keys command) (K.left input.old))
         → disk.new ≡ disk.old) }
     ensures early_first { IsEarly result → disk.new ≡ disk.old }
-    ensures fault_first { result ≡ Status.InputFault → disk.new ≡ disk.old }
+    ensures fault_first { play_form (texts words.now) ≡ None → result ≡ Status.InputFault → disk.new ≡ disk.old }
     ensures takes { IsTrue K.tells → WhereTaken (texts words.now) (λ command. TakesLines result (asked_keys command) (K.left input.old) (K.left input.new)) }
-    ensures takes_none { (AreWordsThat takes_keys (texts words.now) → ⊥) → input.new ≡ input.old }
-    ensures draws { (AreWordsThat draws (texts words.now) → ⊥) → entropy.new ≡ entropy.old }
+    ensures takes_none { (TakesInput (texts words.now) → ⊥) → input.new ≡ input.old }
+    ensures draws { (DrawsBytes (texts words.now) → ⊥) → entropy.new ≡ entropy.old }
     ensures undrawn { IsTrue D.tells → (command : Asked) → form (texts words.now) ≡ Some command → is_in_the_way command (D.reads disk.old) ≡ true
         → entropy.new ≡ entropy.old }
     ensures own_draws { IsTrue D.tells → IsTrue E.tells → result ≡ Status.Done → (command : Asked) → form (texts words.now) ≡ Some command
@@ -99,7 +102,18 @@ pub fn run<K: Source, S: Sink, E: Entropy, D: Disk>(
         → Keeps command (disk_run D.reads D.images D.moment D.since disk.old disk.new) }
     ensures changes { IsTrue D.tells → (command : Asked) → form (texts words.now) ≡ Some command
         → ChangesBy result command (GaveKeys K.tells (asked_keys command) (K.left input.old)) E.tells (drop (length (E.drawn entropy.old)) (E.drawn entropy.new)) (disk_run D.reads D.images D.moment D.since disk.old disk.new) }
+
+    // A script of sessions: what is printed, that the steps are a run of the machine, and what a stop leaves at every moment.
+    ensures plays { (profile : Played) → play_form (texts words.now) ≡ Some profile
+        → PlaysScript profile result K.tells S.tells D.tells (disk_run D.reads D.images D.moment D.since disk.old disk.new)
+        (K.left input.old) (K.left input.new) (S.taken out.old) (S.taken out.new) }
+    ensures complete_play { IsTrue K.tells → IsTrue D.tells → CanBePlayed (texts words.now) (K.left input.old) (D.reads disk.old)
+        → NoneRose ((K.faults input.old, K.faults input.new) ∷ (S.faults out.old, S.faults out.new)
+        ∷ (E.faults entropy.old, E.faults entropy.new) ∷ (D.faults disk.old, D.faults disk.new) ∷ []) → IsDoneOrStarved result }
 {
+    if let Some(played) = played_profile(words) {
+        return play_file(alloc, played, input, out, entropy, disk);
+    }
     match parse_words(words) {
         None => conclude(out, &usage_line(), Status::Usage),
         Some(command) => serve(alloc, command, input, out, entropy, disk),
