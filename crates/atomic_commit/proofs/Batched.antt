@@ -1,5 +1,5 @@
 -- What a batch keeps: the marks of its pages, their records, and Main.
-use Rattle.std.proofs.Common.{◌≡◌, ◌≢◌, ◌⊎◌, inl, inr, ℕ, zero, suc, ◌+◌, ◌-◌, ◌*◌, ◌<◌, ◌≤◌, Bool, true, false, if◌then◌else◌, List, [], length, replicate, refl, sym, ◌∙◌, ap, subst, arith}
+use Rattle.std.proofs.Common.{◌≡◌, ◌≢◌, ◌⊎◌, inl, inr, ℕ, zero, suc, ◌+◌, ◌-◌, ◌*◌, ◌<◌, ◌≤◌, Bool, true, false, if◌then◌else◌, List, [], ◌∷◌, length, replicate, refl, sym, ◌∙◌, ap, subst, arith}
 use Rattle.std.specs.Prelude.{slice_index}
 use Rattle.std.proofs.lemmas.List.{length-set, get_or-set_same, get_or-set_other}
 use Rattle.std.proofs.lemmas.List.Sums.{get_or-le-sum_by, sum_by-cons}
@@ -86,6 +86,11 @@ pub batch_some : (numbers : List ℕ) (old new : List Bool) → AreChanges (leng
 batch_some numbers old new changes some has =
     let range = changes.in_range 0 some in
     marked_some (slice_index numbers 0) new range.0 (omega (arith, range.1, has.as_many)) (has.marked 0 some)
+
+-- where no page is marked behind a batch, it had no page
+pub unmarked_none : (numbers : List ℕ) (old new : List Bool) → AreChanges (length old) numbers → HasMarked numbers (length numbers) old new → marked_count new ≡ 0 → numbers ≡ []
+unmarked_none [] old new changes has none = refl
+unmarked_none (n ∷ rest) old new changes has none = absurd (omega (arith, none, batch_some (n ∷ rest) old new changes (omega arith) has))
 
 -- a batch without pages leaves the marks
 pub batch_none : (numbers : List ℕ) (old new : List Bool) → HasMarked numbers 0 old new → (n : ℕ) → 1 ≤ n → is_marked n new ≡ is_marked n old

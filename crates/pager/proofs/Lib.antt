@@ -9,4 +9,8 @@ pub mod TxnLemmas
 pub mod BatchLemmas
 pub mod UnderWayLemmas
 pub mod UnreadLemmas
+pub mod Bases
+pub mod Cutting
+pub mod Headers
+pub mod Resealed
 mod Sealed

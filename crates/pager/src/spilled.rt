@@ -1,5 +1,5 @@
 // Changed pages are drawn for, sealed, and written to Main: a batch before the commit, or the last one with it.
-ghost use Rattle.std.specs.Prelude.{◌≡◌, ◌*◌, ◌-◌, ◌<◌, ◌≤◌, [], ℕ, List, length, take, false, Err, IsOk, OnOk, OnErr, IsTrue};
+ghost use Rattle.std.specs.Prelude.{◌≡◌, ◌⊎◌, ◌*◌, ◌-◌, ◌<◌, ◌≤◌, [], ℕ, List, length, take, false, Err, IsOk, OnOk, OnErr, IsTrue};
 ghost use Rattle.edge_model.specs.Causes.{HasCause, Rose};
 ghost use Rattle.edge_model.specs.Images.{Each, From, LeavesOnly};
 ghost use Rattle.cipher_profile.specs.Profile.{is_plain, usable};
@@ -62,6 +62,7 @@ pub(crate) fn write_frames<D: Disk, E: Entropy>(
     ensures under_way { OnOk result (IsTrue D.tells → IsUnderWay start codec.now recorded.new written.new writer.new (D.reads disk.new) (D.images disk.new) E.tells (E.drawn entropy.new)) }
     ensures marks { OnOk result (HasMarked changed.now.numbers (length changed.now.numbers) written.old written.new) }
     ensures as_many { length written.new ≡ length written.old }
+    ensures recorded { OnOk result (0 < length changed.now.numbers → 0 < marked_count recorded.new) }
     ensures written { OnOk result (IsTrue D.tells → (drawn : List ℕ) × IsBatchWritten start.base (main_of (D.reads disk.old)) changed.now.numbers
         (IsPageSealed codec.now changed.now drawn) (length changed.now.numbers) (main_of (D.reads disk.new))) }
     ensures journal { (writer.new.page_size ≡ start.base.size) × (writer.new.initial ≡ start.base.pages) }
@@ -117,6 +118,7 @@ pub(crate) fn end_frames<D: Disk, E: Entropy>(
         (λ n. (seen_pages read codec.now (main_of (D.reads disk.old)) start.base.pages written.now changed.now.held).page n)
         E.tells (E.drawn entropy.new) (main_of (D.reads disk.new))) }
     ensures new { OnOk result (IsTrue D.tells → Each (D.images disk.new) (IsCommitted start.base (main_of (D.reads disk.new)))) }
+    ensures settled { OnOk result (IsTrue D.tells → ((marked_count recorded.old ≡ 0) × (disk.new ≡ disk.old)) ⊎ Each (D.images disk.new) (λ c. c.main ≡ (D.reads disk.new).main)) }
     ensures one_new { OnOk result (IsTrue D.tells → LeavesOnly D.moment D.since disk.old disk.new
         (HoldsEither start.base (stored_pages start.base.size start.base.pages (main_of (D.reads disk.new))))) }
     ensures any_moment { IsTrue D.tells → (read : FileKeys) → codec.now.profile.page_size ≡ read.profile.page_size → LeavesChanged D.moment D.since start.base (HasNewPages start codec.now (is_touched written.now changed.now.held)

@@ -186,6 +186,8 @@ impl<'d, D: Disk, E: Entropy> Txn<'d, D, E> {
             × (self.new.writer ≡ self.old.writer) × DiskRead D.tells D.reads D.images D.moment D.since D.faults self.old.disk self.new.disk × Untouched self.old.entropy self.new.entropy × (self.new.written ≡ self.old.written)) }
         ensures unwritten { length self.old.changed.numbers < self.old.changed.frames → (self.new.recorded ≡ self.old.recorded) × (self.new.writer ≡ self.old.writer)
             × DiskRead D.tells D.reads D.images D.moment D.since D.faults self.old.disk self.new.disk × Untouched self.old.entropy self.new.entropy × (self.new.written ≡ self.old.written) }
+        ensures unrecorded { OnOk result (marked_count self.new.recorded ≡ 0 → (self.new.recorded ≡ self.old.recorded)
+            × DiskRead D.tells D.reads D.images D.moment D.since D.faults self.old.disk self.new.disk) }
         ensures frames { self.new.changed.frames ≡ self.old.changed.frames }
         ensures any_moment { IsTrue D.tells → LeavesOnly D.moment D.since self.old.disk.now self.new.disk.now (HoldsOld start.base) }
         ensures fresh { IsTrue D.tells → LeavesOnly D.moment D.since self.old.disk.now self.new.disk.now (From SameFresh (D.images self.old.disk.now)) }
@@ -228,6 +230,8 @@ impl<'d, D: Disk, E: Entropy> Txn<'d, D, E> {
             × (self.new.writer ≡ self.old.writer) × DiskRead D.tells D.reads D.images D.moment D.since D.faults self.old.disk self.new.disk × Untouched self.old.entropy self.new.entropy × (self.new.written ≡ self.old.written)) }
         ensures unwritten { length self.old.changed.numbers < self.old.changed.frames → (self.new.recorded ≡ self.old.recorded) × (self.new.writer ≡ self.old.writer)
             × DiskRead D.tells D.reads D.images D.moment D.since D.faults self.old.disk self.new.disk × Untouched self.old.entropy self.new.entropy × (self.new.written ≡ self.old.written) }
+        ensures unrecorded { OnOk result (marked_count self.new.recorded ≡ 0 → (self.new.recorded ≡ self.old.recorded)
+            × DiskRead D.tells D.reads D.images D.moment D.since D.faults self.old.disk self.new.disk) }
         ensures frames { self.new.changed.frames ≡ self.old.changed.frames }
         ensures any_moment { IsTrue D.tells → LeavesOnly D.moment D.since self.old.disk.now self.new.disk.now (HoldsOld start.base) }
         ensures fresh { IsTrue D.tells → LeavesOnly D.moment D.since self.old.disk.now self.new.disk.now (From SameFresh (D.images self.old.disk.now)) }
@@ -339,6 +343,8 @@ impl<'d, D: Disk, E: Entropy> Txn<'d, D, E> {
             × (self.new.writer ≡ self.old.writer) × DiskRead D.tells D.reads D.images D.moment D.since D.faults self.old.disk self.new.disk × Untouched self.old.entropy self.new.entropy × (self.new.written ≡ self.old.written)) }
         ensures unwritten { length self.old.changed.numbers < self.old.changed.frames → (self.new.recorded ≡ self.old.recorded) × (self.new.writer ≡ self.old.writer)
             × DiskRead D.tells D.reads D.images D.moment D.since D.faults self.old.disk self.new.disk × Untouched self.old.entropy self.new.entropy × (self.new.written ≡ self.old.written) }
+        ensures unrecorded { OnOk result (marked_count self.new.recorded ≡ 0 → (self.new.recorded ≡ self.old.recorded)
+            × DiskRead D.tells D.reads D.images D.moment D.since D.faults self.old.disk self.new.disk) }
         ensures frames { self.new.changed.frames ≡ self.old.changed.frames }
         ensures any_moment { IsTrue D.tells → LeavesOnly D.moment D.since self.old.disk.now self.new.disk.now (HoldsOld start.base) }
         ensures fresh { IsTrue D.tells → LeavesOnly D.moment D.since self.old.disk.now self.new.disk.now (From SameFresh (D.images self.old.disk.now)) }
@@ -401,6 +407,7 @@ impl<'d, D: Disk, E: Entropy> Txn<'d, D, E> {
         ensures plain { self.new.plain.items ≡ self.old.plain.items }
         ensures unwritten { length self.old.changed.numbers < self.old.changed.frames → (self.new.recorded ≡ self.old.recorded) × (self.new.writer ≡ self.old.writer)
             × Untouched self.old.disk self.new.disk × Untouched self.old.entropy self.new.entropy × (self.new.written ≡ self.old.written) }
+        ensures unrecorded { OnOk result (marked_count self.new.recorded ≡ 0 → (self.new.recorded ≡ self.old.recorded) × Untouched self.old.disk self.new.disk) }
         ensures frames { self.new.changed.frames ≡ self.old.changed.frames }
         ensures file { (self.new.read ≡ self.old.read) × (self.new.write ≡ self.old.write) × (self.new.count ≡ self.old.count) }
     {
@@ -421,6 +428,7 @@ impl<'d, D: Disk, E: Entropy> Txn<'d, D, E> {
         ensures seen { OnOk result (IsTrue D.tells → (m : ℕ) → (seen_pages self.new.read self.new.write (main_of (D.reads self.new.disk.now)) self.new.count self.new.written self.new.changed.held).page m ≡ (seen_pages self.old.read self.old.write (main_of (D.reads self.old.disk.now)) self.old.count self.old.written self.old.changed.held).page m) }
         ensures touched { OnOk result ((m : ℕ) → is_page_number self.old.count m ≡ true → is_touched self.new.written self.new.changed.held m ≡ is_touched self.old.written self.old.changed.held m) }
         ensures free { OnOk result (self.new.changed ≡ unchanged self.old.changed.frames self.old.changed.usable self.old.changed.pages) }
+        ensures recorded { OnOk result (0 < length self.old.changed.numbers → 0 < marked_count self.new.recorded) }
         ensures ready { OnOk result (IsReadyFor self.new.recorded self.new.writer) }
         ensures under_way { OnOk result (IsTrue D.tells → IsUnderWay start self.new.write self.new.recorded self.new.written self.new.writer (D.reads self.new.disk.now)
             (D.images self.new.disk.now) E.tells (E.drawn self.new.entropy.now)) }
@@ -476,6 +484,8 @@ impl<'d, D: Disk, E: Entropy> Txn<'d, D, E> {
             (λ n. (seen_pages self.entry.read self.entry.write (main_of (D.reads self.entry.disk.now)) self.entry.count self.entry.written self.entry.changed.held).page n)
             E.tells (E.drawn result.1.now) (main_of (D.reads result.0.now))) }
         ensures new { OnOk result.2 (IsTrue D.tells → Each (D.images result.0.now) (IsCommitted start.base (main_of (D.reads result.0.now)))) }
+        // no page was changed at all, and no call was made; or each image has Main as it reads
+        ensures settled { OnOk result.2 (IsTrue D.tells → ((marked_count self.entry.recorded ≡ 0) × (result.0.now ≡ self.entry.disk.now)) ⊎ Each (D.images result.0.now) (λ c. c.main ≡ (D.reads result.0.now).main)) }
         ensures one_new { OnOk result.2 (IsTrue D.tells → LeavesOnly D.moment D.since self.entry.disk.now result.0.now
             (HoldsEither start.base (stored_pages start.base.size start.base.pages (main_of (D.reads result.0.now))))) }
         ensures any_moment { IsTrue D.tells → LeavesChanged D.moment D.since start.base (HasNewPages start self.entry.write (is_touched self.entry.written self.entry.changed.held)

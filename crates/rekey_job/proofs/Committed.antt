@@ -23,12 +23,14 @@ use Rattle.rekey_job.specs.Rekeyed.{IsRekeyed}
 use Rattle.rekey_job.specs.Stops.{AreClean, IsLateRekey, IsRekeyShown, is_unwritten}
 use Rattle.rekey_job.specs.declared.error.RekeyError.{RekeyError}
 use Rattle.rekey_job.specs.declared.error.RekeyError.TheVariants.{LayoutDiffers, PageTag, Defect, DiskFault, EntropyFault, OutOfMemory}
-use Rattle.rekey_job.proofs.Renewed.{IsResealed, any_base, committed_counts, is_rekeyed, leaves_rekeyed, own_draws, told_base}
+use Rattle.pager.proofs.Bases.{any_base, told_base}
+use Rattle.pager.proofs.Cutting.{committed_counts}
+use Rattle.rekey_job.proofs.Renewed.{IsResealed, is_rekeyed, leaves_rekeyed, own_draws}
 
 -- ---- the transaction
 
 module _ (tells : Bool) (keys write : FileKeys) (count : ℕ) (now : Files) (images : Files → Type 0) (draws_told : Bool) (before after : List ℕ) (layout : same_layout keys write ≡ true)
-    (some : 1 ≤ count) (room : 16 ≤ keys.profile.page_size) (told : IsTrue tells) (here : images now) (salt : keys.salt ≡ salt_of (main_of now))
+    (some : 1 ≤ count) (room : 100 ≤ keys.profile.page_size) (told : IsTrue tells) (here : images now) (salt : keys.salt ≡ salt_of (main_of now))
     (begun : IsCommitBegun (base_of keys (main_of now) count) images) (clean : AreClean (opened_pages keys (main_of now) count))
     (alike : is_plain write.profile ≡ true → is_plain keys.profile ≡ true) where
   abbrev old : List ℕ

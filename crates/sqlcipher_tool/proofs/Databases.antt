@@ -19,7 +19,7 @@ use Rattle.pager.specs.UnderWay.{Start}
 use Rattle.rollback_journal.specs.Recovery.{Recovers, RecoversTo}
 use Rattle.atomic_commit.specs.Database.{Base, stored_pages, IsDatabase, HoldsOld, HoldsPages}
 use Rattle.atomic_commit.specs.Facts.{IsBase}
-use Rattle.rekey_job.proofs.Renewed.{some_is}
+use Rattle.pager.proofs.Bases.{some_is}
 use Rattle.sqlcipher_tool.specs.Holding.{HoldsOnly, held_by}
 use Rattle.sqlcipher_tool.proofs.Numbers.{no_less, no_more}
 

@@ -28,7 +28,7 @@ use Rattle.rekey_job.specs.Rekeyed.{IsRekeyed}
 use Rattle.rekey_job.specs.Stops.{AreClean, IsFirstRefused, IsRekeyShown, is_unwritten}
 use Rattle.rekey_job.specs.declared.error.RekeyError.{RekeyError}
 use Rattle.rekey_job.specs.declared.error.RekeyError.TheVariants.{LayoutDiffers, PageTag as RekeyTag, Defect as RekeyDefect, DiskFault as RekeyDisk, EntropyFault as RekeyEntropy, OutOfMemory as RekeyMemory}
-use Rattle.rekey_job.proofs.Renewed.{some_is as count_is}
+use Rattle.pager.proofs.Bases.{some_is as count_is}
 use Rattle.rollback_journal.specs.Recovery.{Recovers}
 use Rattle.atomic_commit.specs.Commit.{IsCommitted, LeavesChanged}
 use Rattle.atomic_commit.specs.Database.{HoldsEither, HoldsOld, HoldsPages, stored_pages}

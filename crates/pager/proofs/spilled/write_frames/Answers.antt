@@ -1,10 +1,11 @@
-use Rattle.std.proofs.Common.{◌≡◌, ◌∙◌, ◌*◌, ℕ, List, length, take, refl, ap, subst, arith, rules}
+use Rattle.std.proofs.Common.{◌≡◌, ◌∙◌, ◌*◌, ℕ, List, length, take, refl, sym, ap, subst, arith, rules}
 use Rattle.cipher_profile.specs.declared.profile.Profile.{Profile}
 use Rattle.edge_model.specs.Moments.{started}
 use Rattle.edge_model.specs.Files.{main_of}
 use Rattle.atomic_commit.specs.Batches.{HasMarked}
 use Rattle.atomic_commit.specs.Database.{HoldsOld}
-use Rattle.atomic_commit.proofs.Batched.{batches_hold_old}
+use Rattle.atomic_commit.specs.Commit.{AreChanges}
+use Rattle.atomic_commit.proofs.Batched.{batch_some, batches_hold_old}
 use Rattle.pager.specs.Changed.{IsDrawn}
 use Rattle.pager.proofs.EndingLemmas.{are_changes, listed_small}
 use Rattle.pager.proofs.UnderWayLemmas.{pages_after}
@@ -66,3 +67,10 @@ returns-clause-under_way g c told =
 
 pub returns-clause-written : goal.returns-clause-written
 returns-clause-written g c told = (take (c.len.result * c.profile.result.now.reserve) c.draw_for.new.draws, c.in_ok-write_batch.ensures.written told)
+
+pub returns-clause-recorded : goal.returns-clause-recorded
+returns-clause-recorded g c some =
+    let r = c.requires.1.1 in
+    let changed = c.args.changed.now in
+    let changes = are_changes changed g.start.base.pages c.len.ensures.listing r.0.1 r.1.1.0 in
+    batch_some changed.numbers c.args.recorded.now c.write_batch.new.recorded (subst (λ (p : ℕ). AreChanges p changed.numbers) (sym (r.1.1.1.1.1.1.0.0 ∙ r.1.0.1)) changes) some c.in_ok-write_batch.ensures.marks

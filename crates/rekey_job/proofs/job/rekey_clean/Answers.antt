@@ -9,7 +9,8 @@ use Rattle.atomic_commit.specs.Database.{Base}
 use Rattle.atomic_commit.specs.Facts.{IsCommitBegun}
 use Rattle.rollback_journal.proofs.WriterRuns.{ok_two}
 use Rattle.rekey_job.proofs.Committed.{at_moments, now_drawn, now_rekeyed, told_new, told_old, told_one}
-use Rattle.rekey_job.proofs.Renewed.{base_sizes, is_base, plain_alike, told_base}
+use Rattle.pager.proofs.Bases.{base_sizes, is_base, told_base}
+use Rattle.pager.proofs.Resealed.{plain_alike}
 use Rattle.rekey_job.proofs.job.rekey_clean.Goals as goal
 
 -- the conditions, by their places: layout, salt, begun, clean, leaves

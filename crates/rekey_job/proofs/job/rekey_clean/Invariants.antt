@@ -1,5 +1,5 @@
 use Rattle.edge_model.specs.Files.{main_of}
-use Rattle.rekey_job.proofs.Renewed.{any_base}
+use Rattle.pager.proofs.Bases.{any_base}
 use Rattle.rekey_job.proofs.job.rekey_clean.Given as goal
 
 abbrev pub ghost-rewrite_pages : goal.ghost-rewrite_pages

@@ -47,3 +47,7 @@ returns-in_err-make_room-clause-unwritten g c room =
 pub returns-clause-unwritten : goal.returns-clause-unwritten
 returns-clause-unwritten g c room =
     let made = c.make_room.ensures.unwritten room in (made.0, made.1, untouched_read made.2, made.3, made.4)
+
+pub returns-clause-unrecorded : goal.returns-clause-unrecorded
+returns-clause-unrecorded g c none =
+    let made = c.in_ok-make_room.ensures.unrecorded none in (made.0, untouched_read made.1)

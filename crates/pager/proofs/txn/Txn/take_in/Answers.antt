@@ -12,6 +12,7 @@ use Rattle.edge_model.specs.Images.{From, LeavesOnly}
 use Rattle.edge_model.specs.Moments.{started, started_from, goes_less, and_then, then_from}
 use Rattle.atomic_commit.specs.Database.{HoldsOld}
 use Rattle.atomic_commit.specs.Facts.{SameFresh}
+use Rattle.atomic_commit.specs.Marks.{marked_count}
 use Rattle.atomic_commit.proofs.Batched.{batches_hold_old}
 use Rattle.pager.proofs.BatchLemmas.{number_is}
 use Rattle.pager.proofs.UnderWayLemmas.{put_same, same_at, seen_as, seen_begins, seen_put, touched_put}
@@ -108,4 +109,11 @@ returns-clause-unwritten g c room =
       disk_then_read c.read_in.ensures.disk (untouched_read (then_untouched made.2 c.place.ensures.disk)),
       then_untouched c.read_in.ensures.entropy (then_untouched made.3 c.place.ensures.entropy),
       c.place.ensures.kept.3 ∙ made.4 ∙ c.read_in.ensures.kept.3,
+    )
+
+pub returns-clause-unrecorded : goal.returns-clause-unrecorded
+returns-clause-unrecorded g c none =
+    let made = c.in_ok-make_room.ensures.unrecorded (ap marked_count (sym c.place.ensures.kept.0) ∙ none) in (
+      c.place.ensures.kept.0 ∙ made.0 ∙ c.read_in.ensures.kept.1,
+      disk_then_read c.read_in.ensures.disk (untouched_read (then_untouched made.1 c.place.ensures.disk)),
     )
