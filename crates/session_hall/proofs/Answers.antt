@@ -1,14 +1,15 @@
 -- The rows of a machine, from what the calls of a step answered.
-use Rattle.std.proofs.Common.{◌≡◌, ◌≢◌, ◌⊎◌, ◌<◌, ◌∙◌, ℕ, true, List, length, Option, Some, None, Result, Ok, Err, inl, inr, ⊎_elim, refl, sym, ap, subst}
-use Rattle.std.specs.Prelude.{IsOk, slice_set}
+use Rattle.std.proofs.Common.{◌≡◌, ◌≢◌, ◌∙◌, ℕ, true, false, List, None, Result, Err, inl, inr, refl, ap}
+use Rattle.std.specs.Prelude.{slice_set}
 use Rattle.edge_model.specs.Files.{Files}
+use Rattle.cipher_profile.specs.Profile.{is_plain}
 use Rattle.cipher_profile.specs.declared.profile.Profile.{Profile}
-use Rattle.edge_model.specs.Files.{main_of}
 use Rattle.pager.specs.Opening.{Opened, IsRefusedBy}
 use Rattle.pager.specs.declared.opening.OpenError.{OpenError}
 use Rattle.pager.specs.declared.opening.OpenError.TheVariants.{Empty as IsEmpty, Short as IsShort, KeyRefused as NoKey, HeaderFault as AtFault, WalMode as IsWal, AutoVacuum as IsVacuum, Ragged as IsRagged, TooLarge as IsLarge, DiskFault as DiskFails, OutOfMemory as MemoryEnds}
 use Rattle.session_hall.specs.Commit.{CommitsTo}
-use Rattle.session_hall.specs.Machine.{ChangesByte, Commits, Reads, Shares, State, may_change, may_commit, may_read, open_answer, opened_by, seen_page, sharing, state, unseen_answer, with_session}
+use Rattle.session_hall.specs.Draws.{CommitDraws, HasDrawn}
+use Rattle.session_hall.specs.Machine.{ChangesByte, Commits, Reads, Shares, HallState, may_change, may_commit, may_read, unopened_answer, opened_by, seen_page, state, unseen_answer, with_session}
 use Rattle.session_hall.specs.declared.reading.Unseen.{Unseen}
 use Rattle.session_hall.specs.declared.reading.Unseen.TheVariants.{TagRefused as Unaccepted, DiskFault as Unread, OutOfMemory as Unkept}
 use Rattle.session_hall.specs.Session.{HasNoOther, Session, session_at}
@@ -38,8 +39,8 @@ one_state now new layout xs page i x y z files is =
     ∙ ap (λ (w : Session). state now layout (slice_set xs i w) page) is)
 
 -- the file does not open for the session
-pub share_refused : (old new : State) (i : ℕ) (error : OpenError) → (session_at old.sessions i).lock ≡ Unlocked → HasNoOther Pending i old.sessions
-    → IsRefusedBy (opened_by (session_at old.sessions i).access old.file) error → new ≡ old → Shares old i (open_answer error) new
+pub share_refused : (old new : HallState) (i : ℕ) (error : OpenError) → (session_at old.sessions i).lock ≡ Unlocked → HasNoOther Pending i old.sessions
+    → IsRefusedBy (opened_by (session_at old.sessions i).access old.file) error → new ≡ old → Shares old i (unopened_answer error) new
 share_refused old new i IsEmpty lock none is same = (lock, none, refused_by _ IsEmpty (λ e. cc) (λ e. cc) is, same)
 share_refused old new i (IsShort len) lock none is same = (lock, none, refused_by _ (IsShort len) (λ e. cc) (λ e. cc) is, same)
 share_refused old new i NoKey lock none is same = (lock, none, refused_by _ NoKey (λ e. cc) (λ e. cc) is, same)
@@ -52,14 +53,14 @@ share_refused old new i DiskFails lock none is same = (lock, none, same)
 share_refused old new i MemoryEnds lock none is same = (lock, none, same)
 
 -- the session does not see the page that it reads
-pub read_unseen : (old new : State) (i n : ℕ) (unseen : Unseen) → may_read old i n ≡ true
+pub read_unseen : (old new : HallState) (i n : ℕ) (unseen : Unseen) → may_read old i n ≡ true
     → (unseen ≡ Unaccepted → seen_page (session_at old.sessions i) old.file n ≡ None) → new ≡ old → Reads old i n (unseen_answer unseen n) new
 read_unseen old new i n Unaccepted may none same = (may, refl, none refl, same)
 read_unseen old new i n Unread may none same = (may, same)
 read_unseen old new i n Unkept may none same = (may, same)
 
 -- nor the page that it changes
-pub change_unseen : (old new : State) (i n at byte : ℕ) (unseen : Unseen) → may_change old i n at ≡ true
+pub change_unseen : (old new : HallState) (i n at byte : ℕ) (unseen : Unseen) → may_change old i n at ≡ true
     → (unseen ≡ Unaccepted → seen_page (session_at old.sessions i) old.file n ≡ None) → new ≡ old → ChangesByte old i n at byte (unseen_answer unseen n) new
 change_unseen old new i n at byte Unaccepted may none same = (may, refl, none refl, same)
 change_unseen old new i n at byte Unread may none same = (may, same)
@@ -67,7 +68,7 @@ change_unseen old new i n at byte Unkept may none same = (may, same)
 
 -- ---- a commit
 
-pub commit_answered : (old : State) (i : ℕ) (answer : Answer) (after : List ℕ) (now : Session) → may_commit old i ≡ true → HasNoOther Shared i old.sessions
+pub commit_answered : (old : HallState) (i : ℕ) (answer : Answer) (after : List ℕ) (now : Session) → may_commit old i ≡ true → HasNoOther Shared i old.sessions
     → CommitsTo (session_at old.sessions i) old.file answer after now
     → Commits old i answer (record { file = after; layout = old.layout; sessions = slice_set old.sessions i now; page = old.page })
 commit_answered old i Done after now may none to =
@@ -88,3 +89,18 @@ commit_answered old i (Refused error) after now may none to = absurd to
 commit_answered old i (TagRefused page) after now may none to = absurd to
 commit_answered old i Misuse after now may none to = absurd to
 commit_answered old i Down after now may none to = absurd to
+
+-- what a commit drew, from what it came to
+pub commit_draws : (layout : Profile) (answer : Answer) (session now : Session) (file new before after : List ℕ) → CommitsTo session file answer new now
+    → (answer ≡ Done → is_plain layout ≡ false → HasDrawn session new before after) → (is_plain layout ≡ true → after ≡ before) → (answer ≡ OutOfMemory → after ≡ before)
+    → CommitDraws layout answer session new before after
+commit_draws layout Done session now file new before after is drawn plain memory = (plain, drawn refl)
+commit_draws layout Page session now file new before after is drawn plain memory = absurd is
+commit_draws layout Busy session now file new before after is drawn plain memory = absurd is
+commit_draws layout (Refused error) session now file new before after is drawn plain memory = absurd is
+commit_draws layout (TagRefused page) session now file new before after is drawn plain memory = absurd is
+commit_draws layout Misuse session now file new before after is drawn plain memory = absurd is
+commit_draws layout Down session now file new before after is drawn plain memory = absurd is
+commit_draws layout DiskFault session now file new before after is drawn plain memory = tt
+commit_draws layout EntropyFault session now file new before after is drawn plain memory = tt
+commit_draws layout OutOfMemory session now file new before after is drawn plain memory = memory refl

@@ -1,6 +1,6 @@
 -- What a session's transaction leaves is the file with its changes.
-use Rattle.std.proofs.Common.{◌≡◌, ◌≢◌, inl, inr, ⊎_elim, ℕ, ◌+◌, ◌-◌, ◌*◌, ◌<◌, ◌≤◌, ◌==◌, ◌&&◌, ◌||◌, Bool, true, false, IsTrue, List, length, take, drop, Option, Some, None, is_some, if◌then◌else◌, refl, sym, ap, subst, ◌∙◌, arith, rules, length-take}
-use Rattle.std.specs.Prelude.{nat_lt, unwrap_or}
+use Rattle.std.proofs.Common.{◌≡◌, ◌≢◌, inl, inr, ⊎_elim, ℕ, ◌-◌, ◌*◌, ◌≤◌, ◌==◌, ◌||◌, Bool, true, false, IsTrue, List, length, take, drop, Option, Some, None, is_some, if◌then◌else◌, refl, sym, ap, subst, ◌∙◌, arith, rules, length-take}
+use Rattle.std.specs.Prelude.{unwrap_or}
 use Rattle.std.proofs.lemmas.Bool.{cases_eq}
 use Rattle.std.proofs.lemmas.List.{take-take}
 use Rattle.edge_model.specs.Files.{Files, main_of}
@@ -9,30 +9,27 @@ use Rattle.edge_model.specs.Moments.{and_then, goes_less, started, weaker}
 use Rattle.edge_model.specs.OnlyRead.{OnlyRead}
 use Rattle.cipher_profile.proofs.Layouts.{IsListed-laid_out}
 use Rattle.cipher_profile.specs.Profile.{IsListed, is_plain, usable}
-use Rattle.cipher_profile.specs.declared.profile.Profile.{Profile}
-use Rattle.db_format.specs.Header.{header_read}
-use Rattle.db_format.specs.declared.header.Header.{Header}
-use Rattle.db_format.specs.declared.header.HeaderRefusal.{HeaderRefusal}
 use Rattle.std.proofs.Common.{Result, Ok, Err}
 use Rattle.page_codec.specs.Page.{FileKeys, accepts, magic, opened, salt_of, sealed}
-use Rattle.page_codec.proofs.Parts.{opened_plain_file}
-use Rattle.page_codec.proofs.Salt.{salt_stands}
-use Rattle.pager.specs.Base.{base_of}
 use Rattle.pager.specs.Changed.{same_layout, with_bytes}
-use Rattle.pager.specs.Database.{count_by, count_of, counted}
+use Rattle.pager.specs.Database.{count_by, count_of}
 use Rattle.pager.specs.File.{page_stored}
 use Rattle.pager.specs.Pages.{is_page_number, opened_pages}
 use Rattle.pager.specs.UnderWay.{HasNewPages}
-use Rattle.pager.proofs.BatchLemmas.{number_in, number_is}
-use Rattle.pager.proofs.TxnLemmas.{ciphered_alike, layout_same}
+use Rattle.pager.proofs.Bases.{some_is}
+use Rattle.pager.proofs.BatchLemmas.{and_true, number_in, number_is}
+use Rattle.pager.proofs.Cutting.{committed_counts, cut_page, cut_pages, one_page}
+use Rattle.pager.proofs.Resealed.{counts_same as kept_counts, main_long as whole_main, main_salt as kept_salt, plain_alike}
+use Rattle.pager.proofs.TxnLemmas.{layout_same}
 use Rattle.pager.proofs.UnderWayLemmas.{opened_at}
 use Rattle.atomic_commit.specs.Commit.{IsCommitted, LeavesChanged}
 use Rattle.atomic_commit.specs.Database.{Base, HoldsEither, HoldsOld, stored_page, stored_pages}
 use Rattle.atomic_commit.specs.Draws.{drawn_at}
 use Rattle.session_hall.specs.Commit.{StopsCommit, base_by, content_at, put_change, put_over}
+use Rattle.session_hall.specs.Draws.{HasDrawn, OwnDrawsBy}
 use Rattle.session_hall.specs.Kept.{IsHallSettled, IsSessionSound}
 use Rattle.session_hall.specs.Key.{Access, codec_at, codec_of}
-use Rattle.session_hall.specs.Machine.{HasSessionChanges, committed_page, else_page, is_sealed, open_answer, opened_by, page_count, seen_page, write_access}
+use Rattle.session_hall.specs.Machine.{HasSessionChanges, committed_page, else_page, is_sealed, unopened_answer, opened_by, counted_pages, seen_page, write_access}
 use Rattle.session_hall.specs.Session.{HasPlainPages, Session, change_of}
 use Rattle.session_hall.specs.Writing.{HasWritten, IsChangeAnswer}
 use Rattle.session_hall.specs.declared.step.Answer.{Answer}
@@ -41,32 +38,14 @@ use Rattle.pager.specs.Opening.{IsRefusedBy, Opened}
 use Rattle.pager.specs.declared.opening.OpenError.{OpenError}
 use Rattle.pager.specs.declared.opening.OpenError.TheVariants.{Empty as IsEmpty, Short as IsShort, KeyRefused as NoKey, HeaderFault as AtFault, WalMode as IsWal, AutoVacuum as IsVacuum, Ragged as IsRagged, TooLarge as IsLarge, DiskFault as DiskFails, OutOfMemory as MemoryEnds}
 use Rattle.session_hall.proofs.Counting.{count_whole, open_count, open_some}
-use Rattle.session_hall.proofs.Cutting.{committed_counts, cut_page, cut_pages, last_whole, one_page, page_whole}
-use Rattle.session_hall.proofs.Headers.{header_same, put_back_is}
-use Rattle.session_hall.proofs.Standing.{alone_old, base_begins, is_some_is, some_is, stands_alone}
+use Rattle.session_hall.proofs.PutOver.{put_back_is}
+use Rattle.session_hall.proofs.Standing.{alone_old, base_begins, stands_alone}
 
 -- ---- profiles
-
--- a file that is plain under the new keys was so under the old ones
-plain_alike : (read write : Profile) → IsListed read → IsListed write → (write.page_size ≡ read.page_size) × (write.reserve ≡ read.reserve)
-    → is_plain write ≡ true → is_plain read ≡ true
-plain_alike read write read_listed write_listed same plain = by_kind (is_plain read) refl
-  where
-    by_kind : (b : Bool) → is_plain read ≡ b → b ≡ true
-    by_kind true is = refl
-    by_kind false ciphered =
-        let both : false ≡ true = sym (ciphered_alike write read write_listed read_listed (sym same.0) (sym same.1) ciphered) ∙ plain in
-        cc
 
 -- the salt of a codec of an encrypted file is that of the file
 ciphered_salt : (access : Access) (file : List ℕ) → is_plain access.profile ≡ false → (codec_of access file).salt ≡ salt_of file
 ciphered_salt access file ciphered = ap (λ (b : Bool). if b then magic else salt_of file) ciphered
-
--- the first bytes of a file are those of its page 1
-starts : (size : ℕ) (file : List ℕ) → 16 ≤ size → take 16 file ≡ take 16 (stored_page size 1 file)
-starts size file within =
-    sym (take-take 16 size file within)
-    ∙ ap (λ (at : ℕ). take 16 (take size (drop at file))) {x = 0} {y = (1 - 1) * size} (omega arith)
 
 -- ---- a session
 
@@ -90,7 +69,7 @@ content_least n = by_number (n == 1)
     by_number false = omega arith
 
 module _ (x : Session) (file : List ℕ) (listed : IsListed x.access.profile) (write_listed : IsListed (write_access x).profile) (plains : HasPlainPages x.access x.changes)
-    (sound : IsSessionSound file x) (opens : page_count (opened_by x.access file) ≡ Some x.pages) (some : 1 ≤ x.pages)
+    (sound : IsSessionSound file x) (opens : counted_pages (opened_by x.access file) ≡ Some x.pages) (some : 1 ≤ x.pages)
     (layout : same_layout (codec_of x.access file) (codec_of (write_access x) file) ≡ true) (tells : Bool) (before after : List ℕ) where
   abbrev keys : FileKeys
   keys = codec_of x.access file
@@ -130,8 +109,15 @@ module _ (x : Session) (file : List ℕ) (listed : IsListed x.access.profile) (w
   alike : is_plain write.profile ≡ true → is_plain keys.profile ≡ true
   alike = plain_alike keys.profile write.profile listed write_listed size_is
 
-  salt_long : length (salt_of file) ≡ 16
-  salt_long = let each = one_page count keys.profile.page_size some in omega (arith, length-take 16 file, each, large, long)
+  header : 100 ≤ keys.profile.page_size
+  header = omega (arith, large)
+
+  write_salt : is_plain write.profile ≡ false → write.salt ≡ salt_of file
+  write_salt ciphered = ciphered_salt (write_access x) file ciphered
+
+  -- where page 1 stays as it is, the file keeps its key
+  same_codec : is_sealed x 1 ≡ false → write ≡ keys
+  same_codec is = ap (λ (access : Access). codec_of access file) (same_access x 1 is)
 
   abbrev base : Base
   base = base_by x file
@@ -188,60 +174,17 @@ module _ (x : Session) (file : List ℕ) (listed : IsListed x.access.profile) (w
     other_stored : (n : ℕ) → is_page_number count n ≡ true → is_sealed x n ≡ false → page_stored write main n ≡ page_stored write file n
     other_stored n num is = has.others n num is
 
+    -- all pages are there
     main_long : count * keys.profile.page_size ≤ length main
-    main_long =
-        subst (λ (s : ℕ). count * s ≤ length main) size_is.0
-        (last_whole count write.profile.page_size main some (omega (arith, size_is.0, large)) (by_seal (is_sealed x count) refl))
-      where
-        last : is_page_number count count ≡ true
-        last = number_is count count some (omega arith)
+    main_long = whole_main keys write count file (is_sealed x) plain tells before after main layout some header long write_salt alike (λ is. header_kept) same_codec has
 
-        by_seal : (b : Bool) → is_sealed x count ≡ b → length (page_stored write main count) ≡ write.profile.page_size
-        by_seal true is = has.whole count last is
-        by_seal false is =
-            ap length (other_stored count last is)
-            ∙ page_whole count write.profile.page_size file some (subst (λ (s : ℕ). count * s ≤ length file) (sym size_is.0) long)
-
-    -- the first bytes stay: of an encrypted file they are the salt, and of a plain one they are in the header
+    -- the first bytes stay
     main_salt : take 16 main ≡ salt_of file
-    main_salt = starts write.profile.page_size main (omega (arith, size_is.0, large)) ∙ by_seal (is_sealed x 1) refl
-      where
-        file_starts : take 16 (page_stored write file 1) ≡ salt_of file
-        file_starts = sym (starts write.profile.page_size file (omega (arith, size_is.0, large)))
-
-        old_starts : take 16 (page_stored keys file 1) ≡ salt_of file
-        old_starts = sym (starts keys.profile.page_size file (omega (arith, large)))
-
-        shorter : (l : List ℕ) → take 16 (take 100 l) ≡ take 16 l
-        shorter l = take-take 16 100 l (omega arith)
-
-        by_kind : (b : Bool) → is_plain write.profile ≡ b → is_sealed x 1 ≡ true → take 16 (page_stored write main 1) ≡ salt_of file
-        by_kind true is anew =
-            ap (take 16) (sym (opened_plain_file write 1 (page_stored write main 1) is) ∙ has.opens 1 first anew)
-            ∙ sym (shorter (plain 1)) ∙ ap (take 16) header_kept ∙ shorter (old_plain 1)
-            ∙ ap (take 16) (opened_plain_file keys 1 (page_stored keys file 1) (alike is)) ∙ old_starts
-        by_kind false ciphered anew =
-            ap (take 16) (has.own.is_sealed 1 (ap (λ (b : Bool). b && is_sealed x 1) first ∙ anew))
-            ∙ salt_stands write (plain 1) (drawn_at write.profile.reserve (has.own.place 1) has.draws) ciphered (ap length (ciphered_salt (write_access x) file ciphered) ∙ salt_long)
-            ∙ ciphered_salt (write_access x) file ciphered
-
-        by_seal : (b : Bool) → is_sealed x 1 ≡ b → take 16 (page_stored write main 1) ≡ salt_of file
-        by_seal true anew = by_kind (is_plain write.profile) refl anew
-        by_seal false is = ap (take 16) (other_stored 1 first is) ∙ file_starts
+    main_salt = kept_salt keys write count file (is_sealed x) plain tells before after main layout some header long write_salt alike (λ is. header_kept) same_codec has
 
     -- a length counts as many pages as before
     counts_same : (len : ℕ) → count_by write (page_stored write main 1) len ≡ count_by keys (page_stored keys file 1) len
-    counts_same len = by_seal (is_sealed x 1) refl
-      where
-        by_seal : (b : Bool) → is_sealed x 1 ≡ b → count_by write (page_stored write main 1) len ≡ count_by keys (page_stored keys file 1) len
-        by_seal true anew =
-            ap (λ (s : ℕ). if nat_lt len s then None else counted len (header_read (opened write 1 (page_stored write main 1)) s write.profile.reserve)) size_is.0
-            ∙ ap (λ (r : ℕ). if nat_lt len keys.profile.page_size then None else counted len (header_read (opened write 1 (page_stored write main 1)) keys.profile.page_size r)) size_is.1
-            ∙ ap (λ (h : Result Header HeaderRefusal). if nat_lt len keys.profile.page_size then None else counted len h)
-            (header_same (opened write 1 (page_stored write main 1)) (old_plain 1) (ap (take 100) (has.opens 1 first anew) ∙ header_kept) keys.profile.page_size keys.profile.reserve)
-        by_seal false is =
-            ap (λ (page : List ℕ). count_by write page len) (other_stored 1 first is)
-            ∙ ap (λ (access : Access). count_by (codec_of access file) (page_stored (codec_of access file) file 1) len) (same_access x 1 is)
+    counts_same = kept_counts keys write count file (is_sealed x) plain tells before after main layout some header long write_salt alike (λ is. header_kept) same_codec has
 
     -- ---- the new file
 
@@ -297,6 +240,24 @@ module _ (x : Session) (file : List ℕ) (listed : IsListed x.access.profile) (w
     pub cut_same : stored_pages keys.profile.page_size count main ≡ stored_pages keys.profile.page_size count cut
     cut_same = sym (cut_pages count keys.profile.page_size main main_long)
 
+    -- the pages that were sealed anew have bytes of their own
+    pub has_drawn : IsTrue tells → HasDrawn x main before after
+    has_drawn told = record {
+      drawn = has.draws;
+      behind = has.since told;
+      own = subst (λ (k : FileKeys). OwnDrawsBy k x main has.draws) (sym codec_is) (record {
+        place = has.own.place;
+        later = has.own.later;
+        within = has.own.within;
+        is_sealed = λ n num. let two = and_true (is_page_number count n) (is_sealed x n) num in
+            subst (λ (l : List ℕ). page_stored write main n ≡ sealed write n l (drawn_at write.profile.reserve (has.own.place n) has.draws)) (sym (has.opens n two.0 two.1)) (has.own.is_sealed n num);
+        apart = has.own.apart;
+      });
+    }
+      where
+        codec_is : codec_of (write_access x) main ≡ write
+        codec_is = ap (codec_at (write_access x)) main_salt
+
   -- where each image has this Main, and no journal
   pub done_changes : (files : Files) (left : Files → Type 0) → left files → HasNew (main_of files) → Each left (IsCommitted base (main_of files)) → HasSessionChanges x file (main_of files)
   done_changes files left here new each = main_changes (main_of files) new (committed_counts base (main_of files) files (each files here))
@@ -326,7 +287,7 @@ unrefused r x error ok disk memory (inr (inr is)) = differ x error (sym ok ∙ i
 pub old_read : {D : Type 0} (reads : D → Files) (images : D → Files → Type 0) (moment : D → ℕ) (since : D → ℕ → Files → Type 0)
     (counts_now : (disk : D) (t : ℕ) (c : Files) → t ≤ moment disk → images disk c → since disk t c)
     (only_now : (disk : D) (c : Files) → since disk (moment disk) c → images disk c) (x : Session) (old new : D)
-    → IsHallSettled (reads old) (images old) → page_count (opened_by x.access (main_of (reads old))) ≡ Some x.pages → OnlyRead reads images moment since old new
+    → IsHallSettled (reads old) (images old) → counted_pages (opened_by x.access (main_of (reads old))) ≡ Some x.pages → OnlyRead reads images moment since old new
     → LeavesOnly moment since old new (HoldsOld (base_by x (main_of (reads old))))
 old_read reads images moment since counts_now only_now x old new settled opens read =
     goes_less counts_now (started only_now old (HoldsOld (base_by x (main_of (reads old)))) (λ image here. alone_old (codec_of x.access (main_of (reads old))) (main_of (reads old)) x.pages image
@@ -340,15 +301,9 @@ pub read_then : {D : Type 0} {moment : D → ℕ} {since : D → ℕ → Files �
 read_then first (inl run) = inl (and_then first run)
 read_then first (inr new) = inr (new.0, new.1, and_then (weaker (λ c old. inl old) first) new.2)
 
--- a sync behind a commit adds no image
-pub then_settled : {D : Type 0} (images : D → Files → Type 0) {moment : D → ℕ} {since : D → ℕ → Files → Type 0} (from : Base) (P : List ℕ → Type 0) (main : List ℕ) {old mid new : D} → P main
-    → LeavesOnly moment since old mid (HoldsEither from (stored_pages from.size from.pages main)) → Each (images mid) (IsCommitted from main) → LeavesOnly moment since mid new (images mid)
-    → LeavesChanged moment since from P old new
-then_settled images from P main new_main run committed sync = inr (main, new_main, and_then run (weaker (λ c here. inr (committed c here).0) sync))
-
 -- a file that opens is refused by the disk or for memory alone
 pub refused_stops : {D : Type 0} (reads : D → Files) (images : D → Files → Type 0) (moment : D → ℕ) (since : D → ℕ → Files → Type 0) (old new : D) (r : Result Opened OpenError) (x : Opened) (error : OpenError)
-    → r ≡ Ok x → IsRefusedBy r error → OnlyRead reads images moment since old new → StopsCommit reads images moment since old new (open_answer error)
+    → r ≡ Ok x → IsRefusedBy r error → OnlyRead reads images moment since old new → StopsCommit reads images moment since old new (unopened_answer error)
 refused_stops reads images moment since old new r x DiskFails ok refused read = tt
 refused_stops reads images moment since old new r x MemoryEnds ok refused read = read
 refused_stops reads images moment since old new r x IsEmpty ok refused read = absurd (unrefused r x IsEmpty ok (λ is. cc) (λ is. cc) refused)

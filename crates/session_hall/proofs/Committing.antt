@@ -1,8 +1,8 @@
 -- A session's commit, from the pager that it opened to what it leaves.
-use Rattle.std.proofs.Common.{◌≡◌, inl, inr, ℕ, ◌*◌, ◌<◌, ◌≤◌, Bool, true, IsTrue, List, length, Option, Some, Result, Ok, refl, sym, ap, subst, ◌∙◌, arith}
+use Rattle.std.proofs.Common.{◌≡◌, inl, inr, ℕ, ◌<◌, ◌≤◌, Bool, true, IsTrue, List, length, Some, refl, sym, ap, subst, ◌∙◌, arith}
 use Rattle.edge_model.specs.Files.{Files, main_of}
 use Rattle.edge_model.specs.Images.{Each, LeavesOnly}
-use Rattle.edge_model.specs.Moments.{and_then, weaker}
+use Rattle.edge_model.specs.Moments.{and_then}
 use Rattle.edge_model.specs.OnlyRead.{OnlyRead}
 use Rattle.cipher_profile.proofs.Layouts.{IsListed-laid_out}
 use Rattle.cipher_profile.specs.Profile.{IsListed}
@@ -14,20 +14,21 @@ use Rattle.pager.specs.File.{page_stored}
 use Rattle.pager.specs.Opening.{file_opened}
 use Rattle.pager.specs.Pages.{is_page_number, opened_pages}
 use Rattle.atomic_commit.specs.Commit.{IsCommitted, LeavesChanged}
-use Rattle.atomic_commit.specs.Database.{Base, HoldsEither, HoldsOld, stored_pages}
+use Rattle.atomic_commit.specs.Database.{Base, HoldsOld}
 use Rattle.atomic_commit.specs.Facts.{IsCommitBegun}
 use Rattle.session_hall.specs.Commit.{base_by, put_over}
+use Rattle.session_hall.specs.Draws.{HasDrawn}
 use Rattle.session_hall.specs.Kept.{IsHallSettled, IsSessionSound}
 use Rattle.session_hall.specs.Key.{codec_of}
 use Rattle.session_hall.specs.Locks.{is_holding}
-use Rattle.session_hall.specs.Machine.{HasSessionChanges, is_sealed, opened_by, page_count, write_access}
+use Rattle.session_hall.specs.Machine.{HasSessionChanges, is_sealed, opened_by, counted_pages, write_access}
 use Rattle.session_hall.specs.Session.{HasPlainPages, Session}
 use Rattle.session_hall.specs.Writing.{HasWritten}
-use Rattle.session_hall.proofs.Committed.{HasNew, done_changes, leaves_changes, old_read, read_then}
+use Rattle.session_hall.proofs.Committed.{HasNew, done_changes, has_drawn, leaves_changes, old_read, read_then}
 use Rattle.session_hall.proofs.Counting.{open_long, open_some}
 use Rattle.session_hall.proofs.Sound.{read_settled}
-use Rattle.session_hall.proofs.Standing.{any_base, settled_begun, stands_alone, told_base}
-use Rattle.session_hall.proofs.Written.{changed_weaker}
+use Rattle.pager.proofs.Bases.{any_base, told_base}
+use Rattle.session_hall.proofs.Standing.{settled_begun, stands_alone}
 
 -- what was said by other names
 by_names : (P : FileKeys → FileKeys → List ℕ → ℕ → Type 0) (k k_now w w_now : FileKeys) (f f_now : List ℕ) (n n_now : ℕ) → k_now ≡ k → w_now ≡ w → f_now ≡ f → n_now ≡ n
@@ -43,14 +44,14 @@ module _ {D : Type 0} (reads : D → Files) (images : D → Files → Type 0) (m
     (codec write : FileKeys) (count : ℕ) (some : 1 ≤ count)
     (is_read : 16 ≤ length (main_of (reads old)) → codec ≡ codec_of x.access (main_of (reads old)))
     (is_write : 16 ≤ length (main_of (reads old)) → write ≡ codec_of (write_access x) (main_of (reads old)))
-    (counts : page_count (file_opened codec (main_of (reads mid))) ≡ Some count) (run : OnlyRead reads images moment since old mid) where
+    (counts : counted_pages (file_opened codec (main_of (reads mid))) ≡ Some count) (run : OnlyRead reads images moment since old mid) where
   abbrev file : List ℕ
   file = main_of (reads old)
 
   abbrev now : List ℕ
   now = main_of (reads mid)
 
-  opens : page_count (opened_by x.access file) ≡ Some x.pages
+  opens : counted_pages (opened_by x.access file) ≡ Some x.pages
   opens = sound.opens holds
 
   large : 512 ≤ x.access.profile.page_size
@@ -69,7 +70,7 @@ module _ {D : Type 0} (reads : D → Files) (images : D → Files → Type 0) (m
   main_is = ap main_of run.stays
 
   count_is : count ≡ x.pages
-  count_is = some_same count x.pages (sym counts ∙ (ap (λ (k : FileKeys). page_count (file_opened k now)) codec_is ∙ (ap (λ (l : List ℕ). page_count (file_opened (codec_of x.access file) l)) main_is ∙ opens)))
+  count_is = some_same count x.pages (sym counts ∙ (ap (λ (k : FileKeys). counted_pages (file_opened k now)) codec_is ∙ (ap (λ (l : List ℕ). counted_pages (file_opened (codec_of x.access file) l)) main_is ∙ opens)))
     where
       some_same : (a b : ℕ) → Some a ≡ Some b → a ≡ b
       some_same a b is = cc
@@ -107,10 +108,6 @@ module _ {D : Type 0} (reads : D → Files) (images : D → Files → Type 0) (m
   pub still_old : LeavesOnly moment since old mid (HoldsOld (base_by x file))
   still_old = old_read reads images moment since counts_now only_now x old mid settled opens run
 
-  pub one_new : (new : D) (main : List ℕ) → LeavesOnly moment since mid new (HoldsEither any (stored_pages any.size any.pages main))
-      → LeavesOnly moment since old new (HoldsEither (base_by x file) (stored_pages x.access.profile.page_size x.pages main))
-  one_new new main one = and_then (weaker (λ c holds. inl holds) still_old) (subst (λ (b : Base). LeavesOnly moment since mid new (HoldsEither b (stored_pages b.size b.pages main))) base_is one)
-
   pub all_old : (new : D) → LeavesOnly moment since mid new (HoldsOld any) → LeavesOnly moment since old new (HoldsOld (base_by x file))
   all_old new old_alone = and_then still_old (subst (λ (b : Base). LeavesOnly moment since mid new (HoldsOld b)) base_is old_alone)
 
@@ -132,6 +129,11 @@ module _ {D : Type 0} (reads : D → Files) (images : D → Files → Type 0) (m
     done files left here new each =
         let layout = layout_of (main_of files) new in
         done_changes x file listed write_listed plains sound opens pages_some layout draws_told before after files left here (same_left (main_of files) new layout) (is_new left (main_of files) each)
+
+    pub done_draws : (main : List ℕ) → HasLeft main → IsTrue draws_told → HasDrawn x main before after
+    done_draws main left draws =
+        let layout = layout_of main left in
+        has_drawn x file listed write_listed plains sound opens pages_some layout draws_told before after main (same_left main left layout) draws
 
     pub moments : (new : D) → LeavesChanged moment since any HasLeft mid new → LeavesChanged moment since (base_by x file) (HasSessionChanges x file) old new
     moments new changes = read_then still_old (by_case (subst (λ (b : Base). LeavesChanged moment since b HasLeft mid new) base_is changes))

@@ -11,15 +11,15 @@ use Rattle.db_format.specs.declared.count.CountRefusal.TheVariants.{Ragged, TooL
 use Rattle.db_format.specs.declared.header.Header.{Header}
 use Rattle.db_format.specs.declared.header.HeaderRefusal.{HeaderRefusal}
 use Rattle.db_format.specs.declared.header.HeaderRefusal.TheVariants.{HeaderFault}
-use Rattle.page_codec.specs.Page.{FileKeys, fits, opened}
+use Rattle.page_codec.specs.Page.{FileKeys, opened}
 use Rattle.pager.specs.File.{first_page, page_stored}
 use Rattle.pager.specs.Opening.{Opened, file_header, file_opened, first_broken, key_rules, length_rules, unless, with_count, with_header}
 use Rattle.pager.specs.Database.{count_by, count_of, counted, ok_count}
 use Rattle.pager.specs.declared.opening.OpenError.{OpenError}
 use Rattle.pager.specs.declared.opening.OpenError.TheVariants.{Empty, Short}
 use Rattle.pager.proofs.OpeningLemmas.{opened_whole}
-use Rattle.session_hall.specs.Machine.{page_count}
-use Rattle.session_hall.proofs.Cutting.{one_page}
+use Rattle.session_hall.specs.Machine.{counted_pages}
+use Rattle.pager.proofs.Cutting.{one_page}
 
 not_not : (a : Bool) → not a ≡ false → a ≡ true
 not_not true h = refl
@@ -67,7 +67,7 @@ header_size plain size reserve h is =
     same a b is = search rules
 
 -- what a file opened to that has so many pages
-pub counted_open : (r : Result Opened OpenError) (n : ℕ) → page_count r ≡ Some n → (header : Header) × (r ≡ Ok (record { header = header; count = n }))
+pub counted_open : (r : Result Opened OpenError) (n : ℕ) → counted_pages r ≡ Some n → (header : Header) × (r ≡ Ok (record { header = header; count = n }))
 counted_open (Ok opened) n is = (opened.header, ap (λ (k : ℕ). Ok (record { header = opened.header; count = k })) (some_is opened.count n is))
   where
     some_is : (a b : ℕ) → Some a ≡ Some b → a ≡ b
@@ -75,7 +75,7 @@ counted_open (Ok opened) n is = (opened.header, ap (λ (k : ℕ). Ok (record { h
 counted_open (Err error) n is = cc
 
 -- the file has all of its pages
-pub count_whole : (keys : FileKeys) (file : List ℕ) (n : ℕ) → page_count (file_opened keys file) ≡ Some n → n * keys.profile.page_size ≤ length file
+pub count_whole : (keys : FileKeys) (file : List ℕ) (n : ℕ) → counted_pages (file_opened keys file) ≡ Some n → n * keys.profile.page_size ≤ length file
 count_whole keys file n is =
     let was = counted_open (file_opened keys file) n is in
     opened_whole keys file was.0 n was.1
@@ -83,7 +83,7 @@ count_whole keys file n is =
     (header_of keys file (record { header = was.0; count = n }) was.1))
 
 -- and each of them
-pub page_there : (keys : FileKeys) (file : List ℕ) (n m : ℕ) → page_count (file_opened keys file) ≡ Some n → m ≤ n → m * keys.profile.page_size ≤ length file
+pub page_there : (keys : FileKeys) (file : List ℕ) (n m : ℕ) → counted_pages (file_opened keys file) ≡ Some n → m ≤ n → m * keys.profile.page_size ≤ length file
 page_there keys file n m is le =
     let each : m * keys.profile.page_size ≤ n * keys.profile.page_size = mul-le-mul_right keys.profile.page_size le in
     omega (arith, each, count_whole keys file n is)
@@ -108,7 +108,7 @@ with_counts len (Ok header) x is =
     ap (λ (h : Header). count_of_pages h len) (sym (with_its_count header (count_of_pages header len) x is)) ∙ counts_of header (count_of_pages header len) x is
 with_counts len (Err refusal) x is = cc
 
-pub open_count : (keys : FileKeys) (file : List ℕ) (n : ℕ) → page_count (file_opened keys file) ≡ Some n → count_of keys file ≡ Some n
+pub open_count : (keys : FileKeys) (file : List ℕ) (n : ℕ) → counted_pages (file_opened keys file) ≡ Some n → count_of keys file ≡ Some n
 open_count keys file n is =
     let was = counted_open (file_opened keys file) n is in
     let x : Opened = record { header = was.0; count = n } in
@@ -123,7 +123,7 @@ first_of true b x y is = cc
 first_of false b x y is = refl
 
 -- it has a byte
-pub open_some : (keys : FileKeys) (file : List ℕ) (n : ℕ) → page_count (file_opened keys file) ≡ Some n → 0 < length file
+pub open_some : (keys : FileKeys) (file : List ℕ) (n : ℕ) → counted_pages (file_opened keys file) ≡ Some n → 0 < length file
 open_some keys file n is =
     let was = counted_open (file_opened keys file) n is in
     let lengths = both_past (first_broken (length_rules keys.profile.page_size file)) _ (record { header = was.0; count = n }) was.1 in
@@ -136,7 +136,7 @@ not_less : (a b : ℕ) → nat_lt a b ≡ false → b ≤ a
 not_less a b is = search rules
 
 -- and a whole page
-pub open_long : (keys : FileKeys) (file : List ℕ) (n : ℕ) → page_count (file_opened keys file) ≡ Some n → keys.profile.page_size ≤ length file
+pub open_long : (keys : FileKeys) (file : List ℕ) (n : ℕ) → counted_pages (file_opened keys file) ≡ Some n → keys.profile.page_size ≤ length file
 open_long keys file n is =
     let was = counted_open (file_opened keys file) n is in
     let lengths = both_past (first_broken (length_rules keys.profile.page_size file)) _ (record { header = was.0; count = n }) was.1 in
@@ -201,7 +201,7 @@ whole_count h len n size is =
 more_than : (a b : ℕ) → a ≤ b → nat_lt b a ≡ false
 more_than a b le = search (rules, le)
 
-pub whole_counts : (keys : FileKeys) (file : List ℕ) (n : ℕ) → page_count (file_opened keys file) ≡ Some n → 1 ≤ keys.profile.page_size → 1 ≤ n
+pub whole_counts : (keys : FileKeys) (file : List ℕ) (n : ℕ) → counted_pages (file_opened keys file) ≡ Some n → 1 ≤ keys.profile.page_size → 1 ≤ n
     → count_by keys (page_stored keys file 1) (n * keys.profile.page_size) ≡ Some n
 whole_counts keys file n is size some =
     let was = counted_open (file_opened keys file) n is in

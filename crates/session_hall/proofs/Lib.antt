@@ -2,10 +2,9 @@ pub mod Answers
 pub mod Committed
 pub mod Committing
 pub mod Counting
-pub mod Cutting
-pub mod Headers
 mod Lookups
 pub mod Places
+pub mod PutOver
 pub mod Recovered
 pub mod Runs
 pub mod Shared

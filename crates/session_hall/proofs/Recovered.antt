@@ -1,7 +1,7 @@
 -- What a recovery leaves is settled.
-use Rattle.std.proofs.Common.{◌≡◌, ◌≢◌, ◌⊎◌, ◌<◌, ◌∙◌, ℕ, true, List, [], ◌∷◌, length, Option, Some, None, Result, Ok, Err, inl, inr, refl, sym, ap, subst, arith}
+use Rattle.std.proofs.Common.{◌≡◌, ◌⊎◌, ◌<◌, ◌∙◌, ℕ, List, [], ◌∷◌, length, Option, Some, None, Result, Ok, Err, inl, inr, refl, sym, ap, subst, arith}
 use Rattle.std.specs.Prelude.{IsTrue, unwrap_or}
-use Rattle.edge_model.specs.Files.{File, Files, bytes_of}
+use Rattle.edge_model.specs.Files.{Files, bytes_of}
 use Rattle.edge_model.specs.Images.{Each}
 use Rattle.edge_model.specs.Files.{main_of}
 use Rattle.rollback_journal.specs.Recovery.{HasByte, IsPlaybackDone, IsSettled as IsRecovered, answer_of, answer_to, changes_nothing}

@@ -1,6 +1,6 @@
 -- What a hall keeps through each row of its machine.
 use Rattle.std.proofs.Common.{[], ◌≡◌, ◌≢◌, ◌⊎◌, ◌<◌, ◌≤◌, ◌*◌, ◌&&◌, ◌||◌, ◌∙◌, ℕ, Bool, true, false, List, length, take, Option, Some, None, is_some, inl, inr, ⊎_elim, refl, sym, ap, subst, arith, rules, if◌then◌else◌}
-use Rattle.std.specs.Prelude.{EachIndex, IsSome, nat_le, nat_lt, slice_set}
+use Rattle.std.specs.Prelude.{IsSome, nat_le, nat_lt, slice_set}
 use Rattle.std.specs.BTreeMap.{insert_entry}
 use Rattle.std.specs.Ordering.{nat_cmp}
 use Rattle.std.proofs.lemmas.List.{take-set-le}
@@ -11,20 +11,19 @@ use Rattle.cipher_profile.specs.Profile.{usable}
 use Rattle.cipher_profile.specs.declared.profile.Profile.{Profile}
 use Rattle.page_codec.specs.Page.{accepts, opened}
 use Rattle.pager.specs.File.{page_stored}
-use Rattle.edge_model.specs.Files.{main_of}
 use Rattle.pager.specs.Pages.{is_page_number}
 use Rattle.pager.proofs.BatchLemmas.{and_true, number_in}
 use Rattle.session_hall.specs.Key.{Access, codec_of}
 use Rattle.edge_model.specs.Images.{LeavesOnly}
 use Rattle.edge_model.specs.Moments.{goes_less, started}
-use Rattle.session_hall.specs.Faults.{is_fault}
-use Rattle.session_hall.specs.Kept.{AreAllClosed, AreSound, IsHallSettled, IsSessionSound, StandsAsRead}
+use Rattle.session_hall.specs.Faults.{is_fault_answer}
+use Rattle.session_hall.specs.Kept.{AreAllClosed, AreSessionsSound, IsHallSettled, IsSessionSound, StandsAsRead}
 use Rattle.session_hall.specs.Locks.{is_holding, is_reserved, is_writing}
 use Rattle.session_hall.specs.Commit.{IsUp}
-use Rattle.session_hall.specs.Machine.{ChangesByte, Commits, Opens, Reads, Rekeys, Releases, Reserves, Shares, SeesUpTo, State, Steps, Stops, changing, committed, else_page, is_content, is_sealed, may_be_under, may_change, opened_by, page_count, released, seen_page, sharing, unlocked}
+use Rattle.session_hall.specs.Machine.{ChangesByte, Commits, Opens, Reads, Rekeys, Releases, Reserves, Shares, SeesUpTo, HallState, Steps, Stops, changing, committed, else_page, is_content, is_sealed, may_be_under, may_change, opened_by, counted_pages, released, seen_page, sharing, unlocked}
 use Rattle.session_hall.specs.declared.step.Step.{Step}
 use Rattle.session_hall.specs.declared.step.Step.TheVariants.{Open, Share, Read, Reserve, Change, Rekey, Commit, Release, Stop}
-use Rattle.session_hall.specs.Session.{AreClosed, HasNoOther, Session, change_of, closed, session_at}
+use Rattle.session_hall.specs.Session.{Session, change_of, closed, session_at}
 use Rattle.session_hall.specs.declared.lock.Lock.{Lock}
 use Rattle.session_hall.specs.declared.lock.Lock.TheVariants.{Closed, Unlocked, Shared, Reserved, Pending}
 use Rattle.session_hall.specs.declared.step.Answer.{Answer}
@@ -47,7 +46,7 @@ abbrev pub Writes : Session → Type 0
 Writes session = is_writing session.lock ≡ true
 
 -- a session in the place of another
-module _ (file : List ℕ) (xs : List Session) (i : ℕ) (x : Session) (small : i < length xs) (sound : AreSound file xs)
+module _ (file : List ℕ) (xs : List Session) (i : ℕ) (x : Session) (small : i < length xs) (sound : AreSessionsSound file xs)
     (is_sound : IsSessionSound file x) (alone : Writes x → (k : ℕ) → k < length xs → k ≢ i → Writes (session_at xs k) → ⊥) where
   inside : (k : ℕ) → k < length (slice_set xs i x) → k < length xs
   inside k less = omega (arith, less, as_many xs i x)
@@ -55,7 +54,7 @@ module _ (file : List ℕ) (xs : List Session) (i : ℕ) (x : Session) (small : 
   now : (k : ℕ) → k ≡ i → session_at (slice_set xs i x) k ≡ x
   now k same = ap (λ (j : ℕ). session_at (slice_set xs i x) j) same ∙ put_at xs i x small
 
-  pub put_sound : AreSound file (slice_set xs i x)
+  pub put_sound : AreSessionsSound file (slice_set xs i x)
   put_sound = record {
     each = λ k less. ⊎_elim (λ same. subst (IsSessionSound file) (sym (now k same)) is_sound)
         (λ other. subst (IsSessionSound file) (sym (beside xs i k x other)) (sound.each k (inside k less))) (cases_eq k i);
@@ -91,7 +90,7 @@ neither_writes Reserved one two is = one refl
 neither_writes Pending one two is = two refl
 
 -- a page that a session may read is in the file
-pub page_in : (file : List ℕ) (xs : List Session) (i n : ℕ) → i < length xs → AreSound file xs
+pub page_in : (file : List ℕ) (xs : List Session) (i n : ℕ) → i < length xs → AreSessionsSound file xs
     → (is_holding (session_at xs i).lock && is_page_number (session_at xs i).pages n) ≡ true
     → n * (session_at xs i).access.profile.page_size ≤ length file
 page_in file xs i n small sound may =
@@ -100,7 +99,7 @@ page_in file xs i n small sound may =
     page_there (codec_of session.access file) file session.pages n ((sound.each i small).opens two.0) (number_in session.pages n two.1).1
 
 -- and so is one that it may change
-pub page_in_reserved : (file : List ℕ) (xs : List Session) (i n : ℕ) (content : Bool) → i < length xs → AreSound file xs
+pub page_in_reserved : (file : List ℕ) (xs : List Session) (i n : ℕ) (content : Bool) → i < length xs → AreSessionsSound file xs
     → (is_reserved (session_at xs i).lock && is_page_number (session_at xs i).pages n && content) ≡ true
     → n * (session_at xs i).access.profile.page_size ≤ length file
 page_in_reserved file xs i n content small sound may =
@@ -110,13 +109,13 @@ page_in_reserved file xs i n content small sound may =
     page_there (codec_of session.access file) file session.pages n ((sound.each i small).opens (reserved_holds session.lock more.0)) (number_in session.pages n more.1).1
 
 -- the sessions of a state are sound
-abbrev pub IsSound : State → Type 0
-IsSound s = AreSound s.file s.sessions
+abbrev pub IsSound : HallState → Type 0
+IsSound s = AreSessionsSound s.file s.sessions
 
 -- ---- sessions
 
 -- one that has changed nothing
-pub clean_session : (file : List ℕ) (x : Session) → (is_holding x.lock ≡ true → page_count (opened_by x.access file) ≡ Some x.pages)
+pub clean_session : (file : List ℕ) (x : Session) → (is_holding x.lock ≡ true → counted_pages (opened_by x.access file) ≡ Some x.pages)
     → x.changes ≡ [] → x.new_access ≡ None → IsSessionSound file x
 clean_session file x opens none no_key = record {
   opens = opens;
@@ -226,7 +225,7 @@ rekeyed_session file x access sound reserved sees = record {
 
 -- ---- the rows
 
-may_change_parts : (s : State) (i n at : ℕ) → may_change s i n at ≡ true
+may_change_parts : (s : HallState) (i n at : ℕ) → may_change s i n at ≡ true
     → (is_reserved (session_at s.sessions i).lock ≡ true) × (is_page_number (session_at s.sessions i).pages n ≡ true) × (is_content (session_at s.sessions i).access.profile n at ≡ true)
 may_change_parts s i n at may =
     let x = session_at s.sessions i in
@@ -234,7 +233,7 @@ may_change_parts s i n at may =
     let more = and_true (is_reserved x.lock) (is_page_number x.pages n) two.0 in
     (more.0, more.1, two.1)
 
-pub opens_sound : (old new : State) (i : ℕ) (access : Access) (answer : Answer) → i < length old.sessions → IsSound old → Opens old i access answer new → IsSound new
+pub opens_sound : (old new : HallState) (i : ℕ) (access : Access) (answer : Answer) → i < length old.sessions → IsSound old → Opens old i access answer new → IsSound new
 opens_sound old new i access Done small sound is =
     subst IsSound (sym is.1) (put_sound old.file old.sessions i (unlocked access) small sound (clean_session old.file (unlocked access) (λ h. absurd (never h)) refl refl) (λ w. absurd (never w)))
 opens_sound old new i access Page small sound is = absurd is
@@ -247,7 +246,7 @@ opens_sound old new i access DiskFault small sound is = absurd is
 opens_sound old new i access EntropyFault small sound is = absurd is
 opens_sound old new i access OutOfMemory small sound is = absurd is
 
-pub shares_sound : (old new : State) (i : ℕ) (answer : Answer) → i < length old.sessions → IsSound old → Shares old i answer new → IsSound new
+pub shares_sound : (old new : HallState) (i : ℕ) (answer : Answer) → i < length old.sessions → IsSound old → Shares old i answer new → IsSound new
 shares_sound old new i Done small sound is =
     let x = session_at old.sessions i in
     let clean = (sound.each i small).unchanged (ap is_writing is.0) in
@@ -262,7 +261,7 @@ shares_sound old new i DiskFault small sound is = subst IsSound (sym is.2) sound
 shares_sound old new i EntropyFault small sound is = absurd is
 shares_sound old new i OutOfMemory small sound is = subst IsSound (sym is.2) sound
 
-pub reads_sound : (old new : State) (i : ℕ) (n : ℕ) (answer : Answer) → i < length old.sessions → IsSound old → Reads old i n answer new → IsSound new
+pub reads_sound : (old new : HallState) (i : ℕ) (n : ℕ) (answer : Answer) → i < length old.sessions → IsSound old → Reads old i n answer new → IsSound new
 reads_sound old new i n Done small sound is = absurd is
 reads_sound old new i n Page small sound is = subst IsSound (sym is.2) sound
 reads_sound old new i n Busy small sound is = absurd is
@@ -274,7 +273,7 @@ reads_sound old new i n DiskFault small sound is = subst IsSound (sym is.1) soun
 reads_sound old new i n EntropyFault small sound is = absurd is
 reads_sound old new i n OutOfMemory small sound is = subst IsSound (sym is.1) sound
 
-pub reserves_sound : (old new : State) (i : ℕ) (answer : Answer) → i < length old.sessions → IsSound old → Reserves old i answer new → IsSound new
+pub reserves_sound : (old new : HallState) (i : ℕ) (answer : Answer) → i < length old.sessions → IsSound old → Reserves old i answer new → IsSound new
 reserves_sound old new i Done small sound is =
     let x = session_at old.sessions i in
     let was = sound.each i small in
@@ -292,7 +291,7 @@ reserves_sound old new i DiskFault small sound is = absurd is
 reserves_sound old new i EntropyFault small sound is = absurd is
 reserves_sound old new i OutOfMemory small sound is = absurd is
 
-pub changes_sound : (old new : State) (i : ℕ) (n : ℕ) (at : ℕ) (byte : ℕ) (answer : Answer) → i < length old.sessions → IsSound old → ChangesByte old i n at byte answer new → IsSound new
+pub changes_sound : (old new : HallState) (i : ℕ) (n : ℕ) (at : ℕ) (byte : ℕ) (answer : Answer) → i < length old.sessions → IsSound old → ChangesByte old i n at byte answer new → IsSound new
 changes_sound old new i n at byte Done small sound is =
     let x = session_at old.sessions i in
     let may = may_change_parts old i n at is.0 in
@@ -310,7 +309,7 @@ changes_sound old new i n at byte DiskFault small sound is = subst IsSound (sym 
 changes_sound old new i n at byte EntropyFault small sound is = absurd is
 changes_sound old new i n at byte OutOfMemory small sound is = subst IsSound (sym is.1) sound
 
-pub rekeys_sound : (old new : State) (i : ℕ) (access : Access) (answer : Answer) → i < length old.sessions → IsSound old → Rekeys old i access answer new → IsSound new
+pub rekeys_sound : (old new : HallState) (i : ℕ) (access : Access) (answer : Answer) → i < length old.sessions → IsSound old → Rekeys old i access answer new → IsSound new
 rekeys_sound old new i access Done small sound is =
     let x = session_at old.sessions i in
     let reserved = (and_true (is_reserved x.lock) (may_be_under old.layout access) is.0).0 in
@@ -327,7 +326,7 @@ rekeys_sound old new i access DiskFault small sound is = subst IsSound (sym is.1
 rekeys_sound old new i access EntropyFault small sound is = absurd is
 rekeys_sound old new i access OutOfMemory small sound is = absurd is
 
-pub releases_sound : (old new : State) (i : ℕ) (answer : Answer) → i < length old.sessions → IsSound old → Releases old i answer new → IsSound new
+pub releases_sound : (old new : HallState) (i : ℕ) (answer : Answer) → i < length old.sessions → IsSound old → Releases old i answer new → IsSound new
 releases_sound old new i Done small sound is =
     let x = session_at old.sessions i in
     subst IsSound (sym is.1) (put_sound old.file old.sessions i (released x) small sound (clean_session old.file (released x) (λ h. absurd (never h)) refl refl) (λ w. absurd (never w)))
@@ -342,7 +341,7 @@ releases_sound old new i EntropyFault small sound is = absurd is
 releases_sound old new i OutOfMemory small sound is = absurd is
 
 -- all are closed
-pub stops_sound : (old new : State) (answer : Answer) → IsSound old → Stops old answer new → IsSound new
+pub stops_sound : (old new : HallState) (answer : Answer) → IsSound old → Stops old answer new → IsSound new
 stops_sound old new Done sound is = subst IsSound (sym is.1) (record {
   each = λ k less. subst (IsSessionSound old.file) (sym (is.0.each k (within k less)))
       (clean_session old.file (closed (session_at old.sessions k)) (λ h. absurd (never h)) refl refl);
@@ -376,7 +375,7 @@ untrue true never_is = absurd (never_is refl)
 untrue false never_is = refl
 
 -- The file is another, and no other session holds it.
-module _ (before after : List ℕ) (xs : List Session) (i : ℕ) (x : Session) (small : i < length xs) (sound : AreSound before xs) (is_sound : IsSessionSound after x) (quiet : is_writing x.lock ≡ false)
+module _ (before after : List ℕ) (xs : List Session) (i : ℕ) (x : Session) (small : i < length xs) (sound : AreSessionsSound before xs) (is_sound : IsSessionSound after x) (quiet : is_writing x.lock ≡ false)
     (none : (k : ℕ) → k < length xs → k ≢ i → is_holding (session_at xs k).lock ≡ true → ⊥)
     (unwritten : (k : ℕ) → k < length xs → k ≢ i → is_writing (session_at xs k).lock ≡ true → ⊥) where
   within : (k : ℕ) → k < length (slice_set xs i x) → k < length xs
@@ -389,7 +388,7 @@ module _ (before after : List ℕ) (xs : List Session) (i : ℕ) (x : Session) (
   moved k less other =
       moved_session before after (session_at xs k) (untrue (is_holding (session_at xs k).lock) (none k less other)) (untrue (is_writing (session_at xs k).lock) (unwritten k less other)) (sound.each k less)
 
-  pub idle_sound : AreSound after (slice_set xs i x)
+  pub idle_sound : AreSessionsSound after (slice_set xs i x)
   idle_sound = record {
     each = λ k less. ⊎_elim (λ same. subst (IsSessionSound after) (sym (now_x k same)) is_sound)
         (λ other. subst (IsSessionSound after) (sym (beside xs i k x other)) (moved k (within k less) other)) (cases_eq k i);
@@ -397,10 +396,10 @@ module _ (before after : List ℕ) (xs : List Session) (i : ℕ) (x : Session) (
         (λ other. unwritten j (within j one) other (ap (λ (s : Session). is_writing s.lock) (sym (beside xs i j x other)) ∙ first)) (cases_eq j i));
   }
 
-pub commits_sound : (old new : State) (i : ℕ) (answer : Answer) → i < length old.sessions → IsSound old → IsUp answer → Commits old i answer new → IsSound new
+pub commits_sound : (old new : HallState) (i : ℕ) (answer : Answer) → i < length old.sessions → IsSound old → IsUp answer → Commits old i answer new → IsSound new
 commits_sound old new i Done small sound up is =
     let x = committed (session_at old.sessions i) in
-    subst (λ (xs : List Session). AreSound new.file xs) (sym (ap (λ (s : State). s.sessions) is.3))
+    subst (λ (xs : List Session). AreSessionsSound new.file xs) (sym (ap (λ (s : HallState). s.sessions) is.3))
     (idle_sound old.file new.file old.sessions i x small sound (clean_session new.file x (λ h. absurd (never h)) refl refl) refl
     (λ k less other holds. is.1 k less other (holds_shared (session_at old.sessions k).lock holds (λ writes. other (sound.one k i less small writes is.0))))
     (λ k less other writes. other (sound.one k i less small writes is.0)))
@@ -420,7 +419,7 @@ commits_sound old new i Down small sound up is = absurd is
 
 -- ---- any step
 
-pub steps_sound : (old new : State) (i : ℕ) (step : Step) (answer : Answer) → i < length old.sessions → IsSound old → IsUp answer → Steps old i step answer new → IsSound new
+pub steps_sound : (old new : HallState) (i : ℕ) (step : Step) (answer : Answer) → i < length old.sessions → IsSound old → IsUp answer → Steps old i step answer new → IsSound new
 steps_sound old new i (Open secret profile) answer small sound up is = opens_sound old new i (record { profile = profile; secret = secret }) answer small sound is
 steps_sound old new i Share answer small sound up is = shares_sound old new i answer small sound is
 steps_sound old new i (Read n) answer small sound up is = reads_sound old new i n answer small sound is
@@ -465,14 +464,14 @@ still_leaves reads images moment since only_now old new settled same =
 
 -- ---- the start
 
-pub closed_sound : (file : List ℕ) (xs : List Session) → AreAllClosed xs → AreSound file xs
+pub closed_sound : (file : List ℕ) (xs : List Session) → AreAllClosed xs → AreSessionsSound file xs
 closed_sound file xs closed = record {
   each = λ k less. clean_session file (session_at xs k) (λ h. absurd (never (ap is_holding (sym (closed k less).lock) ∙ h))) (closed k less).changes (closed k less).new_access;
   one = λ j k one two first next. absurd (never (ap is_writing (sym (closed j one).lock) ∙ first));
 }
 
 -- an answer that is no fault leaves the hall up
-pub up_of : (answer : Answer) → is_fault answer ≡ false → IsUp answer
+pub up_of : (answer : Answer) → is_fault_answer answer ≡ false → IsUp answer
 up_of Done is = tt
 up_of Page is = tt
 up_of Busy is = tt

@@ -1,20 +1,19 @@
 -- A settled disk, and what each of its images recovers to.
-use Rattle.std.proofs.Common.{◌≡◌, ◌==◌, ◌≤◌, ◌<◌, ◌*◌, ◌∙◌, ℕ, Bool, true, false, List, length, Option, Some, None, refl, sym, ap, subst, arith, rules}
+use Rattle.std.proofs.Common.{◌≡◌, ◌≤◌, ◌<◌, ◌*◌, ◌∙◌, ℕ, List, length, Option, Some, None, refl, sym, ap, subst, arith}
 use Rattle.fresh_disk.specs.Published.{IsAlone}
 use Rattle.edge_model.specs.Files.{File, Files, bytes_of, contents, main_of}
 use Rattle.edge_model.specs.Images.{Each}
 use Rattle.page_codec.specs.Page.{FileKeys}
-use Rattle.pager.specs.Base.{base_of, is_some_of}
-use Rattle.std.specs.Prelude.{IsTrue, replicate}
-use Rattle.std.proofs.lemmas.List.{length-replicate}
+use Rattle.pager.specs.Base.{base_of}
+use Rattle.pager.proofs.Bases.{is_some_is}
 use Rattle.pager.specs.Database.{count_by, count_of}
 use Rattle.pager.specs.File.{page_stored}
 use Rattle.pager.specs.Opening.{HasNoJournal, file_opened}
 use Rattle.rollback_journal.specs.Recovery.{Recovers, RecoversTo}
-use Rattle.atomic_commit.specs.Database.{Base, stored_pages, IsDatabase, HoldsOld}
+use Rattle.atomic_commit.specs.Database.{stored_pages, IsDatabase, HoldsOld}
 use Rattle.atomic_commit.specs.Facts.{IsBase, IsCommitBegun}
 use Rattle.session_hall.specs.Kept.{IsHallSettled}
-use Rattle.session_hall.specs.Machine.{page_count}
+use Rattle.session_hall.specs.Machine.{counted_pages}
 use Rattle.session_hall.proofs.Counting.{count_whole, open_count, whole_counts}
 
 -- ---- Main alone
@@ -33,6 +32,13 @@ stands_alone now images settled some = λ c here. record {
 pub settled_bare : (now : Files) (images : Files → Type 0) → IsHallSettled now images → 0 < length (main_of now) → Each images HasNoJournal
 settled_bare now images settled some = λ c here. (settled.stands c here).journal ∙ settled.alone some
 
+-- where each image has Main as it reads, and none a journal
+pub each_settled : (now : Files) (images : Files → Type 0) → images now → Each images (λ c. c.main ≡ now.main) → Each images (λ c. c.journal ≡ None) → IsHallSettled now images
+each_settled now images here main none = record {
+  stands = λ c is. record { main = main c is; journal = none c is ∙ sym (none now here) };
+  alone = λ some. none now here;
+}
+
 -- ---- what is recovered
 
 recovers_main : (size : ℕ) (file : List ℕ) (image : Files) → IsAlone file image → Recovers size image file
@@ -43,12 +49,6 @@ recovers_only : (size : ℕ) (file other : List ℕ) (image : Files) → IsAlone
 recovers_only size file other image alone to = subst (λ (j : Option File). RecoversTo size (Some file) (bytes_of j) other) alone.journal
     (subst (λ (m : Option (List ℕ)). RecoversTo size m (bytes_of image.journal) other) alone.main to)
 
-pub is_some_is : (n : ℕ) (o : Option ℕ) → o ≡ Some n → is_some_of n o ≡ true
-is_some_is n o is = rw is (itself n)
-  where
-    itself : (a : ℕ) → (a == a) ≡ true
-    itself a = search rules
-
 -- such an image holds the pages of Main
 pub alone_old : (keys : FileKeys) (file : List ℕ) (n : ℕ) (image : Files) → count_of keys file ≡ Some n → IsAlone file image → HoldsOld (base_of keys file n) image
 alone_old keys file n image is alone = record {
@@ -57,13 +57,9 @@ alone_old keys file n image is alone = record {
       (record { pages_are = refl; counted = is_some_is n (count_of keys file) is });
 }
 
-pub some_is : (n : ℕ) (o : Option ℕ) → is_some_of n o ≡ true → o ≡ Some n
-some_is n None is = cc
-some_is n (Some m) is = ap (λ (k : ℕ). Some k) (search rules)
-
 -- ---- what a transaction starts from
 
-pub base_begins : (keys : FileKeys) (file : List ℕ) (n : ℕ) → page_count (file_opened keys file) ≡ Some n → 512 ≤ keys.profile.page_size → 1 ≤ n → IsBase (base_of keys file n)
+pub base_begins : (keys : FileKeys) (file : List ℕ) (n : ℕ) → counted_pages (file_opened keys file) ≡ Some n → 512 ≤ keys.profile.page_size → 1 ≤ n → IsBase (base_of keys file n)
 base_begins keys file n opens large some = record {
   size = omega (arith, large);
   pages = some;
@@ -71,30 +67,8 @@ base_begins keys file n opens large some = record {
   whole = is_some_is n (count_by keys (page_stored keys file 1) (n * keys.profile.page_size)) (whole_counts keys file n opens (omega (arith, large)) some);
 }
 
--- of a file that may not be told
-abbrev pub any_base : Bool → FileKeys → List ℕ → ℕ → Base
-any_base true keys file n = base_of keys file n
-any_base false keys file n = record { size = keys.profile.page_size; pages = n; start = replicate (n * keys.profile.page_size) 0; counts = λ len. true }
-
-pub told_base : (tells : Bool) (keys : FileKeys) (file : List ℕ) (n : ℕ) → IsTrue tells → any_base tells keys file n ≡ base_of keys file n
-told_base tells keys file n told = ap (λ (b : Bool). any_base b keys file n) told
-
-pub is_base : (tells : Bool) (keys : FileKeys) (file : List ℕ) (n : ℕ) → 512 ≤ keys.profile.page_size → 1 ≤ n
-    → (IsTrue tells → page_count (file_opened keys file) ≡ Some n) → IsBase (any_base tells keys file n)
-is_base true keys file n large some opens = base_begins keys file n (opens refl) large some
-is_base false keys file n large some opens = record {
-  size = omega (arith, large);
-  pages = some;
-  within = omega (arith, length-replicate {A = ℕ} (n * keys.profile.page_size) 0);
-  whole = refl;
-}
-
-pub base_sizes : (tells : Bool) (keys : FileKeys) (file : List ℕ) (n : ℕ) → (keys.profile.page_size ≡ (any_base tells keys file n).size) × (n ≡ (any_base tells keys file n).pages)
-base_sizes true keys file n = (refl, refl)
-base_sizes false keys file n = (refl, refl)
-
 -- a settled disk, of a file that opens, is one from which a transaction begins
-pub settled_begun : (keys : FileKeys) (file : List ℕ) (n : ℕ) (images : Files → Type 0) → page_count (file_opened keys file) ≡ Some n → 512 ≤ keys.profile.page_size → 1 ≤ n
+pub settled_begun : (keys : FileKeys) (file : List ℕ) (n : ℕ) (images : Files → Type 0) → counted_pages (file_opened keys file) ≡ Some n → 512 ≤ keys.profile.page_size → 1 ≤ n
     → Each images (IsAlone file) → IsCommitBegun (base_of keys file n) images
 settled_begun keys file n images opens large some alone = record {
   base_is = base_begins keys file n opens large some;

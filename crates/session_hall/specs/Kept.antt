@@ -7,7 +7,7 @@ use Rattle.pager.specs.File.{page_stored}
 use Rattle.pager.specs.Pages.{is_page_number}
 use Rattle.session_hall.specs.Key.{codec_of}
 use Rattle.session_hall.specs.Locks.{is_holding, is_writing}
-use Rattle.session_hall.specs.Machine.{is_sealed, opened_by, page_count}
+use Rattle.session_hall.specs.Machine.{is_sealed, opened_by, counted_pages}
 use Rattle.session_hall.specs.Session.{Session, change_of, session_at}
 use Rattle.session_hall.specs.declared.lock.Lock.TheVariants.{Closed}
 
@@ -24,7 +24,7 @@ pub record IsHallSettled (now : Files) (images : Files → Type 0) : Type 0 wher
 -- What a session knows of the committed file.
 pub record IsSessionSound (file : List ℕ) (session : Session) : Type 0 where
   -- while it shares, Main opens by its key to its count of pages
-  pub opens : is_holding session.lock ≡ true → page_count (opened_by session.access file) ≡ Some session.pages
+  pub opens : is_holding session.lock ≡ true → counted_pages (opened_by session.access file) ≡ Some session.pages
   -- unless it may write, it has changed nothing
   pub unchanged : is_writing session.lock ≡ false → (session.changes ≡ []) × (session.new_access ≡ None)
   -- a page 1 that it changed has the header of the committed one
@@ -35,14 +35,14 @@ pub record IsSessionSound (file : List ℕ) (session : Session) : Type 0 where
       → accepts (codec_of session.access file) n (page_stored (codec_of session.access file) file n) ≡ true
 
 -- each session is sound, and at most one may write
-pub record AreSound (file : List ℕ) (sessions : List Session) : Type 0 where
+pub record AreSessionsSound (file : List ℕ) (sessions : List Session) : Type 0 where
   pub each : EachIndex sessions (λ k. IsSessionSound file (session_at sessions k))
   pub one : (j k : ℕ) → j < length sessions → k < length sessions
       → is_writing (session_at sessions j).lock ≡ true → is_writing (session_at sessions k).lock ≡ true → j ≡ k
 
-pub record IsKept (now : Files) (images : Files → Type 0) (sessions : List Session) : Type 0 where
+pub record IsHallKept (now : Files) (images : Files → Type 0) (sessions : List Session) : Type 0 where
   pub settled : IsHallSettled now images
-  pub sound : AreSound (main_of now) sessions
+  pub sound : AreSessionsSound (main_of now) sessions
 
 -- a session that is closed, and has changed nothing
 pub record IsClosedSession (session : Session) : Type 0 where

@@ -5,5 +5,6 @@ pub mod Machine
 pub mod Kept
 pub mod Faults
 pub mod Commit
+pub mod Draws
 pub mod Writing
 pub mod Run

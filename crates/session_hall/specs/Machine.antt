@@ -13,7 +13,7 @@
 --
 -- A step whose need is not met is answered Misuse, and changes nothing. Only where its need is met, and no other session is in the way, may the
 -- disk or the entropy fail, or memory be wanted. The state is then as it was, but for the file of a commit that failed.
-use Rattle.std.specs.Prelude.{◌≡◌, ◌≢◌, ◌⊎◌, ◌==◌, ◌≤◌, ◌<◌, ◌-◌, ◌&&◌, ◌||◌, not, ℕ, Bool, true, false, List, [], ◌∷◌, length, Option, Some, None, unwrap_or, is_some, IsSome, Result, Ok, Err, nat_le, nat_lt, if◌then◌else◌, slice_set, ⊤}
+use Rattle.std.specs.Prelude.{◌≡◌, ◌≢◌, ◌⊎◌, ◌==◌, ◌≤◌, ◌-◌, ◌&&◌, ◌||◌, not, ℕ, Bool, true, false, List, [], Option, Some, None, unwrap_or, is_some, IsSome, Result, Ok, Err, nat_le, nat_lt, if◌then◌else◌, slice_set, ⊤}
 use Rattle.std.specs.BTreeMap.{insert_entry}
 use Rattle.std.specs.Ordering.{nat_cmp}
 use Rattle.edge_model.specs.Files.{Files, main_of}
@@ -29,27 +29,26 @@ use Rattle.pager.specs.declared.opening.OpenError.TheVariants.{Empty, Short, Key
 use Rattle.session_hall.specs.Key.{Access, codec_of, is_key_for}
 use Rattle.session_hall.specs.Locks.{is_holding, is_idle, is_reserved, is_writing}
 use Rattle.session_hall.specs.Session.{AreClosed, HasNoOther, HasOther, Session, change_of, session_at}
-use Rattle.session_hall.specs.declared.lock.Lock.{Lock}
 use Rattle.session_hall.specs.declared.lock.Lock.TheVariants.{Closed, Unlocked, Shared, Reserved, Pending}
 use Rattle.session_hall.specs.declared.reading.Unseen.{Unseen}
 use Rattle.session_hall.specs.declared.reading.Unseen.TheVariants.{TagRefused as Unaccepted, DiskFault as Unread, OutOfMemory as Unkept}
 use Rattle.session_hall.specs.declared.step.Step.{Step}
 use Rattle.session_hall.specs.declared.step.Step.TheVariants.{Open, Share, Read, Reserve, Change, Rekey, Commit, Release, Stop}
 use Rattle.session_hall.specs.declared.step.Answer.{Answer}
-use Rattle.session_hall.specs.declared.step.Answer.TheVariants.{Done, Page, Busy, Refused, TagRefused, Misuse, Down, DiskFault, EntropyFault, OutOfMemory}
+use Rattle.session_hall.specs.declared.step.Answer.TheVariants.{Done, Page, Busy, Refused, TagRefused, Misuse, DiskFault, EntropyFault, OutOfMemory}
 
 -- Main, the layout of pages that the hall was opened with, its sessions, and the page that was read last.
-pub record State : Type 0 where
+pub record HallState : Type 0 where
   pub file : List ℕ
   pub layout : Profile
   pub sessions : List Session
   pub page : List ℕ
 
-abbrev pub state : Files → Profile → List Session → List ℕ → State
+abbrev pub state : Files → Profile → List Session → List ℕ → HallState
 state files layout sessions page = record { file = main_of files; layout = layout; sessions = sessions; page = page }
 
 -- session i is now this one
-abbrev pub with_session : State → ℕ → Session → State
+abbrev pub with_session : HallState → ℕ → Session → HallState
 with_session s i session = record s { sessions = slice_set s.sessions i session }
 
 -- a profile with pages of the hall's layout
@@ -62,14 +61,14 @@ may_be_under layout access = is_laid layout access.profile && is_key_for access.
 
 -- ---- open
 
-abbrev pub may_open : State → ℕ → Access → Bool
+abbrev pub may_open : HallState → ℕ → Access → Bool
 may_open s i access = is_idle (session_at s.sessions i).lock && may_be_under s.layout access
 
 -- a session that was opened with this, and holds nothing
 abbrev pub unlocked : Access → Session
 unlocked access = record { lock = Unlocked; access = access; pages = 0; changes = []; new_access = None }
 
-abbrev pub Opens : State → ℕ → Access → Answer → State → Type 0
+abbrev pub Opens : HallState → ℕ → Access → Answer → HallState → Type 0
 Opens old i access Done new = (may_open old i access ≡ true) × (new ≡ with_session old i (unlocked access))
 Opens old i access Misuse new = (may_open old i access ≡ false) × (new ≡ old)
 Opens old i access answer new = ⊥
@@ -81,31 +80,31 @@ abbrev pub opened_by : Access → List ℕ → Result Opened OpenError
 opened_by access file = file_opened (codec_of access file) file
 
 -- the answer where it does not open; the last two are never due to a file
-abbrev pub open_answer : OpenError → Answer
-open_answer Empty = Refused Empty
-open_answer (Short len) = Refused (Short len)
-open_answer KeyRefused = Refused KeyRefused
-open_answer (HeaderFault at found) = Refused (HeaderFault at found)
-open_answer WalMode = Refused WalMode
-open_answer AutoVacuum = Refused AutoVacuum
-open_answer (Ragged len) = Refused (Ragged len)
-open_answer (TooLarge pages) = Refused (TooLarge pages)
-open_answer DiskFails = DiskFault
-open_answer MemoryEnds = OutOfMemory
+abbrev pub unopened_answer : OpenError → Answer
+unopened_answer Empty = Refused Empty
+unopened_answer (Short len) = Refused (Short len)
+unopened_answer KeyRefused = Refused KeyRefused
+unopened_answer (HeaderFault at found) = Refused (HeaderFault at found)
+unopened_answer WalMode = Refused WalMode
+unopened_answer AutoVacuum = Refused AutoVacuum
+unopened_answer (Ragged len) = Refused (Ragged len)
+unopened_answer (TooLarge pages) = Refused (TooLarge pages)
+unopened_answer DiskFails = DiskFault
+unopened_answer MemoryEnds = OutOfMemory
 
 -- how many pages it has that way, none where it does not open
-abbrev pub page_count : Result Opened OpenError → Option ℕ
-page_count (Ok opened) = Some opened.count
-page_count (Err error) = None
+abbrev pub counted_pages : Result Opened OpenError → Option ℕ
+counted_pages (Ok opened) = Some opened.count
+counted_pages (Err error) = None
 
 abbrev pub sharing : Session → ℕ → Session
 sharing session pages = record session { lock = Shared; pages = pages }
 
-abbrev pub Shares : State → ℕ → Answer → State → Type 0
+abbrev pub Shares : HallState → ℕ → Answer → HallState → Type 0
 Shares old i Done new =
     let session = session_at old.sessions i in
     (session.lock ≡ Unlocked) × HasNoOther Pending i old.sessions
-    × ((pages : ℕ) × (page_count (opened_by session.access old.file) ≡ Some pages) × (new ≡ with_session old i (sharing session pages)))
+    × ((pages : ℕ) × (counted_pages (opened_by session.access old.file) ≡ Some pages) × (new ≡ with_session old i (sharing session pages)))
 Shares old i Busy new = ((session_at old.sessions i).lock ≡ Unlocked) × HasOther Pending i old.sessions × (new ≡ old)
 Shares old i (Refused error) new =
     let session = session_at old.sessions i in
@@ -135,10 +134,10 @@ unseen_answer Unaccepted n = TagRefused n
 unseen_answer Unread n = DiskFault
 unseen_answer Unkept n = OutOfMemory
 
-abbrev pub may_read : State → ℕ → ℕ → Bool
+abbrev pub may_read : HallState → ℕ → ℕ → Bool
 may_read s i n = let session = session_at s.sessions i in is_holding session.lock && is_page_number session.pages n
 
-abbrev pub Reads : State → ℕ → ℕ → Answer → State → Type 0
+abbrev pub Reads : HallState → ℕ → ℕ → Answer → HallState → Type 0
 Reads old i n Page new =
     (may_read old i n ≡ true) × (seen_page (session_at old.sessions i) old.file n ≡ Some new.page) × (new ≡ record old { page = new.page })
 Reads old i n (TagRefused page) new =
@@ -150,7 +149,7 @@ Reads old i n answer new = ⊥
 
 -- ---- reserve
 
-abbrev pub Reserves : State → ℕ → Answer → State → Type 0
+abbrev pub Reserves : HallState → ℕ → Answer → HallState → Type 0
 Reserves old i Done new =
     let session = session_at old.sessions i in
     (session.lock ≡ Shared) × HasNoOther Reserved i old.sessions × HasNoOther Pending i old.sessions
@@ -166,7 +165,7 @@ Reserves old i answer new = ⊥
 abbrev pub is_content : Profile → ℕ → ℕ → Bool
 is_content profile n at = nat_lt at (usable profile) && (nat_le 100 at || not (n == 1))
 
-abbrev pub may_change : State → ℕ → ℕ → ℕ → Bool
+abbrev pub may_change : HallState → ℕ → ℕ → ℕ → Bool
 may_change s i n at =
     let session = session_at s.sessions i in is_reserved session.lock && is_page_number session.pages n && is_content session.access.profile n at
 
@@ -174,7 +173,7 @@ may_change s i n at =
 abbrev pub changing : Session → ℕ → List ℕ → Session
 changing session n page = record session { changes = insert_entry nat_cmp session.changes n page }
 
-abbrev pub ChangesByte : State → ℕ → ℕ → ℕ → ℕ → Answer → State → Type 0
+abbrev pub ChangesByte : HallState → ℕ → ℕ → ℕ → ℕ → Answer → HallState → Type 0
 ChangesByte old i n at byte Done new =
     let session = session_at old.sessions i in
     (may_change old i n at ≡ true)
@@ -188,7 +187,7 @@ ChangesByte old i n at byte answer new = ⊥
 
 -- ---- rekey
 
-abbrev pub may_rekey : State → ℕ → Access → Bool
+abbrev pub may_rekey : HallState → ℕ → Access → Bool
 may_rekey s i access = is_reserved (session_at s.sessions i).lock && may_be_under s.layout access
 
 -- the session sees each page up to a number
@@ -201,7 +200,7 @@ pub record IsFirstUnseen (session : Session) (file : List ℕ) (n : ℕ) : Type 
   pub earlier : SeesUpTo session file (n - 1)
   pub unseen : seen_page session file n ≡ None
 
-abbrev pub Rekeys : State → ℕ → Access → Answer → State → Type 0
+abbrev pub Rekeys : HallState → ℕ → Access → Answer → HallState → Type 0
 Rekeys old i access Done new =
     let session = session_at old.sessions i in
     (may_rekey old i access ≡ true) × SeesUpTo session old.file session.pages
@@ -237,10 +236,10 @@ pub record HasSessionChanges (session : Session) (before after : List ℕ) : Typ
 abbrev pub committed : Session → Session
 committed session = record session { lock = Unlocked; access = write_access session; changes = []; new_access = None }
 
-abbrev pub may_commit : State → ℕ → Bool
+abbrev pub may_commit : HallState → ℕ → Bool
 may_commit s i = is_writing (session_at s.sessions i).lock
 
-abbrev pub Commits : State → ℕ → Answer → State → Type 0
+abbrev pub Commits : HallState → ℕ → Answer → HallState → Type 0
 Commits old i Done new =
     let session = session_at old.sessions i in
     (may_commit old i ≡ true) × HasNoOther Shared i old.sessions × HasSessionChanges session old.file new.file
@@ -261,20 +260,20 @@ Commits old i answer new = ⊥
 abbrev pub released : Session → Session
 released session = record session { lock = Unlocked; changes = []; new_access = None }
 
-abbrev pub Releases : State → ℕ → Answer → State → Type 0
+abbrev pub Releases : HallState → ℕ → Answer → HallState → Type 0
 Releases old i Done new =
     ((session_at old.sessions i).lock ≢ Closed) × (new ≡ with_session old i (released (session_at old.sessions i)))
 Releases old i Misuse new = ((session_at old.sessions i).lock ≡ Closed) × (new ≡ old)
 Releases old i answer new = ⊥
 
-abbrev pub Stops : State → Answer → State → Type 0
+abbrev pub Stops : HallState → Answer → HallState → Type 0
 Stops old Done new = AreClosed old.sessions new.sessions × (new ≡ record old { sessions = new.sessions })
 Stops old answer new = ⊥
 
 -- ---- a step
 
 -- from one state a step of session i may give this answer, and go on to the other state
-abbrev pub Steps : State → ℕ → Step → Answer → State → Type 0
+abbrev pub Steps : HallState → ℕ → Step → Answer → HallState → Type 0
 Steps old i (Open secret profile) answer new = Opens old i (record { profile = profile; secret = secret }) answer new
 Steps old i Share answer new = Shares old i answer new
 Steps old i (Read page) answer new = Reads old i page answer new

@@ -1,13 +1,12 @@
 // The changes of a session are committed.
 ghost use Rattle.std.specs.Prelude.{◌≡◌, ◌≢◌, ◌≤◌, ◌<◌, length, true, false, Ok, Err, Some, None, IfOk, IfErr, OnOk, IsTrue};
-ghost use Rattle.atomic_commit.specs.Commit.{IsCommitted, LeavesChanged};
-ghost use Rattle.atomic_commit.specs.Database.{HoldsEither, HoldsOld, stored_pages};
 ghost use Rattle.edge_model.specs.Causes.{HasCause, Rose};
 ghost use Rattle.edge_model.specs.Files.{main_of};
-ghost use Rattle.edge_model.specs.Images.{Each, LeavesOnly};
+ghost use Rattle.edge_model.specs.Images.{LeavesOnly};
 ghost use Rattle.edge_model.specs.OnlyRead.{OnlyRead};
 ghost use Rattle.cipher_profile.specs.Profile.{IsListed, is_plain};
-ghost use Rattle.session_hall.specs.Commit.{Commitment, CommitsTo, HoldsSessionPages, IsUp, StopsCommit, base_by};
+ghost use Rattle.session_hall.specs.Commit.{Commitment, CommitsTo, HoldsSessionPages, IsUp, StopsCommit};
+ghost use Rattle.session_hall.specs.Draws.{HasDrawn};
 ghost use Rattle.session_hall.specs.Kept.{IsHallSettled, IsSessionSound};
 ghost use Rattle.session_hall.specs.Key.{codec_of};
 ghost use Rattle.session_hall.specs.Locks.{is_holding};
@@ -19,7 +18,7 @@ use crate::session::Session;
 use crate::step::Answer;
 use crate::writing::write_changes;
 use cipher_profile::Profile;
-use edge_model::{Disk, Entropy, Failed, Role};
+use edge_model::{Disk, Entropy, Failed};
 use page_codec::Codec;
 use pager::{OpenedFile, read_main};
 use std::alloc::Global;
@@ -45,6 +44,9 @@ pub fn commit_session<D: Disk, E: Entropy>(
     ensures any_moment { IsTrue D.tells → Commitment D.moment D.since session.old (main_of (D.reads disk.old)) disk.old disk.new }
     ensures only_old { result ≡ Answer.EntropyFault → IsTrue D.tells → LeavesOnly D.moment D.since disk.old disk.new
         (HoldsSessionPages session.old (main_of (D.reads disk.old)) (main_of (D.reads disk.old))) }
+    ensures drawn { is_plain layout.now ≡ false → result ≡ Answer.Done → IsTrue D.tells → IsTrue E.tells
+        → HasDrawn session.old (main_of (D.reads disk.new)) (E.drawn entropy.old) (E.drawn entropy.new) }
+    ensures no_memory { result ≡ Answer.OutOfMemory → IsTrue D.tells → entropy.new ≡ entropy.old }
     ensures undrawn { is_plain layout.now ≡ true → (entropy.new ≡ entropy.old) × (result ≢ Answer.EntropyFault) }
     ensures disk_fault { result ≡ Answer.DiskFault → Rose (D.faults disk.old) (D.faults disk.new) }
     ensures entropy_fault { result ≡ Answer.EntropyFault → Rose (E.faults entropy.old) (E.faults entropy.new) }
@@ -69,6 +71,9 @@ fn commit_drawing<D: Disk, E: Entropy>(
     ensures told { IsTrue D.tells → CommitsTo session.old (main_of (D.reads disk.old)) result (main_of (D.reads disk.new)) session.new }
     ensures awake { result ≢ Answer.Down }
     ensures settled { IsTrue D.tells → IsUp result → IsHallSettled (D.reads disk.new) (D.images disk.new) }
+    ensures drawn { result ≡ Answer.Done → IsTrue D.tells → IsTrue E.tells
+        → HasDrawn session.old (main_of (D.reads disk.new)) (E.drawn entropy.old) (E.drawn entropy.new) }
+    ensures no_memory { result ≡ Answer.OutOfMemory → IsTrue D.tells → entropy.new ≡ entropy.old }
     ensures any_moment { IsTrue D.tells → Commitment D.moment D.since session.old (main_of (D.reads disk.old)) disk.old disk.new }
     ensures only_old { result ≡ Answer.EntropyFault → IsTrue D.tells → LeavesOnly D.moment D.since disk.old disk.new
         (HoldsSessionPages session.old (main_of (D.reads disk.old)) (main_of (D.reads disk.old))) }
@@ -76,7 +81,7 @@ fn commit_drawing<D: Disk, E: Entropy>(
     ensures entropy_fault { result ≡ Answer.EntropyFault → Rose (E.faults entropy.old) (E.faults entropy.new) }
     ensures later { (D.faults disk.old ≤ D.faults disk.new) × (E.faults entropy.old ≤ E.faults entropy.new) }
 {
-    match write_settled(alloc, disk, entropy, session) {
+    match write_pages(alloc, disk, entropy, session) {
         Ok(()) => {
             session.commit();
             Answer::Done
@@ -85,39 +90,7 @@ fn commit_drawing<D: Disk, E: Entropy>(
     }
 }
 
-// The pages are committed, and each image has Main as it reads.
-fn write_settled<D: Disk, E: Entropy>(
-    alloc: Global,
-    disk: &mut D,
-    entropy: &mut E,
-    session: &mut Session,
-) -> Result<(), Answer>
-    requires settled { IsTrue D.tells → IsHallSettled (D.reads disk.old) (D.images disk.old) }
-    requires sound { IsTrue D.tells → IsSessionSound (main_of (D.reads disk.old)) session.old }
-    requires holds { is_holding session.old.lock ≡ true }
-    ensures committed { OnOk result (IsTrue D.tells → HasSessionChanges session.old (main_of (D.reads disk.old)) (main_of (D.reads disk.new))) }
-    ensures settled { OnOk result (IsTrue D.tells → IsHallSettled (D.reads disk.new) (D.images disk.new)) }
-    ensures stopped { IfErr result (λ answer. IsTrue D.tells → StopsCommit D.reads D.images D.moment D.since disk.old disk.new answer) }
-    ensures awake { IfErr result (λ answer. (answer ≢ Answer.Down) × (answer ≢ Answer.Done)) }
-    ensures any_moment { IsTrue D.tells → Commitment D.moment D.since session.old (main_of (D.reads disk.old)) disk.old disk.new }
-    ensures only_old { result ≡ Err Answer.EntropyFault → IsTrue D.tells → LeavesOnly D.moment D.since disk.old disk.new
-        (HoldsSessionPages session.old (main_of (D.reads disk.old)) (main_of (D.reads disk.old))) }
-    ensures same { session.new ≡ session.old }
-    ensures disk_fault { result ≡ Err Answer.DiskFault → Rose (D.faults disk.old) (D.faults disk.new) }
-    ensures entropy_fault { result ≡ Err Answer.EntropyFault → Rose (E.faults entropy.old) (E.faults entropy.new) }
-    ensures later { (D.faults disk.old ≤ D.faults disk.new) × (E.faults entropy.old ≤ E.faults entropy.new) }
-{
-    match write_pages(alloc, disk, entropy, session) {
-        Ok(()) => {}
-        Err(answer) => return Err(answer),
-    }
-    match settle(disk) {
-        Ok(()) => Ok(()),
-        Err(_) => Err(Answer::DiskFault),
-    }
-}
-
-// The pages are written in one transaction.
+// The pages are written in one transaction, and each image has Main as it reads.
 fn write_pages<D: Disk, E: Entropy>(
     alloc: Global,
     disk: &mut D,
@@ -128,9 +101,10 @@ fn write_pages<D: Disk, E: Entropy>(
     requires sound { IsTrue D.tells → IsSessionSound (main_of (D.reads disk.old)) session.old }
     requires holds { is_holding session.old.lock ≡ true }
     ensures committed { OnOk result (IsTrue D.tells → HasSessionChanges session.old (main_of (D.reads disk.old)) (main_of (D.reads disk.new))) }
-    ensures new { OnOk result (IsTrue D.tells → Each (D.images disk.new) (IsCommitted (base_by session.old (main_of (D.reads disk.old))) (main_of (D.reads disk.new)))) }
-    ensures one_new { OnOk result (IsTrue D.tells → LeavesOnly D.moment D.since disk.old disk.new
-        (HoldsEither (base_by session.old (main_of (D.reads disk.old))) (stored_pages session.old.access.profile.page_size session.old.pages (main_of (D.reads disk.new))))) }
+    ensures drawn { OnOk result (IsTrue D.tells → IsTrue E.tells
+        → HasDrawn session.old (main_of (D.reads disk.new)) (E.drawn entropy.old) (E.drawn entropy.new)) }
+    ensures no_memory { result ≡ Err Answer.OutOfMemory → IsTrue D.tells → entropy.new ≡ entropy.old }
+    ensures settled { OnOk result (IsTrue D.tells → IsHallSettled (D.reads disk.new) (D.images disk.new)) }
     ensures stopped { IfErr result (λ answer. IsTrue D.tells → StopsCommit D.reads D.images D.moment D.since disk.old disk.new answer) }
     ensures awake { IfErr result (λ answer. (answer ≢ Answer.Down) × (answer ≢ Answer.Done)) }
     ensures any_moment { IsTrue D.tells → Commitment D.moment D.since session.old (main_of (D.reads disk.old)) disk.old disk.new }
@@ -174,18 +148,4 @@ fn codecs<D: Disk>(disk: &mut D, session: &mut Session) -> Result<(Codec, Codec)
     let _read_profile = read.profile();
     let _write_profile = write.profile();
     Ok((read, write))
-}
-
-// Each image has Main as it reads, and every name. The end of a transaction does so, but does not say it.
-fn settle<D: Disk>(disk: &mut D) -> Result<(), Failed>
-    ensures same { IsTrue D.tells → D.reads disk.new ≡ D.reads disk.old }
-    ensures no_more { IsTrue D.tells → Each (D.images disk.new) (D.images disk.old) }
-    ensures settled { OnOk result (IsTrue D.tells → Each (D.images disk.old) (λ c. c.journal ≡ (D.reads disk.old).journal) → (D.reads disk.old).journal ≡ None
-        → IsHallSettled (D.reads disk.new) (D.images disk.new)) }
-    ensures any_moment { IsTrue D.tells → LeavesOnly D.moment D.since disk.old disk.new (D.images disk.old) }
-    ensures cause { HasCause (D.faults disk.old) (D.faults disk.new) result }
-{
-    disk.sync(Role::Main)?;
-    disk.sync_folder()?;
-    Ok(())
 }

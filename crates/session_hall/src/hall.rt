@@ -7,9 +7,10 @@ ghost use Rattle.edge_model.specs.Files.{main_of};
 ghost use Rattle.pager.specs.Opening.{IsRefusedBy};
 ghost use Rattle.pager.specs.Reads.{DiskRead, Untouched};
 ghost use Rattle.session_hall.specs.Commit.{CommitLeaves, HoldsSessionPages, IsUp, StepLeaves};
-ghost use Rattle.session_hall.specs.Faults.{is_fault};
-ghost use Rattle.session_hall.specs.Kept.{IsKept, IsHallSettled};
-ghost use Rattle.session_hall.specs.Machine.{ChangesByte, Commits, IsListedStep, Opens, Reads, Rekeys, Releases, Reserves, Shares, Steps, Stops, is_content, may_be_under, may_change, may_commit, may_open, may_read, may_rekey, open_answer, state, unseen_answer};
+ghost use Rattle.session_hall.specs.Draws.{CommitDraws, StepDraws};
+ghost use Rattle.session_hall.specs.Faults.{is_fault_answer};
+ghost use Rattle.session_hall.specs.Kept.{IsHallKept, IsHallSettled};
+ghost use Rattle.session_hall.specs.Machine.{ChangesByte, Commits, IsListedStep, Opens, Reads, Rekeys, Releases, Reserves, Shares, Steps, Stops, is_content, may_be_under, may_change, may_commit, may_open, may_read, may_rekey, unopened_answer, state, unseen_answer};
 ghost use Rattle.session_hall.specs.Session.{HasNoOther, HasOther, session_at};
 
 use crate::commit::commit_session;
@@ -64,7 +65,7 @@ fn is_content(profile: &Profile, n: u32, at: u32) -> bool
 
 /// The answer where the file does not open.
 pub(crate) fn open_answer(error: OpenError) -> Answer
-    ensures value { result ≡ open_answer error }
+    ensures value { result ≡ unopened_answer error }
     ensures disk { result ≡ Answer.DiskFault → error ≡ OpenError.DiskFault }
     ensures calls { (result ≢ Answer.EntropyFault) × (result ≢ Answer.Down) }
 {
@@ -113,18 +114,21 @@ impl<'d, D: Disk, E: Entropy> Hall<'d, D, E> {
     pub fn step(&mut self, session: u8, step: Step) -> Answer
         requires number { session < 16 }
         requires listed { IsListedStep step }
-        requires kept { IsTrue D.tells → self.old.is_down ≡ false → IsKept (D.reads self.old.disk.now) (D.images self.old.disk.now) self.old.sessions.items }
+        requires kept { IsTrue D.tells → self.old.is_down ≡ false → IsHallKept (D.reads self.old.disk.now) (D.images self.old.disk.now) self.old.sessions.items }
         // a run of the machine, until a step fails
         ensures told { IsTrue D.tells → self.old.is_down ≡ false → Steps (state (D.reads self.old.disk.now) self.old.layout self.old.sessions.items self.old.page) session step result
             (state (D.reads self.new.disk.now) self.new.layout self.new.sessions.items self.new.page) }
         ensures down { (result ≡ Answer.Down) ↔ (self.old.is_down ≡ true) }
-        ensures falls { self.new.is_down ≡ (self.old.is_down || is_fault result) }
-        ensures kept { IsTrue D.tells → self.new.is_down ≡ false → IsKept (D.reads self.new.disk.now) (D.images self.new.disk.now) self.new.sessions.items }
+        ensures falls { self.new.is_down ≡ (self.old.is_down || is_fault_answer result) }
+        ensures kept { IsTrue D.tells → self.new.is_down ≡ false → IsHallKept (D.reads self.new.disk.now) (D.images self.new.disk.now) self.new.sessions.items }
         // what a stop leaves at each moment
         ensures any_moment { IsTrue D.tells → self.old.is_down ≡ false
             → StepLeaves D.reads D.moment D.since step (session_at self.old.sessions.items session) self.old.disk.now self.new.disk.now }
         ensures only_old { result ≡ Answer.EntropyFault → IsTrue D.tells → self.old.is_down ≡ false → LeavesOnly D.moment D.since self.old.disk.now self.new.disk.now
             (HoldsSessionPages (session_at self.old.sessions.items session) (main_of (D.reads self.old.disk.now)) (main_of (D.reads self.old.disk.now))) }
+        // a commit alone draws, and each page that it seals anew has bytes of its own of those
+        ensures drawn { IsTrue D.tells → IsTrue E.tells → self.old.is_down ≡ false → StepDraws self.old.layout step result (session_at self.old.sessions.items session)
+            (main_of (D.reads self.new.disk.now)) (E.drawn self.old.entropy.now) (E.drawn self.new.entropy.now) }
         // a hall of plain files draws nothing
         ensures undrawn { is_plain self.old.layout ≡ true → (self.new.entropy.now ≡ self.old.entropy.now) × (result ≢ Answer.EntropyFault) }
         ensures disk_fault { result ≡ Answer.DiskFault → Rose (D.faults self.old.disk.now) (D.faults self.new.disk.now) }
@@ -147,7 +151,7 @@ impl<'d, D: Disk, E: Entropy> Hall<'d, D, E> {
     fn take(&mut self, i: usize, step: Step) -> Answer
         requires number { i < 16 }
         requires listed { IsListedStep step }
-        requires kept { IsTrue D.tells → IsKept (D.reads self.old.disk.now) (D.images self.old.disk.now) self.old.sessions.items }
+        requires kept { IsTrue D.tells → IsHallKept (D.reads self.old.disk.now) (D.images self.old.disk.now) self.old.sessions.items }
         ensures told { IsTrue D.tells → Steps (state (D.reads self.old.disk.now) self.old.layout self.old.sessions.items self.old.page) i step result
             (state (D.reads self.new.disk.now) self.new.layout self.new.sessions.items self.new.page) }
         ensures up_before { result ≢ Answer.Down }
@@ -156,6 +160,8 @@ impl<'d, D: Disk, E: Entropy> Hall<'d, D, E> {
             → StepLeaves D.reads D.moment D.since step (session_at self.old.sessions.items i) self.old.disk.now self.new.disk.now }
         ensures only_old { result ≡ Answer.EntropyFault → IsTrue D.tells → LeavesOnly D.moment D.since self.old.disk.now self.new.disk.now
             (HoldsSessionPages (session_at self.old.sessions.items i) (main_of (D.reads self.old.disk.now)) (main_of (D.reads self.old.disk.now))) }
+        ensures drawn { IsTrue D.tells → IsTrue E.tells → StepDraws self.old.layout step result (session_at self.old.sessions.items i)
+            (main_of (D.reads self.new.disk.now)) (E.drawn self.old.entropy.now) (E.drawn self.new.entropy.now) }
         ensures undrawn { is_plain self.old.layout ≡ true → (self.new.entropy.now ≡ self.old.entropy.now) × (result ≢ Answer.EntropyFault) }
         ensures disk_fault { result ≡ Answer.DiskFault → Rose (D.faults self.old.disk.now) (D.faults self.new.disk.now) }
         ensures entropy_fault { result ≡ Answer.EntropyFault → Rose (E.faults self.old.entropy.now) (E.faults self.new.entropy.now) }
@@ -229,7 +235,7 @@ impl<'d, D: Disk, E: Entropy> Hall<'d, D, E> {
     // It may read from now on.
     fn share(&mut self, i: usize) -> Answer
         requires number { i < 16 }
-        requires kept { IsTrue D.tells → IsKept (D.reads self.old.disk.now) (D.images self.old.disk.now) self.old.sessions.items }
+        requires kept { IsTrue D.tells → IsHallKept (D.reads self.old.disk.now) (D.images self.old.disk.now) self.old.sessions.items }
         ensures told { IsTrue D.tells → Shares (state (D.reads self.old.disk.now) self.old.layout self.old.sessions.items self.old.page) i result
             (state (D.reads self.new.disk.now) self.new.layout self.new.sessions.items self.new.page) }
         ensures fault { result ≡ Answer.DiskFault → Rose (D.faults self.old.disk.now) (D.faults self.new.disk.now) }
@@ -257,7 +263,7 @@ impl<'d, D: Disk, E: Entropy> Hall<'d, D, E> {
     // It reads page n.
     fn read(&mut self, i: usize, n: u32) -> Answer
         requires number { i < 16 }
-        requires kept { IsTrue D.tells → IsKept (D.reads self.old.disk.now) (D.images self.old.disk.now) self.old.sessions.items }
+        requires kept { IsTrue D.tells → IsHallKept (D.reads self.old.disk.now) (D.images self.old.disk.now) self.old.sessions.items }
         ensures told { IsTrue D.tells → Reads (state (D.reads self.old.disk.now) self.old.layout self.old.sessions.items self.old.page) i n result
             (state (D.reads self.new.disk.now) self.new.layout self.new.sessions.items self.new.page) }
         ensures fault { result ≡ Answer.DiskFault → Rose (D.faults self.old.disk.now) (D.faults self.new.disk.now) }
@@ -329,7 +335,7 @@ impl<'d, D: Disk, E: Entropy> Hall<'d, D, E> {
     fn rekey(&mut self, i: usize, secret: Secret, profile: Profile) -> Answer
         requires number { i < 16 }
         requires listed { IsListed profile }
-        requires kept { IsTrue D.tells → IsKept (D.reads self.old.disk.now) (D.images self.old.disk.now) self.old.sessions.items }
+        requires kept { IsTrue D.tells → IsHallKept (D.reads self.old.disk.now) (D.images self.old.disk.now) self.old.sessions.items }
         ensures told { IsTrue D.tells → Rekeys (state (D.reads self.old.disk.now) self.old.layout self.old.sessions.items self.old.page) i (record { profile = profile; secret = secret }) result
             (state (D.reads self.new.disk.now) self.new.layout self.new.sessions.items self.new.page) }
         ensures fault { result ≡ Answer.DiskFault → Rose (D.faults self.old.disk.now) (D.faults self.new.disk.now) }
@@ -362,7 +368,7 @@ impl<'d, D: Disk, E: Entropy> Hall<'d, D, E> {
     // Its changes are committed.
     fn commit(&mut self, i: usize) -> Answer
         requires number { i < 16 }
-        requires kept { IsTrue D.tells → IsKept (D.reads self.old.disk.now) (D.images self.old.disk.now) self.old.sessions.items }
+        requires kept { IsTrue D.tells → IsHallKept (D.reads self.old.disk.now) (D.images self.old.disk.now) self.old.sessions.items }
         ensures told { IsTrue D.tells → Commits (state (D.reads self.old.disk.now) self.old.layout self.old.sessions.items self.old.page) i result
             (state (D.reads self.new.disk.now) self.new.layout self.new.sessions.items self.new.page) }
         ensures settled { IsTrue D.tells → IsUp result → IsHallSettled (D.reads self.new.disk.now) (D.images self.new.disk.now) }
@@ -370,6 +376,8 @@ impl<'d, D: Disk, E: Entropy> Hall<'d, D, E> {
         ensures any_moment { IsTrue D.tells → CommitLeaves D.reads D.moment D.since (session_at self.old.sessions.items i) self.old.disk.now self.new.disk.now }
         ensures only_old { result ≡ Answer.EntropyFault → IsTrue D.tells → LeavesOnly D.moment D.since self.old.disk.now self.new.disk.now
             (HoldsSessionPages (session_at self.old.sessions.items i) (main_of (D.reads self.old.disk.now)) (main_of (D.reads self.old.disk.now))) }
+        ensures drawn { IsTrue D.tells → IsTrue E.tells → CommitDraws self.old.layout result (session_at self.old.sessions.items i)
+            (main_of (D.reads self.new.disk.now)) (E.drawn self.old.entropy.now) (E.drawn self.new.entropy.now) }
         ensures undrawn { is_plain self.old.layout ≡ true → (self.new.entropy.now ≡ self.old.entropy.now) × (result ≢ Answer.EntropyFault) }
         ensures disk_fault { result ≡ Answer.DiskFault → Rose (D.faults self.old.disk.now) (D.faults self.new.disk.now) }
         ensures entropy_fault { result ≡ Answer.EntropyFault → Rose (E.faults self.old.entropy.now) (E.faults self.new.entropy.now) }
@@ -409,7 +417,7 @@ impl<'d, D: Disk, E: Entropy> Hall<'d, D, E> {
     // One byte of page n becomes this one.
     fn change(&mut self, i: usize, n: u32, at: u32, byte: u8) -> Answer
         requires number { i < 16 }
-        requires kept { IsTrue D.tells → IsKept (D.reads self.old.disk.now) (D.images self.old.disk.now) self.old.sessions.items }
+        requires kept { IsTrue D.tells → IsHallKept (D.reads self.old.disk.now) (D.images self.old.disk.now) self.old.sessions.items }
         ensures told { IsTrue D.tells → ChangesByte (state (D.reads self.old.disk.now) self.old.layout self.old.sessions.items self.old.page) i n at byte result
             (state (D.reads self.new.disk.now) self.new.layout self.new.sessions.items self.new.page) }
         ensures fault { result ≡ Answer.DiskFault → Rose (D.faults self.old.disk.now) (D.faults self.new.disk.now) }

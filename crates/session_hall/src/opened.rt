@@ -2,7 +2,7 @@
 ghost use Rattle.std.specs.Prelude.{[], ◌≡◌, ◌≢◌, ◌≤◌, length, false, IfOk, IfErr, IsTrue};
 ghost use Rattle.edge_model.specs.Causes.{Rose};
 ghost use Rattle.cipher_profile.specs.Profile.{IsListed};
-ghost use Rattle.session_hall.specs.Kept.{AreAllClosed, IsHallSettled, IsKept};
+ghost use Rattle.session_hall.specs.Kept.{AreAllClosed, IsHallSettled, IsHallKept};
 
 use crate::hall::{Hall, SESSIONS};
 use crate::key::Key;
@@ -42,7 +42,7 @@ impl Seats {
 }
 
 impl<'d, D: Disk, E: Entropy> Hall<'d, D, E> {
-    /// Recovers Main, and opens a hall on it. All sessions are closed. A caller that must know its disk after an `Err` takes the steps of
+    /// Recovers Main, and opens a hall on it. All sixteen sessions are closed. A caller that must know its disk after an `Err` takes the steps of
     /// this call itself: `Seats::new`, `recover` and `Hall::on`.
     pub fn open(
         alloc: Global,
@@ -51,7 +51,8 @@ impl<'d, D: Disk, E: Entropy> Hall<'d, D, E> {
         profile: &Profile,
     ) -> Result<Hall<'d, D, E>, RecoverError>
         requires { IsListed profile.now }
-        ensures kept { IfOk result (λ hall. IsTrue D.tells → IsKept (D.reads hall.disk.now) (D.images hall.disk.now) hall.sessions.items) }
+        ensures kept { IfOk result (λ hall. IsTrue D.tells → IsHallKept (D.reads hall.disk.now) (D.images hall.disk.now) hall.sessions.items) }
+        ensures many { IfOk result (λ hall. length hall.sessions.items ≡ 16) }
         ensures all_closed { IfOk result (λ hall. AreAllClosed hall.sessions.items) }
         ensures no_page { IfOk result (λ hall. hall.page ≡ []) }
         ensures layout { IfOk result (λ hall. hall.layout ≡ profile.now) }
@@ -70,7 +71,8 @@ impl<'d, D: Disk, E: Entropy> Hall<'d, D, E> {
     /// A hall on a disk that was recovered. No call of it is made.
     pub fn on(seats: Seats, disk: &'d mut D, entropy: &'d mut E) -> Hall<'d, D, E>
         requires { IsTrue D.tells → IsHallSettled (D.reads disk.old) (D.images disk.old) }
-        ensures kept { IsTrue D.tells → IsKept (D.reads result.disk.now) (D.images result.disk.now) result.sessions.items }
+        ensures kept { IsTrue D.tells → IsHallKept (D.reads result.disk.now) (D.images result.disk.now) result.sessions.items }
+        ensures many { length result.sessions.items ≡ 16 }
         ensures all_closed { AreAllClosed result.sessions.items }
         ensures no_page { result.page ≡ [] }
         ensures layout { result.layout ≡ seats.layout }

@@ -6,7 +6,7 @@ ghost use Rattle.edge_model.specs.OnlyRead.{OnlyRead};
 ghost use Rattle.edge_model.specs.Files.{main_of};
 ghost use Rattle.pager.specs.Opening.{HasNoJournal, IsRefusedBy};
 ghost use Rattle.session_hall.specs.Key.{codec_of};
-ghost use Rattle.session_hall.specs.Machine.{opened_by, page_count};
+ghost use Rattle.session_hall.specs.Machine.{opened_by, counted_pages};
 
 use crate::session::Session;
 use edge_model::{Disk, Failed};
@@ -37,7 +37,7 @@ pub fn count_pages<D: Disk>(
     session: &mut Session,
 ) -> Result<u32, OpenError>
     requires recovered { IsTrue D.tells → 0 < length (main_of (D.reads disk.old)) → Each (D.images disk.old) HasNoJournal }
-    ensures opens { IfOk result (λ pages. IsTrue D.tells → page_count (opened_by session.old.access (main_of (D.reads disk.old))) ≡ Some pages) }
+    ensures opens { IfOk result (λ pages. IsTrue D.tells → counted_pages (opened_by session.old.access (main_of (D.reads disk.old))) ≡ Some pages) }
     ensures refused { IfErr result (λ error. IsTrue D.tells → IsRefusedBy (opened_by session.old.access (main_of (D.reads disk.old))) error) }
     ensures fault { IfErr result (λ error. error ≡ OpenError.DiskFault → Rose (D.faults disk.old) (D.faults disk.new)) }
     ensures later { D.faults disk.old ≤ D.faults disk.new }

@@ -1,12 +1,14 @@
 // The pages of a commit are written, in one transaction.
 ghost use Rattle.std.specs.Prelude.{◌≡◌, ◌≢◌, ◌⊎◌, ◌≤◌, ◌<◌, ◌==◌, ◌||◌, ℕ, true, false, Ok, Err, IfErr, OnOk, IsTrue, if◌then◌else◌};
 ghost use Rattle.atomic_commit.specs.Commit.{IsCommitted, LeavesChanged};
-ghost use Rattle.atomic_commit.specs.Database.{HoldsEither, HoldsOld, stored_pages};
+ghost use Rattle.atomic_commit.specs.Database.{HoldsOld};
 ghost use Rattle.atomic_commit.specs.Facts.{IsBase, IsCommitBegun};
+ghost use Rattle.atomic_commit.specs.Marks.{marked_count};
 ghost use Rattle.cipher_profile.specs.Profile.{usable};
 ghost use Rattle.edge_model.specs.Causes.{Rose};
 ghost use Rattle.edge_model.specs.Files.{main_of};
 ghost use Rattle.edge_model.specs.Images.{Each, LeavesOnly};
+ghost use Rattle.edge_model.specs.OnlyRead.{OnlyRead};
 ghost use Rattle.page_codec.specs.Page.{accepts};
 ghost use Rattle.pager.specs.File.{page_stored};
 ghost use Rattle.pager.specs.Pages.{is_page_number, opened_pages};
@@ -51,12 +53,13 @@ pub fn write_changes<'d, D: Disk, E: Entropy>(
     ensures changed { OnOk result.2 (IsTrue D.tells → HasWritten start pager.entry.codec write session.now
         (λ n. put_over session.now n ((opened_pages pager.entry.codec (main_of (D.reads pager.entry.disk.now)) pager.entry.count).page n)) E.tells (E.drawn result.1.now) (main_of (D.reads result.0.now))) }
     ensures new { OnOk result.2 (IsTrue D.tells → Each (D.images result.0.now) (IsCommitted start.base (main_of (D.reads result.0.now)))) }
-    ensures one_new { OnOk result.2 (IsTrue D.tells → LeavesOnly D.moment D.since pager.entry.disk.now result.0.now
-        (HoldsEither start.base (stored_pages start.base.size start.base.pages (main_of (D.reads result.0.now))))) }
+    // no page was sealed anew, and the disk was only read; or each image has Main as it reads
+    ensures settled { OnOk result.2 (IsTrue D.tells → OnlyRead D.reads D.images D.moment D.since pager.entry.disk.now result.0.now
+        ⊎ Each (D.images result.0.now) (λ c. c.main ≡ (D.reads result.0.now).main)) }
     ensures any_moment { IsTrue D.tells → LeavesChanged D.moment D.since start.base (HasWritten start pager.entry.codec write session.now
         (λ n. put_over session.now n ((opened_pages pager.entry.codec (main_of (D.reads pager.entry.disk.now)) pager.entry.count).page n)) E.tells (E.drawn result.1.now)) pager.entry.disk.now result.0.now }
     ensures only_old { result.2 ≡ Err Answer.EntropyFault → IsTrue D.tells → LeavesOnly D.moment D.since pager.entry.disk.now result.0.now (HoldsOld start.base) }
-    ensures unwritten { result.2 ≡ Err Answer.OutOfMemory → IsTrue D.tells → result.0.now ≡ pager.entry.disk.now }
+    ensures unwritten { result.2 ≡ Err Answer.OutOfMemory → IsTrue D.tells → (result.0.now ≡ pager.entry.disk.now) × (result.1.now ≡ pager.entry.entropy.now) }
     ensures stopped { IfErr result.2 (λ answer. IsTrue D.tells → IsChangeAnswer answer) }
     ensures awake { IfErr result.2 (λ answer. (answer ≢ Answer.Down) × (answer ≢ Answer.Done)) }
     ensures disk_fault { result.2 ≡ Err Answer.DiskFault → Rose (D.faults pager.entry.disk.now) (D.faults result.0.now) }
@@ -104,8 +107,8 @@ fn write_all<'d, D: Disk, E: Entropy>(
         (λ n. put_over session.now n ((seen_pages txn.entry.read txn.entry.write (main_of (D.reads txn.entry.disk.now)) txn.entry.count txn.entry.written txn.entry.changed.held).page n))
         E.tells (E.drawn result.1.now) (main_of (D.reads result.0.now))) }
     ensures new { OnOk result.2 (IsTrue D.tells → Each (D.images result.0.now) (IsCommitted start.base (main_of (D.reads result.0.now)))) }
-    ensures one_new { OnOk result.2 (IsTrue D.tells → LeavesOnly D.moment D.since txn.entry.disk.now result.0.now
-        (HoldsEither start.base (stored_pages start.base.size start.base.pages (main_of (D.reads result.0.now))))) }
+    ensures settled { OnOk result.2 (IsTrue D.tells → OnlyRead D.reads D.images D.moment D.since txn.entry.disk.now result.0.now
+        ⊎ Each (D.images result.0.now) (λ c. c.main ≡ (D.reads result.0.now).main)) }
     ensures any_moment { IsTrue D.tells → LeavesChanged D.moment D.since start.base (HasNewPages start txn.entry.write (is_sealed session.now)
         (λ n. put_over session.now n ((seen_pages txn.entry.read txn.entry.write (main_of (D.reads txn.entry.disk.now)) txn.entry.count txn.entry.written txn.entry.changed.held).page n))
         E.tells (E.drawn result.1.now)) txn.entry.disk.now result.0.now }
@@ -138,8 +141,8 @@ fn finish<'d, D: Disk, E: Entropy>(txn: Txn<'d, D, E>) -> (&'d mut D, &'d mut E,
         (λ n. (seen_pages txn.entry.read txn.entry.write (main_of (D.reads txn.entry.disk.now)) txn.entry.count txn.entry.written txn.entry.changed.held).page n)
         E.tells (E.drawn result.1.now) (main_of (D.reads result.0.now))) }
     ensures new { OnOk result.2 (IsTrue D.tells → Each (D.images result.0.now) (IsCommitted start.base (main_of (D.reads result.0.now)))) }
-    ensures one_new { OnOk result.2 (IsTrue D.tells → LeavesOnly D.moment D.since txn.entry.disk.now result.0.now
-        (HoldsEither start.base (stored_pages start.base.size start.base.pages (main_of (D.reads result.0.now))))) }
+    ensures settled { OnOk result.2 (IsTrue D.tells → ((marked_count txn.entry.recorded ≡ 0) × (result.0.now ≡ txn.entry.disk.now))
+        ⊎ Each (D.images result.0.now) (λ c. c.main ≡ (D.reads result.0.now).main)) }
     ensures any_moment { IsTrue D.tells → LeavesChanged D.moment D.since start.base (HasNewPages start txn.entry.write (is_touched txn.entry.written txn.entry.changed.held)
         (λ n. (seen_pages txn.entry.read txn.entry.write (main_of (D.reads txn.entry.disk.now)) txn.entry.count txn.entry.written txn.entry.changed.held).page n)
         E.tells (E.drawn result.1.now)) txn.entry.disk.now result.0.now }
@@ -239,6 +242,8 @@ fn put_pages<D: Disk, E: Entropy>(
     ensures disk_fault { result ≡ Err PageError.DiskFault → Rose (D.faults txn.old.disk.now) (D.faults txn.new.disk.now) }
     ensures entropy_fault { result ≡ Err PageError.EntropyFault → Rose (E.faults txn.old.entropy.now) (E.faults txn.new.entropy.now) }
     ensures any_moment { IsTrue D.tells → LeavesOnly D.moment D.since txn.old.disk.now txn.new.disk.now (HoldsOld start.base) }
+    // while no page has a record, the disk was only read
+    ensures unrecorded { OnOk result (marked_count txn.new.recorded ≡ 0 → IsTrue D.tells → OnlyRead D.reads D.images D.moment D.since txn.old.disk.now txn.new.disk.now) }
     ensures names { (txn.new.disk.ghost_name ≡ txn.old.disk.ghost_name) × (txn.new.entropy.ghost_name ≡ txn.old.entropy.ghost_name) }
     ensures later { (D.faults txn.old.disk.now ≤ D.faults txn.new.disk.now) × (E.faults txn.old.entropy.now ≤ E.faults txn.new.entropy.now) }
     ensures file { (txn.new.read ≡ txn.old.read) × (txn.new.write ≡ txn.old.write) × (txn.new.count ≡ txn.old.count) }
@@ -282,6 +287,9 @@ fn put_page<D: Disk, E: Entropy>(
     ensures disk_fault { result ≡ Err PageError.DiskFault → Rose (D.faults txn.old.disk.now) (D.faults txn.new.disk.now) }
     ensures entropy_fault { result ≡ Err PageError.EntropyFault → Rose (E.faults txn.old.entropy.now) (E.faults txn.new.entropy.now) }
     ensures any_moment { IsTrue D.tells → LeavesOnly D.moment D.since txn.old.disk.now txn.new.disk.now (HoldsOld start.base) }
+    // while no page has a record, the disk was only read
+    ensures unrecorded { OnOk result (marked_count txn.new.recorded ≡ 0 → (marked_count txn.old.recorded ≡ 0)
+        × (IsTrue D.tells → OnlyRead D.reads D.images D.moment D.since txn.old.disk.now txn.new.disk.now)) }
     ensures names { (txn.new.disk.ghost_name ≡ txn.old.disk.ghost_name) × (txn.new.entropy.ghost_name ≡ txn.old.entropy.ghost_name) }
     ensures later { (D.faults txn.old.disk.now ≤ D.faults txn.new.disk.now) × (E.faults txn.old.entropy.now ≤ E.faults txn.new.entropy.now) }
     ensures file { (txn.new.read ≡ txn.old.read) × (txn.new.write ≡ txn.old.write) × (txn.new.count ≡ txn.old.count) }

@@ -1,6 +1,6 @@
 -- The replies of a script are a run of the machine.
 use Rattle.std.proofs.Common.{◌≡◌, List, [], ◌∷◌, map, Option, Some, None, refl}
-use Rattle.session_hall.specs.Machine.{State, Steps}
+use Rattle.session_hall.specs.Machine.{HallState, Steps}
 use Rattle.session_hall.specs.Run.{Turn}
 use Rattle.session_hall.specs.declared.step.Answer.{Answer}
 use Rattle.session_play.specs.Play.{TakesStep}
@@ -10,12 +10,12 @@ use Rattle.session_play.specs.Script.{step_of}
 use Rattle.session_play.specs.declared.script.ScriptStep.{ScriptStep}
 
 -- a reply is a turn of its session
-reply_turn : (o : Option ScriptStep) (old : State) (reply : Reply) → TakesStep o old reply
+reply_turn : (o : Option ScriptStep) (old : HallState) (reply : Reply) → TakesStep o old reply
     → (turn : Turn) × Steps old turn.session turn.step turn.answer reply.after × (turn.answer ≡ reply.answer)
 reply_turn None old reply is = absurd is
 reply_turn (Some entry) old reply is = (record { session = entry.session; step = entry.step; answer = reply.answer }, is, refl)
 
-more : (old new : State) (reply : Reply) (replies : List Reply)
+more : (old new : HallState) (reply : Reply) (replies : List Reply)
     → ((turn : Turn) × Steps old turn.session turn.step turn.answer reply.after × (turn.answer ≡ reply.answer)) → IsRunOf reply.after replies new
     → IsRunOf old (reply ∷ replies) new
 more old new reply replies first rest =

@@ -1,5 +1,5 @@
 -- What a step leaves of the disk, as its state tells.
-use Rattle.std.proofs.Common.{◌≡◌, ◌<◌, ◌∙◌, ℕ, List, length, Some, None, inl, inr, ⊎_elim, refl}
+use Rattle.std.proofs.Common.{◌≡◌, ◌<◌, ◌∙◌, ℕ, Bool, true, false, IsTrue, List, [], length, Some, None, inl, inr, ⊎_elim, refl}
 use Rattle.edge_model.specs.Files.{Files, main_of}
 use Rattle.edge_model.specs.Images.{Each, LeavesOnly}
 use Rattle.edge_model.specs.Moments.{and_then, started, weaker}
@@ -32,34 +32,58 @@ module _ {D : Type 0} (reads : D → Files) (images : D → Files → Type 0) (m
       → LeavesOnly moment since mid new Q → LeavesOnly moment since old new R
   joined old mid new P Q R p q first next = and_then (weaker p first) (weaker q next)
 
+  -- the file that a commit may come to
+  abbrev committed_file : {old new : D} {session : Session} {file : List ℕ} → Commitment moment since session file old new → List ℕ
+  committed_file (inl stays) = []
+  committed_file (inr changed) = changed.0
+
   -- what a commit leaves, where the entropy did not fail
-  committing : (old new : D) (session : Session) → Commitment moment since session (main_of (reads old)) old new
-      → LeavesOnly moment since old new (IsInCommit session (main_of (reads old)))
-  committing old new session commitment = ⊎_elim
-      (λ stays. weaker (λ c has. inl has) stays)
-      (λ changed. weaker (λ c has. ⊎_elim (λ was. inl was) (λ now. inr (changed.0, changed.1, now)) has) changed.2)
-      commitment
+  committing : (old new : D) (session : Session) (commitment : Commitment moment since session (main_of (reads old)) old new)
+      → LeavesOnly moment since old new (IsInCommit session (main_of (reads old)) (committed_file commitment))
+  committing old new session (inl stays) = weaker (λ c has. inl has) stays
+  committing old new session (inr changed) = weaker (λ c has. ⊎_elim (λ was. inl was) (λ now. inr (changed.1, now)) has) changed.2
 
-  answered : (old new : D) (session : Session) (answer : Answer) → LeavesOnly moment since old new (IsInCommit session (main_of (reads old)))
+  answered : (old new : D) (session : Session) (answer : Answer) (made : List ℕ) → LeavesOnly moment since old new (IsInCommit session (main_of (reads old)) made)
       → (answer ≡ EntropyFault → LeavesOnly moment since old new (IsBeforeCommit session (main_of (reads old))))
-      → LeavesOnly moment since old new (IsInAnswered answer session (main_of (reads old)))
-  answered old new session Done leaves only_old = leaves
-  answered old new session Page leaves only_old = leaves
-  answered old new session Busy leaves only_old = leaves
-  answered old new session (Refused error) leaves only_old = leaves
-  answered old new session (TagRefused page) leaves only_old = leaves
-  answered old new session Misuse leaves only_old = leaves
-  answered old new session Down leaves only_old = leaves
-  answered old new session DiskFault leaves only_old = leaves
-  answered old new session EntropyFault leaves only_old = only_old refl
-  answered old new session OutOfMemory leaves only_old = leaves
+      → LeavesOnly moment since old new (IsInAnswered answer session (main_of (reads old)) made)
+  answered old new session Done made leaves only_old = leaves
+  answered old new session Page made leaves only_old = leaves
+  answered old new session Busy made leaves only_old = leaves
+  answered old new session (Refused error) made leaves only_old = leaves
+  answered old new session (TagRefused page) made leaves only_old = leaves
+  answered old new session Misuse made leaves only_old = leaves
+  answered old new session Down made leaves only_old = leaves
+  answered old new session DiskFault made leaves only_old = leaves
+  answered old new session EntropyFault made leaves only_old = only_old refl
+  answered old new session OutOfMemory made leaves only_old = leaves
 
-  -- a step
-  pub step_leaves : (old new : D) (layout : Profile) (sessions : List Session) (page : List ℕ) (entry : ScriptStep) (answer : Answer) → IsHallSettled (reads old) (images old)
-      → StepLeaves reads moment since entry.step (session_at sessions entry.session) old new
-      → (answer ≡ EntropyFault → LeavesOnly moment since old new (IsBeforeCommit (session_at sessions entry.session) (main_of (reads old))))
-      → LeavesOnly moment since old new (IsInStep (Some entry) answer (state (reads old) layout sessions page))
-  step_leaves old new layout sessions page entry answer settled leaves only_old = ⊎_elim
-      (λ stands. weaker (λ c as_read. inl (has_main (reads old) c settled.alone as_read)) stands)
-      (λ commit. weaker (λ c has. inr (commit.0, has)) (answered old new (session_at sessions entry.session) answer (committing old new (session_at sessions entry.session) commit.1) only_old))
-      leaves
+  module _ (old new : D) (layout : Profile) (sessions : List Session) (page : List ℕ) (entry : ScriptStep) (answer : Answer) where
+    abbrev Leaves : Type 0
+    Leaves = StepLeaves reads moment since entry.step (session_at sessions entry.session) old new
+
+    -- the file that a step may come to, if it is a commit
+    abbrev step_file : Leaves → List ℕ
+    step_file (inl stands) = []
+    step_file (inr commit) = committed_file commit.1
+
+    -- and where the disk may not tell
+    abbrev pub made_file : (tells : Bool) → (IsTrue tells → Leaves) → List ℕ
+    made_file true leaves = step_file (leaves refl)
+    made_file false leaves = []
+
+    abbrev Only : Type 0
+    Only = answer ≡ EntropyFault → LeavesOnly moment since old new (IsBeforeCommit (session_at sessions entry.session) (main_of (reads old)))
+
+    step_leaves : IsHallSettled (reads old) (images old) → (leaves : Leaves) → Only → LeavesOnly moment since old new (IsInStep (Some entry) answer (step_file leaves) (state (reads old) layout sessions page))
+    step_leaves settled (inl stands) only_old = weaker (λ c as_read. inl (has_main (reads old) c settled.alone as_read)) stands
+    step_leaves settled (inr commit) only_old =
+        weaker (λ c has. inr (commit.0, has)) (answered old new (session_at sessions entry.session) answer (committed_file commit.1) (committing old new (session_at sessions entry.session) commit.1) only_old)
+
+    -- what a step leaves, with one file for all moments of a commit
+    pub made_leaves : (tells : Bool) (leaves : IsTrue tells → Leaves) → IsTrue tells → IsHallSettled (reads old) (images old) → Only
+        → LeavesOnly moment since old new (IsInStep (Some entry) answer (made_file tells leaves) (state (reads old) layout sessions page))
+    made_leaves true leaves told settled only_old = step_leaves settled (leaves refl) only_old
+    made_leaves false leaves told settled only_old = absurd (never told)
+      where
+        never : IsTrue false → ⊥
+        never is = cc

@@ -3,7 +3,7 @@ use Rattle.std.specs.Prelude.{◌≡◌, ◌⊎◌, ◌<◌, ℕ, List, [], ◌�
 use Rattle.edge_model.specs.Files.{Files, main_of}
 use Rattle.cipher_profile.specs.declared.profile.Profile.{Profile}
 use Rattle.session_hall.specs.Commit.{HoldsSessionPages}
-use Rattle.session_hall.specs.Machine.{HasSessionChanges, State}
+use Rattle.session_hall.specs.Machine.{HasSessionChanges, HallState}
 use Rattle.session_hall.specs.Session.{Session, session_at}
 use Rattle.session_hall.specs.declared.step.Answer.{Answer}
 use Rattle.session_hall.specs.declared.step.Answer.TheVariants.{Done, Page, Busy, Refused, TagRefused, Misuse, Down, DiskFault, EntropyFault, OutOfMemory}
@@ -21,36 +21,36 @@ pub record HasMain (file : List ℕ) (image : Files) : Type 0 where
 abbrev pub IsBeforeCommit : Session → List ℕ → Files → Type 0
 IsBeforeCommit session file image = HoldsSessionPages session file file image
 
--- It holds those, or the pages of a file that the commit may come to.
-abbrev pub IsInCommit : Session → List ℕ → Files → Type 0
-IsInCommit session file image =
-    IsBeforeCommit session file image ⊎ ((main : List ℕ) × HasSessionChanges session file main × HoldsSessionPages session file main image)
+-- It holds those, or the pages of the one file that the commit may come to.
+abbrev pub IsInCommit : Session → List ℕ → List ℕ → Files → Type 0
+IsInCommit session file made image =
+    IsBeforeCommit session file image ⊎ (HasSessionChanges session file made × HoldsSessionPages session file made image)
 
 -- so it is within a commit that is answered so: where the entropy failed, nothing was written over the old pages
-abbrev pub IsInAnswered : Answer → Session → List ℕ → Files → Type 0
-IsInAnswered Done session file image = IsInCommit session file image
-IsInAnswered Page session file image = IsInCommit session file image
-IsInAnswered Busy session file image = IsInCommit session file image
-IsInAnswered (Refused error) session file image = IsInCommit session file image
-IsInAnswered (TagRefused page) session file image = IsInCommit session file image
-IsInAnswered Misuse session file image = IsInCommit session file image
-IsInAnswered Down session file image = IsInCommit session file image
-IsInAnswered DiskFault session file image = IsInCommit session file image
-IsInAnswered EntropyFault session file image = IsBeforeCommit session file image
-IsInAnswered OutOfMemory session file image = IsInCommit session file image
+abbrev pub IsInAnswered : Answer → Session → List ℕ → List ℕ → Files → Type 0
+IsInAnswered Done session file made image = IsInCommit session file made image
+IsInAnswered Page session file made image = IsInCommit session file made image
+IsInAnswered Busy session file made image = IsInCommit session file made image
+IsInAnswered (Refused error) session file made image = IsInCommit session file made image
+IsInAnswered (TagRefused page) session file made image = IsInCommit session file made image
+IsInAnswered Misuse session file made image = IsInCommit session file made image
+IsInAnswered Down session file made image = IsInCommit session file made image
+IsInAnswered DiskFault session file made image = IsInCommit session file made image
+IsInAnswered EntropyFault session file made image = IsBeforeCommit session file image
+IsInAnswered OutOfMemory session file made image = IsInCommit session file made image
 
 -- within a step that is answered so, the file stands as it was; within a commit its pages are those from before or after it
-abbrev pub IsInStep : Option ScriptStep → Answer → State → Files → Type 0
-IsInStep None answer old image = ⊥
-IsInStep (Some entry) answer old image =
-    HasMain old.file image ⊎ ((entry.step ≡ Commit) × IsInAnswered answer (session_at old.sessions entry.session) old.file image)
+abbrev pub IsInStep : Option ScriptStep → Answer → List ℕ → HallState → Files → Type 0
+IsInStep None answer made old image = ⊥
+IsInStep (Some entry) answer made old image =
+    HasMain old.file image ⊎ ((entry.step ≡ Commit) × IsInAnswered answer (session_at old.sessions entry.session) old.file made image)
 
 -- the machine's state behind the replies
-abbrev pub state_behind : State → List Reply → State
+abbrev pub state_behind : HallState → List Reply → HallState
 state_behind old [] = old
 state_behind old (reply ∷ replies) = state_behind reply.after replies
 
 -- the image is of a moment within one of the steps, or behind the last
-abbrev pub IsOnWay : Profile → State → List Reply → Files → Type 0
+abbrev pub IsOnWay : Profile → HallState → List Reply → Files → Type 0
 IsOnWay layout old [] image = HasMain old.file image
-IsOnWay layout old (reply ∷ replies) image = IsInStep (step_of layout reply.line) reply.answer old image ⊎ IsOnWay layout reply.after replies image
+IsOnWay layout old (reply ∷ replies) image = IsInStep (step_of layout reply.line) reply.answer reply.made old image ⊎ IsOnWay layout reply.after replies image

@@ -3,10 +3,11 @@ use Rattle.std.specs.Prelude.{◌≡◌, ◌≢◌, ◌+◌, ◌<◌, ◌≤◌,
 use Rattle.std.specs.List.{flat_map}
 use Rattle.edge_model.specs.Files.{Files}
 use Rattle.cipher_profile.specs.declared.profile.Profile.{Profile}
-use Rattle.session_hall.specs.Machine.{State, Steps}
+use Rattle.session_hall.specs.Machine.{HallState, Steps}
 use Rattle.session_hall.specs.declared.step.Answer.{Answer}
 use Rattle.session_hall.specs.declared.step.Answer.TheVariants.{Done, Page, Busy, Refused, TagRefused, Misuse, Down, DiskFault as DiskFails, EntropyFault as EntropyFails, OutOfMemory as MemoryEnds}
 use Rattle.session_play.specs.AnswerText.{answer_line}
+use Rattle.session_play.specs.Draws.{AreDrawn, ReplyDraws}
 use Rattle.session_play.specs.Moments.{IsInStep, IsOnWay, state_behind}
 use Rattle.session_play.specs.Reply.{Reply}
 use Rattle.session_play.specs.Script.{script_lines, step_of}
@@ -62,16 +63,16 @@ abbrev pub IsPrinted : Reply → Type 0
 IsPrinted reply = failure_of reply.answer ≡ None
 
 -- All are printed but the last, which ends the script so. Each image at the end, of which `have` says that it has a property, is within that last step.
-pub record EndsWith (layout : Profile) (disk : Bool) (have : (Files → Type 0) → Type 0) (old : State) (error : PlayError) (replies : List Reply) : Type 0 where
+pub record EndsWith (layout : Profile) (disk : Bool) (have : (Files → Type 0) → Type 0) (old : HallState) (error : PlayError) (replies : List Reply) : Type 0 where
   pub printed : List Reply
   pub last : Reply
   pub all : replies ≡ printed ++ last ∷ []
   pub earlier : All IsPrinted printed
   pub failed : failure_of last.answer ≡ Some error
-  pub left : IsTrue disk → have (IsInStep (step_of layout last.line) last.answer (state_behind old printed))
+  pub left : IsTrue disk → have (IsInStep (step_of layout last.line) last.answer last.made (state_behind old printed))
 
 -- A step that failed, or had no memory, is the last; every other answer is printed.
-abbrev pub AreAnswers : {T : Type 0} → Profile → Bool → ((Files → Type 0) → Type 0) → State → Result T PlayError → List Reply → Type 0
+abbrev pub AreAnswers : {T : Type 0} → Profile → Bool → ((Files → Type 0) → Type 0) → HallState → Result T PlayError → List Reply → Type 0
 AreAnswers layout disk have old (Ok done) replies = All IsPrinted replies
 AreAnswers layout disk have old (Err (ScriptLine line)) replies = All IsPrinted replies
 AreAnswers layout disk have old (Err (LineTooLong line)) replies = All IsPrinted replies
@@ -116,22 +117,22 @@ IsBehind layout (Err OutOfMemory) carried lines rest = lines ≡ script_lines re
 
 -- ---- the machine
 
-abbrev pub TakesStep : Option ScriptStep → State → Reply → Type 0
+abbrev pub TakesStep : Option ScriptStep → HallState → Reply → Type 0
 TakesStep None old reply = ⊥
 TakesStep (Some entry) old reply = Steps old entry.session entry.step reply.answer reply.after
 
 -- from one state the replies are steps of the machine, one after another, to the other state
-abbrev pub Follows : Profile → State → List Reply → State → Type 0
-Follows layout old [] new = new ≡ old
-Follows layout old (reply ∷ replies) new = TakesStep (step_of layout reply.line) old reply × Follows layout reply.after replies new
+abbrev pub AreSteps : Profile → HallState → List Reply → HallState → Type 0
+AreSteps layout old [] new = new ≡ old
+AreSteps layout old (reply ∷ replies) new = TakesStep (step_of layout reply.line) old reply × AreSteps layout reply.after replies new
 
 -- ---- all of it
 
 -- The lines of a script are carried out one after another, each whole before the next is read, until the script ends, is refused, or
--- something fails. The three flags say of the source, the sink and the disk whether they tell of their bytes; `leaves` says that each image at
--- each moment has a property, and `have` that each image at the end has it.
-pub record Plays {T : Type 0} (layout : Profile) (result : Result T PlayError) (source sink disk : Bool) (leaves have : (Files → Type 0) → Type 0)
-    (left rest before after : List ℕ) (old new : State) : Type 0 where
+-- something fails. The four flags say of the source, the sink, the disk and the entropy whether they tell of their bytes; `leaves` says that each
+-- image at each moment has a property, and `have` that each image at the end has it.
+pub record PlaysLines {T : Type 0} (layout : Profile) (result : Result T PlayError) (source sink disk entropy : Bool) (leaves have : (Files → Type 0) → Type 0)
+    (left rest before after drawn drawn_after : List ℕ) (old new : HallState) : Type 0 where
   pub replies : List Reply
   pub behind : List (List ℕ)
   pub few : length replies ≤ most_lines
@@ -140,56 +141,58 @@ pub record Plays {T : Type 0} (layout : Profile) (result : Result T PlayError) (
   pub lines : IsTrue source → script_lines left ≡ map line_of_reply replies ++ behind
   pub stop : IsTrue source → IsBehind layout result (length replies) behind rest
   pub text : IsTrue sink → Prints result (replies_text layout replies) before after
-  pub run : IsTrue disk → Follows layout old replies new
+  pub run : IsTrue disk → AreSteps layout old replies new
+  pub draws : IsTrue disk → IsTrue entropy → AreDrawn layout old replies drawn drawn_after
   pub moments : IsTrue disk → leaves (IsOnWay layout old replies)
 
 -- ---- one line
 
 -- the line is a step, and this is its reply, which leads to the machine's new state
-pub record IsReplyTo (layout : Profile) (line : List ℕ) (disk : Bool) (leaves : (Files → Type 0) → Type 0) (old new : State) (reply : Reply) : Type 0 where
+pub record IsReplyTo (layout : Profile) (line : List ℕ) (disk entropy : Bool) (leaves : (Files → Type 0) → Type 0) (drawn drawn_after : List ℕ) (old new : HallState) (reply : Reply) : Type 0 where
   pub of_line : reply.line ≡ line
   pub entry : ScriptStep
   pub is : step_of layout line ≡ Some entry
   pub new_is : new ≡ reply.after
   pub step : IsTrue disk → Steps old entry.session entry.step reply.answer reply.after
-  pub moments : IsTrue disk → leaves (IsInStep (Some entry) reply.answer old)
+  pub draws : IsTrue disk → IsTrue entropy → ReplyDraws (Some entry) old reply drawn drawn_after
+  pub moments : IsTrue disk → leaves (IsInStep (Some entry) reply.answer reply.made old)
 
 -- a reply that is printed, whole or after a fault of the sink in part
-pub record IsPut (layout : Profile) (line : List ℕ) (disk : Bool) (leaves : (Files → Type 0) → Type 0) (puts : List ℕ → Type 0) (old new : State) : Type 0 where
+pub record IsPutReply (layout : Profile) (line : List ℕ) (disk entropy : Bool) (leaves : (Files → Type 0) → Type 0) (puts : List ℕ → Type 0) (drawn drawn_after : List ℕ) (old new : HallState) : Type 0 where
   pub reply : Reply
-  pub answers : IsReplyTo layout line disk leaves old new reply
+  pub answers : IsReplyTo layout line disk entropy leaves drawn drawn_after old new reply
   pub printed : IsPrinted reply
   pub put : puts (reply_text layout reply)
 
 -- a reply that ends the script, and is not printed
-pub record IsFailed (layout : Profile) (line : List ℕ) (disk : Bool) (leaves : (Files → Type 0) → Type 0) (error : PlayError) (old new : State) : Type 0 where
+pub record IsFailed (layout : Profile) (line : List ℕ) (disk entropy : Bool) (leaves : (Files → Type 0) → Type 0) (error : PlayError) (drawn drawn_after : List ℕ) (old new : HallState) : Type 0 where
   pub reply : Reply
-  pub answers : IsReplyTo layout line disk leaves old new reply
+  pub answers : IsReplyTo layout line disk entropy leaves drawn drawn_after old new reply
   pub failed : failure_of reply.answer ≡ Some error
 
 -- What carrying out a line comes to: it is no step and nothing changes, or there is a reply.
-abbrev pub Carries : {T : Type 0} → Profile → ℕ → List ℕ → Bool → Bool → ((Files → Type 0) → Type 0) → Result T PlayError → List ℕ → List ℕ → State → State → Type 0
-Carries layout number line sink disk leaves (Ok done) before after old new =
-    IsPut layout line disk leaves (λ text. IsTrue sink → after ≡ before ++ text) old new
-Carries layout number line sink disk leaves (Err (ScriptLine at)) before after old new =
-    (at ≡ number) × (step_of layout line ≡ None) × (new ≡ old) × (IsTrue sink → after ≡ before)
-Carries layout number line sink disk leaves (Err (LineTooLong at)) before after old new = ⊥
-Carries layout number line sink disk leaves (Err TooManyLines) before after old new = ⊥
-Carries layout number line sink disk leaves (Err DiskFault) before after old new = IsFailed layout line disk leaves DiskFault old new × (IsTrue sink → after ≡ before)
-Carries layout number line sink disk leaves (Err OutputFault) before after old new =
-    IsPut layout line disk leaves (λ text. IsTrue sink → PutsPart text before after) old new
-Carries layout number line sink disk leaves (Err InputFault) before after old new = ⊥
-Carries layout number line sink disk leaves (Err EntropyFault) before after old new = IsFailed layout line disk leaves EntropyFault old new × (IsTrue sink → after ≡ before)
-Carries layout number line sink disk leaves (Err OutOfMemory) before after old new = IsFailed layout line disk leaves OutOfMemory old new × (IsTrue sink → after ≡ before)
+abbrev pub Carries : {T : Type 0} → Profile → ℕ → List ℕ → Bool → Bool → Bool → ((Files → Type 0) → Type 0) → Result T PlayError → List ℕ → List ℕ → List ℕ → List ℕ → HallState → HallState → Type 0
+Carries layout number line sink disk entropy leaves (Ok done) before after drawn drawn_after old new =
+    IsPutReply layout line disk entropy leaves (λ text. IsTrue sink → after ≡ before ++ text) drawn drawn_after old new
+Carries layout number line sink disk entropy leaves (Err (ScriptLine at)) before after drawn drawn_after old new =
+    (at ≡ number) × (step_of layout line ≡ None) × (new ≡ old) × (IsTrue sink → after ≡ before) × (drawn_after ≡ drawn)
+Carries layout number line sink disk entropy leaves (Err (LineTooLong at)) before after drawn drawn_after old new = ⊥
+Carries layout number line sink disk entropy leaves (Err TooManyLines) before after drawn drawn_after old new = ⊥
+Carries layout number line sink disk entropy leaves (Err DiskFault) before after drawn drawn_after old new = IsFailed layout line disk entropy leaves DiskFault drawn drawn_after old new × (IsTrue sink → after ≡ before)
+Carries layout number line sink disk entropy leaves (Err OutputFault) before after drawn drawn_after old new =
+    IsPutReply layout line disk entropy leaves (λ text. IsTrue sink → PutsPart text before after) drawn drawn_after old new
+Carries layout number line sink disk entropy leaves (Err InputFault) before after drawn drawn_after old new = ⊥
+Carries layout number line sink disk entropy leaves (Err EntropyFault) before after drawn drawn_after old new = IsFailed layout line disk entropy leaves EntropyFault drawn drawn_after old new × (IsTrue sink → after ≡ before)
+Carries layout number line sink disk entropy leaves (Err OutOfMemory) before after drawn drawn_after old new = IsFailed layout line disk entropy leaves OutOfMemory drawn drawn_after old new × (IsTrue sink → after ≡ before)
 
 -- the hall goes on: no step of it failed
-abbrev pub GoesOn : {T : Type 0} → Result T PlayError → Type 0
-GoesOn (Ok done) = Unit {0}
-GoesOn (Err (ScriptLine line)) = Unit {0}
-GoesOn (Err (LineTooLong line)) = Unit {0}
-GoesOn (Err TooManyLines) = Unit {0}
-GoesOn (Err DiskFault) = ⊥
-GoesOn (Err OutputFault) = Unit {0}
-GoesOn (Err InputFault) = Unit {0}
-GoesOn (Err EntropyFault) = ⊥
-GoesOn (Err OutOfMemory) = Unit {0}
+abbrev pub StaysUp : {T : Type 0} → Result T PlayError → Type 0
+StaysUp (Ok done) = Unit {0}
+StaysUp (Err (ScriptLine line)) = Unit {0}
+StaysUp (Err (LineTooLong line)) = Unit {0}
+StaysUp (Err TooManyLines) = Unit {0}
+StaysUp (Err DiskFault) = ⊥
+StaysUp (Err OutputFault) = Unit {0}
+StaysUp (Err InputFault) = Unit {0}
+StaysUp (Err EntropyFault) = ⊥
+StaysUp (Err OutOfMemory) = Unit {0}

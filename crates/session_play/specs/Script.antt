@@ -74,8 +74,8 @@ lock_step name =
     else (if bytes_eq name (codes "release") then Some Release else None)))
 
 -- the steps that name a profile and a key
-abbrev pub key_step : List ℕ → Secret → Profile → Option Step
-key_step name secret profile =
+abbrev pub secret_step : List ℕ → Secret → Profile → Option Step
+secret_step name secret profile =
     if bytes_eq name (codes "open") then Some (Open secret profile)
     else (if bytes_eq name (codes "rekey") then Some (Rekey secret profile) else None)
 
@@ -86,11 +86,11 @@ secret_in (Err error) = None
 
 -- `open` and `rekey` of a plain profile
 abbrev pub plain_form : List ℕ → Profile → Option Step
-plain_form name profile = if is_plain profile then key_step name NoKey profile else None
+plain_form name profile = if is_plain profile then secret_step name NoKey profile else None
 
 -- and of another
 abbrev pub key_form : List ℕ → List ℕ → Profile → Option Step
-key_form name key profile = if is_plain profile then None else option_and_then (λ secret. key_step name secret profile) (secret_in (key_line key))
+key_form name key profile = if is_plain profile then None else option_and_then (λ secret. secret_step name secret profile) (secret_in (key_line key))
 
 abbrev pub read_form : Profile → ℕ → List ℕ → List ℕ → Option ScriptStep
 read_form layout session number at =

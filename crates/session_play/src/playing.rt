@@ -3,9 +3,9 @@ ghost use Rattle.std.specs.Prelude.{◌≡◌, ◌≢◌, ◌≤◌, ℕ, false,
 ghost use Rattle.edge_model.specs.Causes.{Rose};
 ghost use Rattle.edge_model.specs.Images.{Each, LeavesOnly};
 ghost use Rattle.cipher_profile.specs.Profile.{IsListed, is_plain};
-ghost use Rattle.session_hall.specs.Kept.{IsKept};
+ghost use Rattle.session_hall.specs.Kept.{IsHallKept};
 ghost use Rattle.session_hall.specs.Machine.{state};
-ghost use Rattle.session_play.specs.Play.{Carries, GoesOn, Plays};
+ghost use Rattle.session_play.specs.Play.{Carries, StaysUp, PlaysLines};
 
 use crate::answer::answer_line;
 use crate::line::{Ending, MAX_TAKEN, Taken, take_ending, take_line};
@@ -47,15 +47,16 @@ pub fn play<K: Source, S: Sink, D: Disk, E: Entropy>(
 ) -> Result<(), PlayError>
     requires listed { IsListed layout.now }
     requires up { hall.old.is_down ≡ false }
-    requires kept { IsTrue D.tells → IsKept (D.reads hall.old.disk.now) (D.images hall.old.disk.now) hall.old.sessions.items }
-    // which lines are carried out, their answers and what is printed, that they are a run of the machine, and what a stop leaves at each moment
-    ensures played { Plays layout.now result K.tells S.tells D.tells
+    requires kept { IsTrue D.tells → IsHallKept (D.reads hall.old.disk.now) (D.images hall.old.disk.now) hall.old.sessions.items }
+    // which lines are carried out, their answers and what is printed, that they are a run of the machine, what they draw, and what a stop leaves at
+    // each moment
+    ensures played { PlaysLines layout.now result K.tells S.tells D.tells E.tells
         (LeavesOnly D.moment D.since hall.old.disk.now hall.new.disk.now) (Each (D.images hall.new.disk.now))
-        (K.left input.old) (K.left input.new) (S.taken out.old) (S.taken out.new)
+        (K.left input.old) (K.left input.new) (S.taken out.old) (S.taken out.new) (E.drawn hall.old.entropy.now) (E.drawn hall.new.entropy.now)
         (state (D.reads hall.old.disk.now) hall.old.layout hall.old.sessions.items hall.old.page) (state (D.reads hall.new.disk.now) hall.new.layout hall.new.sessions.items hall.new.page) }
     // where no step failed, each image is as the disk reads
-    ensures up { GoesOn result → hall.new.is_down ≡ false }
-    ensures kept { IsTrue D.tells → hall.new.is_down ≡ false → IsKept (D.reads hall.new.disk.now) (D.images hall.new.disk.now) hall.new.sessions.items }
+    ensures up { StaysUp result → hall.new.is_down ≡ false }
+    ensures kept { IsTrue D.tells → hall.new.is_down ≡ false → IsHallKept (D.reads hall.new.disk.now) (D.images hall.new.disk.now) hall.new.sessions.items }
     ensures taken { IsTrue K.tells → (n : ℕ) × (K.left input.new ≡ drop n (K.left input.old)) }
     ensures input_fault { result ≡ Err PlayError.InputFault → Rose (K.faults input.old) (K.faults input.new) }
     ensures output_fault { result ≡ Err PlayError.OutputFault → Rose (S.faults out.old) (S.faults out.new) }
@@ -100,12 +101,13 @@ fn play_line<S: Sink, D: Disk, E: Entropy>(
 ) -> Result<(), PlayError>
     requires listed { IsListed layout.now }
     requires up { hall.old.is_down ≡ false }
-    requires kept { IsTrue D.tells → IsKept (D.reads hall.old.disk.now) (D.images hall.old.disk.now) hall.old.sessions.items }
-    ensures carried { Carries layout.now number line.now S.tells D.tells (LeavesOnly D.moment D.since hall.old.disk.now hall.new.disk.now) result (S.taken out.old) (S.taken out.new)
+    requires kept { IsTrue D.tells → IsHallKept (D.reads hall.old.disk.now) (D.images hall.old.disk.now) hall.old.sessions.items }
+    ensures carried { Carries layout.now number line.now S.tells D.tells E.tells (LeavesOnly D.moment D.since hall.old.disk.now hall.new.disk.now) result
+        (S.taken out.old) (S.taken out.new) (E.drawn hall.old.entropy.now) (E.drawn hall.new.entropy.now)
         (state (D.reads hall.old.disk.now) hall.old.layout hall.old.sessions.items hall.old.page) (state (D.reads hall.new.disk.now) hall.new.layout hall.new.sessions.items hall.new.page) }
     ensures unmoved { (n : ℕ) → result ≡ Err (PlayError.ScriptLine n) → hall.new.disk.now ≡ hall.old.disk.now }
-    ensures up { GoesOn result → hall.new.is_down ≡ false }
-    ensures kept { IsTrue D.tells → hall.new.is_down ≡ false → IsKept (D.reads hall.new.disk.now) (D.images hall.new.disk.now) hall.new.sessions.items }
+    ensures up { StaysUp result → hall.new.is_down ≡ false }
+    ensures kept { IsTrue D.tells → hall.new.is_down ≡ false → IsHallKept (D.reads hall.new.disk.now) (D.images hall.new.disk.now) hall.new.sessions.items }
     ensures output_fault { result ≡ Err PlayError.OutputFault → Rose (S.faults out.old) (S.faults out.new) }
     ensures disk_fault { result ≡ Err PlayError.DiskFault → Rose (D.faults hall.old.disk.now) (D.faults hall.new.disk.now) }
     ensures entropy_fault { result ≡ Err PlayError.EntropyFault → Rose (E.faults hall.old.entropy.now) (E.faults hall.new.entropy.now) }

@@ -5,7 +5,7 @@ ghost use Rattle.std.specs.Option.{option_and_then, option_map};
 ghost use Rattle.cipher_profile.specs.KeyLine.{key_line};
 ghost use Rattle.cipher_profile.specs.Profile.{IsListed, profile_named};
 ghost use Rattle.session_hall.specs.Machine.{IsListedStep};
-ghost use Rattle.session_play.specs.Script.{change_form, step_form, is_space, key_form, key_step, lock_step, number_below, plain_form, read_form, secret_in, session_named, step_by, step_of, line_words};
+ghost use Rattle.session_play.specs.Script.{change_form, step_form, is_space, key_form, secret_step, lock_step, number_below, plain_form, read_form, secret_in, session_named, step_by, step_of, line_words};
 
 use crate::rest::Rest;
 use cipher_profile::{Profile, Secret, profile_of, read_key};
@@ -163,7 +163,7 @@ fn lock_step(name: &[u8]) -> Option<Step>
 // The step that names a profile and has this key.
 fn key_step(name: &[u8], secret: Secret, profile: Profile) -> Option<Step>
     requires { IsListed profile }
-    ensures value { result ≡ key_step name.now secret profile }
+    ensures value { result ≡ secret_step name.now secret profile }
     ensures listed { IfSome result IsListedStep }
 {
     if name == b"open".as_slice() {

@@ -1,5 +1,5 @@
 -- A script on the recovered file: how its run goes on from the recovery, and where nothing stands in its way.
-use Rattle.std.proofs.Common.{◌≡◌, ◌≢◌, ◌⊎◌, ⊎_elim, inl, inr, ℕ, zero, suc, ◌<◌, ◌≤◌, ◌+◌, Bool, true, false, List, [], ◌∷◌, ◌++◌, length, map, Option, Some, None, Result, Ok, Err, IsTrue, if◌then◌else◌, refl, sym, ap, subst, ◌∙◌, arith}
+use Rattle.std.proofs.Common.{◌≡◌, ◌≢◌, ◌⊎◌, ⊎_elim, inl, inr, ℕ, ◌<◌, ◌≤◌, ◌+◌, Bool, true, false, List, [], ◌∷◌, ◌++◌, length, map, Option, Some, None, Result, Ok, Err, IsTrue, if◌then◌else◌, refl, sym, ap, subst, ◌∙◌, arith}
 use Rattle.std.specs.Prelude.{IsOk, IsSome, All, codes, slice_index_or}
 use Rattle.std.specs.Str.{bytes_eq}
 use Rattle.std.proofs.lemmas.Slice.Eq.{bytes_eq-Decides}
@@ -10,9 +10,9 @@ use Rattle.edge_model.specs.Files.{Files}
 use Rattle.rollback_journal.specs.Recovery.{KeepsRecovered}
 use Rattle.rollback_journal.specs.declared.recovery.Recovery.{Recovery}
 use Rattle.rollback_journal.specs.declared.recovery.RecoverError.{RecoverError}
-use Rattle.session_hall.specs.Machine.{State}
+use Rattle.session_hall.specs.Machine.{HallState}
 use Rattle.session_play.specs.Moments.{IsOnWay}
-use Rattle.session_play.specs.Play.{IsBehind, Plays, line_of_reply, longest_line, most_lines}
+use Rattle.session_play.specs.Play.{IsBehind, PlaysLines, line_of_reply, most_lines}
 use Rattle.session_play.specs.Reply.{Reply}
 use Rattle.session_play.specs.Script.{script_lines, step_of}
 use Rattle.session_play.specs.declared.playing.PlayError.{PlayError}
@@ -31,7 +31,7 @@ use Rattle.sqlcipher_tool.specs.declared.opening.Stop.{Stop}
 use Rattle.sqlcipher_tool.specs.declared.opening.Stop.TheVariants.{Refused as StopRefused, KeyRefused as StopKey, DiskFault as StopDisk, OutOfMemory as StopMemory}
 use Rattle.sqlcipher_tool.specs.declared.status.Refusal.{Refusal}
 use Rattle.sqlcipher_tool.specs.declared.status.Status.{Status}
-use Rattle.sqlcipher_tool.specs.declared.status.Status.TheVariants.{Done, DiskFault, OutputFault, InputFault, EntropyFault, OutOfMemory}
+use Rattle.sqlcipher_tool.specs.declared.status.Status.TheVariants.{DiskFault, OutputFault, InputFault, EntropyFault, OutOfMemory}
 use Rattle.sqlcipher_tool.proofs.Completeness.{faulted}
 
 -- ---- the words
@@ -80,11 +80,11 @@ pub keeps_itself : (size : ℕ) (image : Files) → KeepsRecovered size image im
 keeps_itself size image = record { no_other = λ file is. is; still = λ file is. (file, is); fresh = refl }
 
 -- a script whose moments leave more
-plays_more : {T : Type 0} (layout : Profile) (played : Result T PlayError) (source sink disk : Bool) {leaves more have : (Files → Type 0) → Type 0}
-    {left rest before after : List ℕ} {old new : State} → (IsTrue disk → (P : Files → Type 0) → leaves P → more P)
-    → Plays layout played source sink disk leaves have left rest before after old new
-    → Plays layout played source sink disk more have left rest before after old new
-plays_more layout played source sink disk {old = old} gives script = record {
+plays_more : {T : Type 0} (layout : Profile) (played : Result T PlayError) (source sink disk entropy : Bool) {leaves more have : (Files → Type 0) → Type 0}
+    {left rest before after drawn drawn_after : List ℕ} {old new : HallState} → (IsTrue disk → (P : Files → Type 0) → leaves P → more P)
+    → PlaysLines layout played source sink disk entropy leaves have left rest before after drawn drawn_after old new
+    → PlaysLines layout played source sink disk entropy more have left rest before after drawn drawn_after old new
+plays_more layout played source sink disk entropy {old = old} gives script = record {
   replies = script.replies;
   behind = script.behind;
   few = script.few;
@@ -94,33 +94,34 @@ plays_more layout played source sink disk {old = old} gives script = record {
   stop = script.stop;
   text = script.text;
   run = script.run;
+  draws = script.draws;
   moments = λ told. gives told (IsOnWay layout old script.replies) (script.moments told);
 }
 
-pub played_more : {T : Type 0} (layout : Profile) (played : Result T PlayError) (source sink disk : Bool) {leaves more : (Files → Type 0) → Type 0}
-    {now : Files} {images : Files → Type 0} {left rest before after : List ℕ} {hall : State} → (IsTrue disk → (P : Files → Type 0) → leaves P → more P)
-    → IsScriptPlayedIn layout played source sink disk leaves now images left rest before after hall
-    → IsScriptPlayedIn layout played source sink disk more now images left rest before after hall
-played_more layout played source sink disk gives script = record {
+pub played_more : {T : Type 0} (layout : Profile) (played : Result T PlayError) (source sink disk entropy : Bool) {leaves more : (Files → Type 0) → Type 0}
+    {now : Files} {images : Files → Type 0} {left rest before after drawn drawn_after : List ℕ} {hall : HallState} → (IsTrue disk → (P : Files → Type 0) → leaves P → more P)
+    → IsScriptPlayedIn layout played source sink disk entropy leaves now images left rest before after drawn drawn_after hall
+    → IsScriptPlayedIn layout played source sink disk entropy more now images left rest before after drawn drawn_after hall
+played_more layout played source sink disk entropy gives script = record {
   last = script.last;
   is_main = script.is_main;
-  plays = plays_more layout played source sink disk gives script.plays;
+  plays = plays_more layout played source sink disk entropy gives script.plays;
   settled = script.settled;
   taken = script.taken;
 }
 
 -- it was played on the recovered file
-pub played_recovered : (layout : Profile) (status : Status) (source sink disk : Bool) {leaves more : (Files → Type 0) → Type 0}
-    {now : Files} {images : Files → Type 0} {left rest before after file main : List ℕ} → (IsTrue disk → main ≡ file)
+pub played_recovered : (layout : Profile) (status : Status) (source sink disk entropy : Bool) {leaves more : (Files → Type 0) → Type 0}
+    {now : Files} {images : Files → Type 0} {left rest before after drawn drawn_after file main : List ℕ} → (IsTrue disk → main ≡ file)
     → (IsTrue disk → (P : Files → Type 0) → leaves P → more P)
-    → IsScriptPlayedOn layout main status source sink disk leaves now images left rest before after
-    → IsScriptPlayedOn layout file status source sink disk more now images left rest before after
-played_recovered layout status source sink disk same gives script = record {
+    → IsScriptPlayedOn layout main status source sink disk entropy leaves now images left rest before after drawn drawn_after
+    → IsScriptPlayedOn layout file status source sink disk entropy more now images left rest before after drawn drawn_after
+played_recovered layout status source sink disk entropy same gives script = record {
   played = script.played;
   shown = script.shown;
   hall = script.hall;
-  opened = λ told. record { main = (script.opened told).main ∙ same told; laid = (script.opened told).laid; all_closed = (script.opened told).all_closed };
-  script = played_more layout script.played source sink disk gives script.script;
+  opened = λ told. let opened = script.opened told in record { main = opened.main ∙ same told; laid = opened.laid; many = opened.many; all_closed = opened.all_closed; no_page = opened.no_page };
+  script = played_more layout script.played source sink disk entropy gives script.script;
   ends = script.ends;
 }
 
@@ -217,13 +218,13 @@ module _ (layout : Profile) (status : Status) (sink : Bool) (a b d e f g h i : �
   ended (Err EntropyFails) lines behind rest shown after replies is few good stop ends = fault EntropyFault tt ends.0
   ended (Err MemoryEnds) lines behind rest shown after replies is few good stop ends = inr ends.0
 
-  pub play_done : (source tells : Bool) (run : DiskRun) (left rest before after : List ℕ) → IsTrue source → IsTrue tells → IsOk (recovery_of layout run.before)
+  pub play_done : (source tells draws : Bool) (run : DiskRun) (left rest before after drawn drawn_after : List ℕ) → IsTrue source → IsTrue tells → IsOk (recovery_of layout run.before)
       → length (script_lines left) ≤ most_lines → All (IsGoodLine layout) (script_lines left)
-      → PlaysScript layout status source sink tells run left rest before after → IsDoneOrStarved status
-  play_done source tells run left rest before after told_source told recovers few good (inl unread) =
+      → PlaysScript layout status source sink tells draws run left rest before after drawn drawn_after → IsDoneOrStarved status
+  play_done source tells draws run left rest before after drawn drawn_after told_source told recovers few good (inl unread) =
       ⊎_elim (λ way. absurd (accepted_recovery (refused way.0) (recovery_of layout run.before) recovers (way.1.1 told)))
       (λ way. ⊎_elim (fault DiskFault tt) (λ memory. inr memory) way.0) unread.ends
-  play_done source tells run left rest before after told_source told recovers few good (inr played) =
+  play_done source tells draws run left rest before after drawn drawn_after told_source told recovers few good (inr played) =
       let on = played.script in
       let plays = on.script.plays in
       ended on.played (script_lines left) plays.behind rest on.shown after plays.replies (plays.lines told_source) few good (plays.stop told_source) on.ends

@@ -7,8 +7,8 @@ use Rattle.edge_model.specs.Files.{Files, main_of}
 use Rattle.edge_model.specs.Images.{Each, From}
 use Rattle.rollback_journal.specs.Recovery.{KeepsRecovered}
 use Rattle.session_hall.specs.Kept.{AreAllClosed, IsHallSettled}
-use Rattle.session_hall.specs.Machine.{State}
-use Rattle.session_play.specs.Play.{GoesOn, Plays, longest_line, most_lines}
+use Rattle.session_hall.specs.Machine.{HallState}
+use Rattle.session_play.specs.Play.{StaysUp, PlaysLines, longest_line, most_lines}
 use Rattle.session_play.specs.Script.{script_lines, step_of}
 use Rattle.session_play.specs.declared.playing.PlayError.{PlayError}
 use Rattle.session_play.specs.declared.playing.PlayError.TheVariants.{ScriptLine as NoStep, LineTooLong as LongLine, TooManyLines as ManyLines, DiskFault as DiskFails, OutputFault as OutputFails, InputFault as InputFails, EntropyFault as EntropyFails, OutOfMemory as MemoryEnds}
@@ -71,41 +71,44 @@ abbrev pub IsDueTo : Profile → Bool → Files → Refusal → Type 0
 IsDueTo profile tells files refusal =
     IsUnrecovered (Refused refusal) × (IsTrue tells → refused_answer (recovery_of profile files) ≡ Some (refused refusal))
 
--- The journal was refused, or the disk failed or memory ran out, and then nothing is printed. No line was read, and at each moment an image
--- recovers to what one at the start recovers to.
-pub record IsScriptUnread (profile : Profile) (status : Status) (sink disk : Bool) (run : DiskRun) (left rest before after : List ℕ) : Type 0 where
+-- The journal was refused, or the disk failed or memory ran out, and then nothing is printed. No line was read and nothing drawn, and at each
+-- moment an image recovers to what one at the start recovers to.
+pub record IsScriptUnread (profile : Profile) (status : Status) (sink disk : Bool) (run : DiskRun) (left rest before after drawn drawn_after : List ℕ) : Type 0 where
   pub ends :
       ((refusal : Refusal) × IsDueTo profile disk run.before refusal × EndsRefused refusal status sink before after)
       ⊎ (((status ≡ DiskFault) ⊎ (status ≡ OutOfMemory)) × (after ≡ before))
   pub unread : rest ≡ left
+  pub undrawn : drawn_after ≡ drawn
   pub moments : IsTrue disk → Each run.ever (From (KeepsRecovered profile.page_size) run.at_start)
 
 -- ---- the script
 
--- a hall that was opened on this file: all its sessions are closed
-pub record IsOpenedHall (layout : Profile) (file : List ℕ) (hall : State) : Type 0 where
+-- a hall that was opened on this file: all its sixteen sessions are closed, and no page was read
+pub record IsOpenedHall (layout : Profile) (file : List ℕ) (hall : HallState) : Type 0 where
   pub main : hall.file ≡ file
   pub laid : hall.layout ≡ layout
+  pub many : length hall.sessions ≡ 16
   pub all_closed : AreAllClosed hall.sessions
+  pub no_page : hall.page ≡ []
 
 -- The script was played in this hall, which ends as this one. Where no step failed, each image at the end is as the disk reads, with no
 -- journal beside a Main with a byte; what it may be after one that failed is said with the replies.
-pub record IsScriptPlayedIn {T : Type 0} (layout : Profile) (played : Result T PlayError) (source sink disk : Bool) (leaves : (Files → Type 0) → Type 0)
-    (now : Files) (images : Files → Type 0) (left rest before after : List ℕ) (hall : State) : Type 0 where
-  pub last : State
+pub record IsScriptPlayedIn {T : Type 0} (layout : Profile) (played : Result T PlayError) (source sink disk entropy : Bool) (leaves : (Files → Type 0) → Type 0)
+    (now : Files) (images : Files → Type 0) (left rest before after drawn drawn_after : List ℕ) (hall : HallState) : Type 0 where
+  pub last : HallState
   pub is_main : IsTrue disk → last.file ≡ main_of now
-  pub plays : Plays layout played source sink disk leaves (Each images) left rest before after hall last
-  pub settled : GoesOn played → IsTrue disk → IsHallSettled now images
+  pub plays : PlaysLines layout played source sink disk entropy leaves (Each images) left rest before after drawn drawn_after hall last
+  pub settled : StaysUp played → IsTrue disk → IsHallSettled now images
   pub taken : IsTrue source → (n : ℕ) × (rest ≡ drop n left)
 
 -- A script was played on this file, and so it ended.
-pub record IsScriptPlayedOn (layout : Profile) (file : List ℕ) (status : Status) (source sink disk : Bool) (leaves : (Files → Type 0) → Type 0)
-    (now : Files) (images : Files → Type 0) (left rest before after : List ℕ) : Type 0 where
+pub record IsScriptPlayedOn (layout : Profile) (file : List ℕ) (status : Status) (source sink disk entropy : Bool) (leaves : (Files → Type 0) → Type 0)
+    (now : Files) (images : Files → Type 0) (left rest before after drawn drawn_after : List ℕ) : Type 0 where
   pub played : Result (Unit {0}) PlayError
   pub shown : List ℕ
-  pub hall : State
+  pub hall : HallState
   pub opened : IsTrue disk → IsOpenedHall layout file hall
-  pub script : IsScriptPlayedIn layout played source sink disk leaves now images left rest before shown hall
+  pub script : IsScriptPlayedIn layout played source sink disk entropy leaves now images left rest before shown drawn drawn_after hall
   pub ends : EndsScript played status sink shown after
 
 -- At each moment an image recovers to what one at the start recovers to, or has this.
@@ -113,14 +116,16 @@ abbrev pub LeavesOldOr : ℕ → DiskRun → (Files → Type 0) → Type 0
 LeavesOldOr size run P = Each run.ever (λ image. From (KeepsRecovered size) run.at_start image ⊎ P image)
 
 -- Main was recovered, and a script was played on it.
-pub record IsScriptPlayed (profile : Profile) (status : Status) (source sink disk : Bool) (run : DiskRun) (left rest before after : List ℕ) : Type 0 where
+pub record IsScriptPlayed (profile : Profile) (status : Status) (source sink disk entropy : Bool) (run : DiskRun) (left rest before after drawn drawn_after : List ℕ) : Type 0 where
   pub recovers : IsTrue disk → IsOk (recovery_of profile run.before)
-  pub script : IsScriptPlayedOn profile (recovered_main profile run.before) status source sink disk (LeavesOldOr profile.page_size run) run.after run.at_exit left rest before after
+  pub script : IsScriptPlayedOn profile (recovered_main profile run.before) status source sink disk entropy (LeavesOldOr profile.page_size run) run.after run.at_exit
+      left rest before after drawn drawn_after
 
--- A run of `play`. The three flags say of the source, the sink and the disk whether they tell of their bytes.
-abbrev pub PlaysScript : Profile → Status → Bool → Bool → Bool → DiskRun → List ℕ → List ℕ → List ℕ → List ℕ → Type 0
-PlaysScript profile status source sink disk run left rest before after =
-    IsScriptUnread profile status sink disk run left rest before after ⊎ IsScriptPlayed profile status source sink disk run left rest before after
+-- A run of `play`. The four flags say of the source, the sink, the disk and the entropy whether they tell of their bytes.
+abbrev pub PlaysScript : Profile → Status → Bool → Bool → Bool → Bool → DiskRun → List ℕ → List ℕ → List ℕ → List ℕ → List ℕ → List ℕ → Type 0
+PlaysScript profile status source sink disk entropy run left rest before after drawn drawn_after =
+    IsScriptUnread profile status sink disk run left rest before after drawn drawn_after
+    ⊎ IsScriptPlayed profile status source sink disk entropy run left rest before after drawn drawn_after
 
 -- ---- where nothing stands in its way
 

@@ -4,7 +4,7 @@ ghost use Rattle.cipher_profile.specs.Profile.{IsListed, is_plain};
 ghost use Rattle.edge_model.specs.Causes.{Rose};
 ghost use Rattle.edge_model.specs.Files.{main_of};
 ghost use Rattle.edge_model.specs.Images.{LeavesOnly};
-ghost use Rattle.session_hall.specs.Kept.{IsHallSettled, IsKept};
+ghost use Rattle.session_hall.specs.Kept.{IsHallSettled, IsHallKept};
 ghost use Rattle.session_hall.specs.Machine.{state};
 ghost use Rattle.sqlcipher_tool.specs.Answer.{IsEarly};
 ghost use Rattle.sqlcipher_tool.specs.Holding.{disk_run};
@@ -31,8 +31,8 @@ pub fn play_file<K: Source, S: Sink, E: Entropy, D: Disk>(
     disk: &mut D,
 ) -> Status
     requires { IsListed profile }
-    ensures plays { PlaysScript profile result K.tells S.tells D.tells (disk_run D.reads D.images D.moment D.since disk.old disk.new)
-        (K.left input.old) (K.left input.new) (S.taken out.old) (S.taken out.new) }
+    ensures plays { PlaysScript profile result K.tells S.tells D.tells E.tells (disk_run D.reads D.images D.moment D.since disk.old disk.new)
+        (K.left input.old) (K.left input.new) (S.taken out.old) (S.taken out.new) (E.drawn entropy.old) (E.drawn entropy.new) }
     ensures undrawn { is_plain profile ≡ true → (entropy.new ≡ entropy.old) × (result ≢ Status.EntropyFault) }
     ensures unrecovered { IsTrue D.tells → IsUnrecovered result → D.reads disk.new ≡ D.reads disk.old }
     ensures late { IsEarly result → ⊥ }
@@ -66,8 +66,8 @@ fn play_recovered<K: Source, S: Sink, E: Entropy, D: Disk>(
     requires listed { IsListed profile }
     requires layout { seats.layout ≡ profile }
     requires settled { IsTrue D.tells → IsHallSettled (D.reads disk.old) (D.images disk.old) }
-    ensures played { IsScriptPlayedOn profile (main_of (D.reads disk.old)) result K.tells S.tells D.tells (LeavesOnly D.moment D.since disk.old disk.new)
-        (D.reads disk.new) (D.images disk.new) (K.left input.old) (K.left input.new) (S.taken out.old) (S.taken out.new) }
+    ensures played { IsScriptPlayedOn profile (main_of (D.reads disk.old)) result K.tells S.tells D.tells E.tells (LeavesOnly D.moment D.since disk.old disk.new)
+        (D.reads disk.new) (D.images disk.new) (K.left input.old) (K.left input.new) (S.taken out.old) (S.taken out.new) (E.drawn entropy.old) (E.drawn entropy.new) }
     ensures undrawn { is_plain profile ≡ true → (entropy.new ≡ entropy.old) × (result ≢ Status.EntropyFault) }
     ensures recovered { IsUnrecovered result → ⊥ }
     ensures late { IsEarly result → ⊥ }
@@ -98,11 +98,11 @@ fn play_in<'d, K: Source, S: Sink, D: Disk, E: Entropy>(
 ) -> (&'d mut D, &'d mut E, Result<(), PlayError>)
     requires listed { IsListed profile.now }
     requires up { hall.is_down ≡ false }
-    requires kept { IsTrue D.tells → IsKept (D.reads hall.disk.now) (D.images hall.disk.now) hall.sessions.items }
+    requires kept { IsTrue D.tells → IsHallKept (D.reads hall.disk.now) (D.images hall.disk.now) hall.sessions.items }
     ensures disk { result.0.ghost_name ≡ hall.entry.disk.ghost_name }
     ensures entropy { result.1.ghost_name ≡ hall.entry.entropy.ghost_name }
-    ensures played { IsScriptPlayedIn profile.now result.2 K.tells S.tells D.tells (LeavesOnly D.moment D.since hall.entry.disk.now result.0.now)
-        (D.reads result.0.now) (D.images result.0.now) (K.left input.old) (K.left input.new) (S.taken out.old) (S.taken out.new)
+    ensures played { IsScriptPlayedIn profile.now result.2 K.tells S.tells D.tells E.tells (LeavesOnly D.moment D.since hall.entry.disk.now result.0.now)
+        (D.reads result.0.now) (D.images result.0.now) (K.left input.old) (K.left input.new) (S.taken out.old) (S.taken out.new) (E.drawn hall.entry.entropy.now) (E.drawn result.1.now)
         (state (D.reads hall.entry.disk.now) hall.entry.layout hall.entry.sessions.items hall.entry.page) }
     ensures undrawn { is_plain hall.entry.layout ≡ true → (result.1.now ≡ hall.entry.entropy.now) × (result.2 ≢ Err PlayError.EntropyFault) }
     ensures input_fault { result.2 ≡ Err PlayError.InputFault → Rose (K.faults input.old) (K.faults input.new) }

@@ -103,10 +103,10 @@ pub fn run<K: Source, S: Sink, E: Entropy, D: Disk>(
     ensures changes { IsTrue D.tells → (command : Asked) → form (texts words.now) ≡ Some command
         → ChangesBy result command (GaveKeys K.tells (asked_keys command) (K.left input.old)) E.tells (drop (length (E.drawn entropy.old)) (E.drawn entropy.new)) (disk_run D.reads D.images D.moment D.since disk.old disk.new) }
 
-    // A script of sessions: what is printed, that the steps are a run of the machine, and what a stop leaves at every moment.
+    // A script of sessions: what is printed, that the steps are a run of the machine, what they draw, and what a stop leaves at every moment.
     ensures plays { (profile : Played) → play_form (texts words.now) ≡ Some profile
-        → PlaysScript profile result K.tells S.tells D.tells (disk_run D.reads D.images D.moment D.since disk.old disk.new)
-        (K.left input.old) (K.left input.new) (S.taken out.old) (S.taken out.new) }
+        → PlaysScript profile result K.tells S.tells D.tells E.tells (disk_run D.reads D.images D.moment D.since disk.old disk.new)
+        (K.left input.old) (K.left input.new) (S.taken out.old) (S.taken out.new) (E.drawn entropy.old) (E.drawn entropy.new) }
     ensures complete_play { IsTrue K.tells → IsTrue D.tells → CanBePlayed (texts words.now) (K.left input.old) (D.reads disk.old)
         → NoneRose ((K.faults input.old, K.faults input.new) ∷ (S.faults out.old, S.faults out.new)
         ∷ (E.faults entropy.old, E.faults entropy.new) ∷ (D.faults disk.old, D.faults disk.new) ∷ []) → IsDoneOrStarved result }

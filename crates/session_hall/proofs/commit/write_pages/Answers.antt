@@ -1,12 +1,12 @@
-use Rattle.std.proofs.Common.{◌≡◌, ◌∙◌, ◌≤◌, inl, ℕ, true, IsTrue, List, length, Some, Ok, Err, refl, sym, ap, subst, arith, rules}
+use Rattle.std.proofs.Common.{◌≡◌, ◌∙◌, ◌≤◌, inl, ⊎_elim, ℕ, true, IsTrue, length, Some, Err, refl, sym, ap, subst, arith, rules}
 use Rattle.std.proofs.lemmas.Result.{on_ok_weaker}
-use Rattle.atomic_commit.specs.Commit.{IsCommitted, LeavesChanged}
-use Rattle.atomic_commit.specs.Database.{HoldsEither, HoldsOld, stored_pages}
+use Rattle.atomic_commit.specs.Commit.{LeavesChanged}
+use Rattle.atomic_commit.specs.Database.{HoldsOld}
 use Rattle.cipher_profile.proofs.Layouts.{IsListed-laid_out}
 use Rattle.cipher_profile.specs.Profile.{IsListed, usable}
 use Rattle.cipher_profile.specs.declared.profile.Profile.{Profile}
 use Rattle.edge_model.specs.Files.{Files, main_of}
-use Rattle.edge_model.specs.Images.{Each, LeavesOnly}
+use Rattle.edge_model.specs.Images.{LeavesOnly}
 use Rattle.edge_model.specs.OnlyRead.{OnlyRead}
 use Rattle.page_codec.specs.Page.{FileKeys, accepts}
 use Rattle.pager.specs.File.{page_stored}
@@ -14,16 +14,19 @@ use Rattle.pager.specs.Pages.{is_page_number, opened_pages}
 use Rattle.pager.specs.Opening.{IsRefusedBy, file_opened}
 use Rattle.pager.specs.Reads.{then_read}
 use Rattle.session_hall.specs.Commit.{StopsCommit, base_by, put_over}
+use Rattle.session_hall.specs.Draws.{HasDrawn}
+use Rattle.session_hall.specs.Kept.{IsHallSettled}
 use Rattle.session_hall.specs.Key.{codec_of}
-use Rattle.session_hall.specs.Machine.{HasSessionChanges, is_sealed, opened_by, page_count, write_access}
+use Rattle.session_hall.specs.Machine.{HasSessionChanges, is_sealed, opened_by, counted_pages, write_access}
 use Rattle.session_hall.specs.Session.{Session}
 use Rattle.session_hall.specs.Writing.{HasWritten}
 use Rattle.session_hall.specs.declared.step.Answer.{Answer}
 use Rattle.session_hall.proofs.Committed.{change_stops, old_read, refused_stops}
-use Rattle.session_hall.proofs.Committing.{all_old, begun, done, is_new, moments, one_new, still_accepted}
+use Rattle.session_hall.proofs.Committing.{all_old, begun, done, done_draws, moments, still_accepted}
 use Rattle.session_hall.proofs.Counting.{counted_open, open_long}
 use Rattle.session_hall.proofs.Sound.{read_settled}
-use Rattle.session_hall.proofs.Standing.{any_base, base_sizes, is_base, settled_bare}
+use Rattle.pager.proofs.Bases.{any_base, base_sizes, is_base}
+use Rattle.session_hall.proofs.Standing.{base_begins, each_settled, settled_bare}
 use Rattle.session_hall.proofs.Written.{err_case, ok_both}
 use Rattle.session_hall.proofs.commit.write_pages.Goals as goal
 
@@ -85,11 +88,11 @@ write_changes-disk-requires g c κs within =
     let p = c.into_pager-pager.result in
     let e = c.into_pager-pager.ensures in
     let codec_is : p.codec ≡ c.in-Ok.read = e.file.0 ∙ c.in-Ok-read.ensures.codec in
-    let counts : IsTrue d.tells → page_count (file_opened p.codec (main_of (d.reads p.disk.now))) ≡ Some p.count =
-    λ told. ap (λ (k : FileKeys). page_count (file_opened k (main_of (d.reads p.disk.now)))) codec_is
-    ∙ ap (λ (y : _). page_count (file_opened c.in-Ok.read (main_of (d.reads y)))) e.disk.1
-    ∙ ap (λ (fs : Files). page_count (file_opened c.in-Ok.read (main_of fs))) (c.read.ensures.only_read told).stays
-    ∙ ap page_count (c.in-Ok-read.ensures.opens told)
+    let counts : IsTrue d.tells → counted_pages (file_opened p.codec (main_of (d.reads p.disk.now))) ≡ Some p.count =
+    λ told. ap (λ (k : FileKeys). counted_pages (file_opened k (main_of (d.reads p.disk.now)))) codec_is
+    ∙ ap (λ (y : _). counted_pages (file_opened c.in-Ok.read (main_of (d.reads y)))) e.disk.1
+    ∙ ap (λ (fs : Files). counted_pages (file_opened c.in-Ok.read (main_of fs))) (c.read.ensures.only_read told).stays
+    ∙ ap counted_pages (c.in-Ok-read.ensures.opens told)
     ∙ ap (λ (n : ℕ). Some n) (sym e.file.2) in
     let run : IsTrue d.tells → OnlyRead d.reads d.images d.moment d.since old p.disk.now =
     λ told. subst (λ (y : _). OnlyRead d.reads d.images d.moment d.since old y) (sym e.disk.1) (then_read (c.codecs.ensures.only_read told) (c.read.ensures.only_read told)) in
@@ -104,7 +107,7 @@ write_changes-disk-requires g c κs within =
           (
             refl,
             (
-              is_base d.tells p.codec (main_of (d.reads p.disk.now)) p.count large e.some counts,
+              is_base d.tells p.codec (main_of (d.reads p.disk.now)) p.count (omega (arith, large)) e.some (λ told. base_begins p.codec (main_of (d.reads p.disk.now)) p.count (counts told) large e.some),
               (
                 λ told. begun d.reads d.images d.moment d.since g.met.D.Disk.counts_now g.met.D.Disk.only_now d.tells told x old p.disk.now (c.requires.settled told) (c.requires.sound told) c.requires.holds
                     c.sizes.ensures listed write_listed p.codec c.in-Ok.write p.count e.some (λ l. codec_is ∙ c.in-Ok.ensures.read told l) (λ l. c.in-Ok.ensures.write told l) (counts told) (run told),
@@ -133,11 +136,11 @@ returns-clause-committed g c =
     let p = c.into_pager-pager.result in
     let e = c.into_pager-pager.ensures in
     let codec_is : p.codec ≡ c.in-Ok.read = e.file.0 ∙ c.in-Ok-read.ensures.codec in
-    let counts : IsTrue d.tells → page_count (file_opened p.codec (main_of (d.reads p.disk.now))) ≡ Some p.count =
-    λ told. ap (λ (k : FileKeys). page_count (file_opened k (main_of (d.reads p.disk.now)))) codec_is
-    ∙ ap (λ (y : _). page_count (file_opened c.in-Ok.read (main_of (d.reads y)))) e.disk.1
-    ∙ ap (λ (fs : Files). page_count (file_opened c.in-Ok.read (main_of fs))) (c.read.ensures.only_read told).stays
-    ∙ ap page_count (c.in-Ok-read.ensures.opens told)
+    let counts : IsTrue d.tells → counted_pages (file_opened p.codec (main_of (d.reads p.disk.now))) ≡ Some p.count =
+    λ told. ap (λ (k : FileKeys). counted_pages (file_opened k (main_of (d.reads p.disk.now)))) codec_is
+    ∙ ap (λ (y : _). counted_pages (file_opened c.in-Ok.read (main_of (d.reads y)))) e.disk.1
+    ∙ ap (λ (fs : Files). counted_pages (file_opened c.in-Ok.read (main_of fs))) (c.read.ensures.only_read told).stays
+    ∙ ap counted_pages (c.in-Ok-read.ensures.opens told)
     ∙ ap (λ (n : ℕ). Some n) (sym e.file.2) in
     let run : IsTrue d.tells → OnlyRead d.reads d.images d.moment d.since old p.disk.now =
     λ told. subst (λ (y : _). OnlyRead d.reads d.images d.moment d.since old y) (sym e.disk.1) (then_read (c.codecs.ensures.only_read told) (c.read.ensures.only_read told)) in
@@ -150,60 +153,6 @@ returns-clause-committed g c =
     (d.reads end) (d.images end) (g.met.D.Disk.reads_now end) (subst (λ (s : Session). HasWritten (record { base = any_base d.tells p.codec (main_of (d.reads p.disk.now)) p.count; drawn = g.E.Entropy.drawn p.entropy.now }) p.codec c.in-Ok.write s
     (λ n. put_over s n ((opened_pages p.codec (main_of (d.reads p.disk.now)) p.count).page n)) g.E.Entropy.tells (g.E.Entropy.drawn w.result.1.now) (main_of (d.reads end))) c.codecs.ensures.same (changed told)) (new told))) w.ensures.changed w.ensures.new
 
-pub returns-clause-new : goal.returns-clause-new
-returns-clause-new g c =
-    let d = g.D.Disk in
-    let x = c.args.session.now in
-    let old = c.args.disk.now in
-    let file = main_of (d.reads old) in
-    let listed : IsListed x.access.profile = subst IsListed c.in-Ok.ensures.profiles.0 c.in-Ok.ensures.listed.0 in
-    let write_listed : IsListed (write_access x).profile = subst IsListed c.in-Ok.ensures.profiles.1 c.in-Ok.ensures.listed.1 in
-    let p = c.into_pager-pager.result in
-    let e = c.into_pager-pager.ensures in
-    let codec_is : p.codec ≡ c.in-Ok.read = e.file.0 ∙ c.in-Ok-read.ensures.codec in
-    let counts : IsTrue d.tells → page_count (file_opened p.codec (main_of (d.reads p.disk.now))) ≡ Some p.count =
-    λ told. ap (λ (k : FileKeys). page_count (file_opened k (main_of (d.reads p.disk.now)))) codec_is
-    ∙ ap (λ (y : _). page_count (file_opened c.in-Ok.read (main_of (d.reads y)))) e.disk.1
-    ∙ ap (λ (fs : Files). page_count (file_opened c.in-Ok.read (main_of fs))) (c.read.ensures.only_read told).stays
-    ∙ ap page_count (c.in-Ok-read.ensures.opens told)
-    ∙ ap (λ (n : ℕ). Some n) (sym e.file.2) in
-    let run : IsTrue d.tells → OnlyRead d.reads d.images d.moment d.since old p.disk.now =
-    λ told. subst (λ (y : _). OnlyRead d.reads d.images d.moment d.since old y) (sym e.disk.1) (then_read (c.codecs.ensures.only_read told) (c.read.ensures.only_read told)) in
-    let w = c.write_changes-disk in
-    let end = w.result.0.now in
-    let last : c.disk-1.given.0 ≡ end = search rules in
-    on_ok_weaker w.result.2 (λ new told. subst (λ (y : _). Each (d.images y) (IsCommitted (base_by x file) (main_of (d.reads y)))) (sym last)
-    (is_new d.reads d.images d.moment d.since g.met.D.Disk.counts_now g.met.D.Disk.only_now d.tells told x old p.disk.now (c.requires.settled told) (c.requires.sound told) c.requires.holds
-    c.sizes.ensures listed write_listed p.codec c.in-Ok.write p.count e.some (λ l. codec_is ∙ c.in-Ok.ensures.read told l) (λ l. c.in-Ok.ensures.write told l) (counts told) (run told)
-    (d.images end) (main_of (d.reads end)) (new told))) w.ensures.new
-
-pub returns-clause-one_new : goal.returns-clause-one_new
-returns-clause-one_new g c =
-    let d = g.D.Disk in
-    let x = c.args.session.now in
-    let old = c.args.disk.now in
-    let file = main_of (d.reads old) in
-    let listed : IsListed x.access.profile = subst IsListed c.in-Ok.ensures.profiles.0 c.in-Ok.ensures.listed.0 in
-    let write_listed : IsListed (write_access x).profile = subst IsListed c.in-Ok.ensures.profiles.1 c.in-Ok.ensures.listed.1 in
-    let p = c.into_pager-pager.result in
-    let e = c.into_pager-pager.ensures in
-    let codec_is : p.codec ≡ c.in-Ok.read = e.file.0 ∙ c.in-Ok-read.ensures.codec in
-    let counts : IsTrue d.tells → page_count (file_opened p.codec (main_of (d.reads p.disk.now))) ≡ Some p.count =
-    λ told. ap (λ (k : FileKeys). page_count (file_opened k (main_of (d.reads p.disk.now)))) codec_is
-    ∙ ap (λ (y : _). page_count (file_opened c.in-Ok.read (main_of (d.reads y)))) e.disk.1
-    ∙ ap (λ (fs : Files). page_count (file_opened c.in-Ok.read (main_of fs))) (c.read.ensures.only_read told).stays
-    ∙ ap page_count (c.in-Ok-read.ensures.opens told)
-    ∙ ap (λ (n : ℕ). Some n) (sym e.file.2) in
-    let run : IsTrue d.tells → OnlyRead d.reads d.images d.moment d.since old p.disk.now =
-    λ told. subst (λ (y : _). OnlyRead d.reads d.images d.moment d.since old y) (sym e.disk.1) (then_read (c.codecs.ensures.only_read told) (c.read.ensures.only_read told)) in
-    let w = c.write_changes-disk in
-    let end = w.result.0.now in
-    let last : c.disk-1.given.0 ≡ end = search rules in
-    on_ok_weaker w.result.2 (λ one told. subst (λ (y : _). LeavesOnly d.moment d.since old y (HoldsEither (base_by x file) (stored_pages x.access.profile.page_size x.pages (main_of (d.reads y))))) (sym last)
-    (one_new d.reads d.images d.moment d.since g.met.D.Disk.counts_now g.met.D.Disk.only_now d.tells told x old p.disk.now (c.requires.settled told) (c.requires.sound told) c.requires.holds
-    c.sizes.ensures listed write_listed p.codec c.in-Ok.write p.count e.some (λ l. codec_is ∙ c.in-Ok.ensures.read told l) (λ l. c.in-Ok.ensures.write told l) (counts told) (run told)
-    end (main_of (d.reads end)) (one told))) w.ensures.one_new
-
 pub returns-clause-stopped : goal.returns-clause-stopped
 returns-clause-stopped g c =
     let d = g.D.Disk in
@@ -215,11 +164,11 @@ returns-clause-stopped g c =
     let p = c.into_pager-pager.result in
     let e = c.into_pager-pager.ensures in
     let codec_is : p.codec ≡ c.in-Ok.read = e.file.0 ∙ c.in-Ok-read.ensures.codec in
-    let counts : IsTrue d.tells → page_count (file_opened p.codec (main_of (d.reads p.disk.now))) ≡ Some p.count =
-    λ told. ap (λ (k : FileKeys). page_count (file_opened k (main_of (d.reads p.disk.now)))) codec_is
-    ∙ ap (λ (y : _). page_count (file_opened c.in-Ok.read (main_of (d.reads y)))) e.disk.1
-    ∙ ap (λ (fs : Files). page_count (file_opened c.in-Ok.read (main_of fs))) (c.read.ensures.only_read told).stays
-    ∙ ap page_count (c.in-Ok-read.ensures.opens told)
+    let counts : IsTrue d.tells → counted_pages (file_opened p.codec (main_of (d.reads p.disk.now))) ≡ Some p.count =
+    λ told. ap (λ (k : FileKeys). counted_pages (file_opened k (main_of (d.reads p.disk.now)))) codec_is
+    ∙ ap (λ (y : _). counted_pages (file_opened c.in-Ok.read (main_of (d.reads y)))) e.disk.1
+    ∙ ap (λ (fs : Files). counted_pages (file_opened c.in-Ok.read (main_of fs))) (c.read.ensures.only_read told).stays
+    ∙ ap counted_pages (c.in-Ok-read.ensures.opens told)
     ∙ ap (λ (n : ℕ). Some n) (sym e.file.2) in
     let run : IsTrue d.tells → OnlyRead d.reads d.images d.moment d.since old p.disk.now =
     λ told. subst (λ (y : _). OnlyRead d.reads d.images d.moment d.since old y) (sym e.disk.1) (then_read (c.codecs.ensures.only_read told) (c.read.ensures.only_read told)) in
@@ -227,7 +176,7 @@ returns-clause-stopped g c =
     let end = w.result.0.now in
     let last : c.disk-1.given.0 ≡ end = search rules in
     err_case _ _ w.result.2 (λ answer is stopped told. change_stops d.reads d.images d.moment d.since old c.disk-1.given.0 answer (stopped told)
-    (λ memory. subst (λ (y : _). OnlyRead d.reads d.images d.moment d.since old y) (sym (last ∙ w.ensures.unwritten (is ∙ ap (λ (a : Answer). Err a) memory) told)) (run told))) w.ensures.stopped
+    (λ memory. subst (λ (y : _). OnlyRead d.reads d.images d.moment d.since old y) (sym (last ∙ (w.ensures.unwritten (is ∙ ap (λ (a : Answer). Err a) memory) told).0)) (run told))) w.ensures.stopped
 
 pub returns-clause-any_moment : goal.returns-clause-any_moment
 returns-clause-any_moment g c = λ told.
@@ -240,11 +189,11 @@ returns-clause-any_moment g c = λ told.
     let p = c.into_pager-pager.result in
     let e = c.into_pager-pager.ensures in
     let codec_is : p.codec ≡ c.in-Ok.read = e.file.0 ∙ c.in-Ok-read.ensures.codec in
-    let counts : IsTrue d.tells → page_count (file_opened p.codec (main_of (d.reads p.disk.now))) ≡ Some p.count =
-    λ told. ap (λ (k : FileKeys). page_count (file_opened k (main_of (d.reads p.disk.now)))) codec_is
-    ∙ ap (λ (y : _). page_count (file_opened c.in-Ok.read (main_of (d.reads y)))) e.disk.1
-    ∙ ap (λ (fs : Files). page_count (file_opened c.in-Ok.read (main_of fs))) (c.read.ensures.only_read told).stays
-    ∙ ap page_count (c.in-Ok-read.ensures.opens told)
+    let counts : IsTrue d.tells → counted_pages (file_opened p.codec (main_of (d.reads p.disk.now))) ≡ Some p.count =
+    λ told. ap (λ (k : FileKeys). counted_pages (file_opened k (main_of (d.reads p.disk.now)))) codec_is
+    ∙ ap (λ (y : _). counted_pages (file_opened c.in-Ok.read (main_of (d.reads y)))) e.disk.1
+    ∙ ap (λ (fs : Files). counted_pages (file_opened c.in-Ok.read (main_of fs))) (c.read.ensures.only_read told).stays
+    ∙ ap counted_pages (c.in-Ok-read.ensures.opens told)
     ∙ ap (λ (n : ℕ). Some n) (sym e.file.2) in
     let run : IsTrue d.tells → OnlyRead d.reads d.images d.moment d.since old p.disk.now =
     λ told. subst (λ (y : _). OnlyRead d.reads d.images d.moment d.since old y) (sym e.disk.1) (then_read (c.codecs.ensures.only_read told) (c.read.ensures.only_read told)) in
@@ -269,11 +218,11 @@ returns-clause-only_old g c = λ is told.
     let p = c.into_pager-pager.result in
     let e = c.into_pager-pager.ensures in
     let codec_is : p.codec ≡ c.in-Ok.read = e.file.0 ∙ c.in-Ok-read.ensures.codec in
-    let counts : IsTrue d.tells → page_count (file_opened p.codec (main_of (d.reads p.disk.now))) ≡ Some p.count =
-    λ told. ap (λ (k : FileKeys). page_count (file_opened k (main_of (d.reads p.disk.now)))) codec_is
-    ∙ ap (λ (y : _). page_count (file_opened c.in-Ok.read (main_of (d.reads y)))) e.disk.1
-    ∙ ap (λ (fs : Files). page_count (file_opened c.in-Ok.read (main_of fs))) (c.read.ensures.only_read told).stays
-    ∙ ap page_count (c.in-Ok-read.ensures.opens told)
+    let counts : IsTrue d.tells → counted_pages (file_opened p.codec (main_of (d.reads p.disk.now))) ≡ Some p.count =
+    λ told. ap (λ (k : FileKeys). counted_pages (file_opened k (main_of (d.reads p.disk.now)))) codec_is
+    ∙ ap (λ (y : _). counted_pages (file_opened c.in-Ok.read (main_of (d.reads y)))) e.disk.1
+    ∙ ap (λ (fs : Files). counted_pages (file_opened c.in-Ok.read (main_of fs))) (c.read.ensures.only_read told).stays
+    ∙ ap counted_pages (c.in-Ok-read.ensures.opens told)
     ∙ ap (λ (n : ℕ). Some n) (sym e.file.2) in
     let run : IsTrue d.tells → OnlyRead d.reads d.images d.moment d.since old p.disk.now =
     λ told. subst (λ (y : _). OnlyRead d.reads d.images d.moment d.since old y) (sym e.disk.1) (then_read (c.codecs.ensures.only_read told) (c.read.ensures.only_read told)) in
@@ -284,3 +233,56 @@ returns-clause-only_old g c = λ is told.
     (all_old d.reads d.images d.moment d.since g.met.D.Disk.counts_now g.met.D.Disk.only_now d.tells told x old p.disk.now (c.requires.settled told) (c.requires.sound told) c.requires.holds
     c.sizes.ensures listed write_listed p.codec c.in-Ok.write p.count e.some (λ l. codec_is ∙ c.in-Ok.ensures.read told l) (λ l. c.in-Ok.ensures.write told l) (counts told) (run told)
     end (w.ensures.only_old is told))
+
+pub returns-clause-drawn : goal.returns-clause-drawn
+returns-clause-drawn g c =
+    let d = g.D.Disk in
+    let x = c.args.session.now in
+    let old = c.args.disk.now in
+    let file = main_of (d.reads old) in
+    let listed : IsListed x.access.profile = subst IsListed c.in-Ok.ensures.profiles.0 c.in-Ok.ensures.listed.0 in
+    let write_listed : IsListed (write_access x).profile = subst IsListed c.in-Ok.ensures.profiles.1 c.in-Ok.ensures.listed.1 in
+    let p = c.into_pager-pager.result in
+    let e = c.into_pager-pager.ensures in
+    let codec_is : p.codec ≡ c.in-Ok.read = e.file.0 ∙ c.in-Ok-read.ensures.codec in
+    let counts : IsTrue d.tells → counted_pages (file_opened p.codec (main_of (d.reads p.disk.now))) ≡ Some p.count =
+    λ told. ap (λ (k : FileKeys). counted_pages (file_opened k (main_of (d.reads p.disk.now)))) codec_is
+    ∙ ap (λ (y : _). counted_pages (file_opened c.in-Ok.read (main_of (d.reads y)))) e.disk.1
+    ∙ ap (λ (fs : Files). counted_pages (file_opened c.in-Ok.read (main_of fs))) (c.read.ensures.only_read told).stays
+    ∙ ap counted_pages (c.in-Ok-read.ensures.opens told)
+    ∙ ap (λ (n : ℕ). Some n) (sym e.file.2) in
+    let run : IsTrue d.tells → OnlyRead d.reads d.images d.moment d.since old p.disk.now =
+    λ told. subst (λ (y : _). OnlyRead d.reads d.images d.moment d.since old y) (sym e.disk.1) (then_read (c.codecs.ensures.only_read told) (c.read.ensures.only_read told)) in
+    let w = c.write_changes-disk in
+    let end = w.result.0.now in
+    let last : c.disk-1.given.0 ≡ end = search rules in
+    let bytes : c.entropy-1.given.0 ≡ w.result.1.now = search rules in
+    on_ok_weaker w.result.2 (λ changed told draws.
+    subst (λ (y : _). HasDrawn x (main_of (d.reads y)) (g.E.Entropy.drawn c.args.entropy.now) (g.E.Entropy.drawn c.entropy-1.given.0)) (sym last)
+    (subst (λ (b : _). HasDrawn x (main_of (d.reads end)) (g.E.Entropy.drawn c.args.entropy.now) (g.E.Entropy.drawn b)) (sym bytes)
+    (subst (λ (b : _). HasDrawn x (main_of (d.reads end)) (g.E.Entropy.drawn b) (g.E.Entropy.drawn w.result.1.now)) e.entropy.1
+    (done_draws d.reads d.images d.moment d.since g.met.D.Disk.counts_now g.met.D.Disk.only_now d.tells told x old p.disk.now (c.requires.settled told) (c.requires.sound told) c.requires.holds
+    c.sizes.ensures listed write_listed p.codec c.in-Ok.write p.count e.some (λ l. codec_is ∙ c.in-Ok.ensures.read told l) (λ l. c.in-Ok.ensures.write told l) (counts told) (run told) g.E.Entropy.tells (g.E.Entropy.drawn p.entropy.now) (g.E.Entropy.drawn w.result.1.now)
+    (main_of (d.reads end)) (subst (λ (s : Session). HasWritten (record { base = any_base d.tells p.codec (main_of (d.reads p.disk.now)) p.count; drawn = g.E.Entropy.drawn p.entropy.now }) p.codec c.in-Ok.write s
+    (λ n. put_over s n ((opened_pages p.codec (main_of (d.reads p.disk.now)) p.count).page n)) g.E.Entropy.tells (g.E.Entropy.drawn w.result.1.now) (main_of (d.reads end))) c.codecs.ensures.same (changed told)) draws)))) w.ensures.changed
+
+pub returns-clause-settled : goal.returns-clause-settled
+returns-clause-settled g c =
+    let d = g.D.Disk in
+    let old = c.args.disk.now in
+    let p = c.into_pager-pager.result in
+    let e = c.into_pager-pager.ensures in
+    let run : IsTrue d.tells → OnlyRead d.reads d.images d.moment d.since old p.disk.now =
+    λ told. subst (λ (y : _). OnlyRead d.reads d.images d.moment d.since old y) (sym e.disk.1) (then_read (c.codecs.ensures.only_read told) (c.read.ensures.only_read told)) in
+    let w = c.write_changes-disk in
+    let end = w.result.0.now in
+    let last : c.disk-1.given.0 ≡ end = search rules in
+    ok_both w.result.2 (λ settled new told. subst (λ (y : _). IsHallSettled (d.reads y) (d.images y)) (sym last)
+    (⊎_elim (λ read. read_settled (then_read (run told) read) (c.requires.settled told))
+    (λ each. each_settled (d.reads end) (d.images end) (g.met.D.Disk.reads_now end) each (λ image here. (new told image here).1)) (settled told))) w.ensures.settled w.ensures.new
+
+pub returns-clause-no_memory : goal.returns-clause-no_memory
+returns-clause-no_memory g c is told =
+    let w = c.write_changes-disk in
+    let bytes : c.entropy-1.given.0 ≡ w.result.1.now = search rules in
+    bytes ∙ (w.ensures.unwritten is told).1 ∙ c.into_pager-pager.ensures.entropy.1

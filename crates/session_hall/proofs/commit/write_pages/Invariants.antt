@@ -1,5 +1,5 @@
 use Rattle.edge_model.specs.Files.{main_of}
-use Rattle.session_hall.proofs.Standing.{any_base}
+use Rattle.pager.proofs.Bases.{any_base}
 use Rattle.session_hall.proofs.commit.write_pages.Given as goal
 
 -- The transaction starts from Main as it reads, and from all that was drawn.

@@ -1,11 +1,10 @@
-use Rattle.std.proofs.Common.{◌≡◌, ◌∙◌, ◌<◌, ◌≤◌, ℕ, List, length, Some, sym, ap, subst, arith}
+use Rattle.std.proofs.Common.{◌≡◌, ◌∙◌, ◌<◌, ◌≤◌, ℕ, length, Some, sym, ap, subst, arith}
 use Rattle.edge_model.specs.Files.{Files, main_of}
-use Rattle.edge_model.specs.OnlyRead.{OnlyRead}
 use Rattle.page_codec.specs.Page.{FileKeys}
 use Rattle.pager.specs.Opening.{IsRefusedBy, file_opened}
 use Rattle.pager.specs.Reads.{then_read}
 use Rattle.session_hall.specs.Key.{codec_of}
-use Rattle.session_hall.specs.Machine.{page_count}
+use Rattle.session_hall.specs.Machine.{counted_pages}
 use Rattle.session_hall.proofs.opening.count_pages.Goals as goal
 
 pub read-requires-clause-recovered : goal.read-requires-clause-recovered
@@ -23,9 +22,9 @@ returns-in-Ok-read-clause-opens g c = λ told.
     let long : 16 ≤ length (main_of (d.reads c.served_length.new.disk)) =
     omega (arith, c.in_ok-served_length.ensures.told told, c.in_ok-served_length.ensures.page, c.usable-usable.ensures.laid_out.least, ap (λ (f : Files). length (main_of f)) first) in
     let codec_is : c.in-Ok.codec ≡ codec_of x.access file = c.in-Ok.ensures.codec told long ∙ ap (λ (f : Files). codec_of x.access (main_of f)) first in
-    ap (λ (k : FileKeys). page_count (file_opened k file)) (sym codec_is)
-    ∙ ap (λ (f : Files). page_count (file_opened c.in-Ok.codec (main_of f))) (sym run.stays)
-    ∙ ap page_count (c.in-Ok-read.ensures.opens told)
+    ap (λ (k : FileKeys). counted_pages (file_opened k file)) (sym codec_is)
+    ∙ ap (λ (f : Files). counted_pages (file_opened c.in-Ok.codec (main_of f))) (sym run.stays)
+    ∙ ap counted_pages (c.in-Ok-read.ensures.opens told)
     ∙ ap (λ (n : ℕ). Some n) (sym c.pages.ensures.count)
 
 pub returns-in-Err-clause-refused : goal.returns-in-Err-clause-refused

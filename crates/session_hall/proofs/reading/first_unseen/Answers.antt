@@ -1,4 +1,4 @@
-use Rattle.std.proofs.Common.{◌≡◌, ◌∙◌, ◌+◌, ◌*◌, ◌≤◌, length, ℕ, Bool, true, false, List, Option, Some, Result, Ok, ⊎_elim, sym, ap, subst, arith}
+use Rattle.std.proofs.Common.{◌≡◌, ◌∙◌, ◌+◌, ◌≤◌, length, ℕ, Bool, true, List, Option, Some, Result, Ok, ⊎_elim, sym, ap, subst, arith}
 use Rattle.std.specs.Prelude.{IsSome}
 use Rattle.std.proofs.lemmas.Bool.{cases_eq}
 use Rattle.edge_model.specs.declared.role.Failed.{Failed}
@@ -8,7 +8,7 @@ use Rattle.pager.proofs.BatchLemmas.{number_is}
 use Rattle.cipher_profile.specs.declared.profile.Profile.{Profile}
 use Rattle.session_hall.specs.Key.{codec_of}
 use Rattle.session_hall.specs.Machine.{IsFirstUnseen, SeesUpTo, seen_page}
-use Rattle.session_hall.proofs.Cutting.{one_page}
+use Rattle.pager.proofs.Cutting.{one_page}
 use Rattle.session_hall.specs.Session.{Session}
 use Rattle.session_hall.proofs.reading.first_unseen.Goals as goal
 

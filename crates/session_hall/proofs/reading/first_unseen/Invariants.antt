@@ -1,4 +1,4 @@
-use Rattle.std.proofs.Common.{◌≡◌, ◌≤◌, IsTrue}
+use Rattle.std.proofs.Common.{◌≤◌, IsTrue}
 use Rattle.edge_model.specs.OnlyRead.{OnlyRead}
 use Rattle.edge_model.specs.Files.{main_of}
 use Rattle.session_hall.specs.Machine.{SeesUpTo}

@@ -1,11 +1,13 @@
-use Rattle.std.proofs.Common.{◌≡◌, ◌∙◌, ◌+◌, ◌-◌, ◌≤◌, ℕ, List, length, take, drop, arith, length-take, length-drop}
+use Rattle.std.proofs.Common.{◌∙◌, ◌+◌, ◌-◌, ◌≤◌, ℕ, List, length, take, drop, sym, ap, arith, length-take, length-drop}
 use Rattle.std.proofs.lemmas.List.{take_all}
 use Rattle.std.proofs.lemmas.Result.{on_ok_weaker}
 use Rattle.cipher_profile.specs.Profile.{usable}
 use Rattle.edge_model.specs.Files.{main_of}
 use Rattle.edge_model.specs.Moments.{started}
+use Rattle.pager.specs.Reads.{not_read}
 use Rattle.pager.specs.UnderWay.{seen_pages}
 use Rattle.atomic_commit.specs.Database.{HoldsOld}
+use Rattle.atomic_commit.specs.Marks.{marked_count}
 use Rattle.atomic_commit.proofs.Batched.{batches_hold_old}
 use Rattle.session_hall.proofs.Written.{one_written, put_written, same_written}
 use Rattle.session_hall.proofs.writing.put_page.Goals as goal
@@ -51,3 +53,14 @@ pub returns-else-rekeys-clause-any_moment : goal.returns-else-rekeys-clause-any_
 returns-else-rekeys-clause-any_moment g c = λ told.
     started g.met.D.Disk.only_now c.args.txn.now.disk.now (HoldsOld g.start.base)
     (λ d here. batches_hold_old g.start.base _ _ _ _ _ _ _ (c.requires.1.1.1.1.1.1.0 told).batches d here)
+
+pub returns-in-Some-clause-unrecorded : goal.returns-in-Some-clause-unrecorded
+returns-in-Some-clause-unrecorded g c =
+    on_ok_weaker c.write.result (λ step none. let still = step none in (ap marked_count (sym still.0) ∙ none, λ told. still.1.only_read told)) c.write.ensures.unrecorded
+
+pub returns-then-rekeys-clause-unrecorded : goal.returns-then-rekeys-clause-unrecorded
+returns-then-rekeys-clause-unrecorded g c =
+    on_ok_weaker c.write-then-rekeys.result (λ step none. let still = step none in (ap marked_count (sym still.0) ∙ none, λ told. still.1.only_read told)) c.write-then-rekeys.ensures.unrecorded
+
+pub returns-else-rekeys-clause-unrecorded : goal.returns-else-rekeys-clause-unrecorded
+returns-else-rekeys-clause-unrecorded g c = λ none. (none, λ told. not_read c.args.txn.now.disk.now)

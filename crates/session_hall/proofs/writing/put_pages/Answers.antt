@@ -1,10 +1,11 @@
-use Rattle.std.proofs.Common.{◌≡◌, ◌∙◌, ◌+◌, ◌==◌, ◌||◌, if◌then◌else◌, ℕ, Bool, true, false, List, refl, sym, ap, subst, arith}
+use Rattle.std.proofs.Common.{◌≡◌, ◌∙◌, ◌+◌, ◌||◌, ℕ, true, false, List, refl, sym, ap, subst, arith}
 use Rattle.edge_model.specs.Files.{main_of}
 use Rattle.edge_model.specs.Moments.{and_then, started}
 use Rattle.cipher_profile.specs.Profile.{usable}
 use Rattle.page_codec.specs.Page.{FileKeys, accepts}
 use Rattle.pager.specs.File.{page_stored}
 use Rattle.pager.specs.Pages.{is_page_number}
+use Rattle.pager.specs.Reads.{not_read, then_read}
 use Rattle.pager.specs.UnderWay.{is_touched, seen_pages}
 use Rattle.pager.proofs.BatchLemmas.{number_in, number_is}
 use Rattle.atomic_commit.specs.Database.{HoldsOld}
@@ -25,6 +26,7 @@ loop-done-init g c =
       touched = λ n num. r.1.1.0 n ∙ none_yet (is_sealed c.args.session.now) (λ k. false) n (number_in t.count n num).0;
       ready = r.1.1.1.0;
       under_way = r.1.1.1.1.0;
+      unrecorded = λ none told. not_read t.disk.now;
       any_moment = λ told. started g.met.D.Disk.only_now t.disk.now (HoldsOld g.start.base) (λ d here. batches_hold_old g.start.base _ _ _ _ _ _ _ (r.1.1.1.1.0 told).batches d here);
       names = (refl, refl);
       later = (omega arith, omega arith);
@@ -50,6 +52,7 @@ loop-done-preserved g c =
           (ok.touched n (subst (λ (k : ℕ). is_page_number k n ≡ true) (sym inv.file.2) num));
       ready = ok.ready;
       under_way = ok.under_way;
+      unrecorded = λ none told. let step = ok.unrecorded none in then_read (inv.unrecorded step.0 told) (step.1 told);
       any_moment = λ told. and_then (inv.any_moment told) (c.put_page.ensures.any_moment told);
       names = (c.put_page.ensures.names.0 ∙ inv.names.0, c.put_page.ensures.names.1 ∙ inv.names.1);
       later = (omega (arith, inv.later.0, c.put_page.ensures.later.0), omega (arith, inv.later.1, c.put_page.ensures.later.1));
@@ -149,3 +152,6 @@ returns-clause-later g c = c.loop-done.invariant.later
 
 pub returns-clause-file : goal.returns-clause-file
 returns-clause-file g c = c.loop-done.invariant.file
+
+pub returns-clause-unrecorded : goal.returns-clause-unrecorded
+returns-clause-unrecorded g c = c.loop-done.invariant.unrecorded

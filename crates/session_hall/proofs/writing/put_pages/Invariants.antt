@@ -1,9 +1,11 @@
 use Rattle.std.proofs.Common.{◌≡◌, ◌≤◌, ℕ, true, false, IsTrue}
 use Rattle.edge_model.specs.Files.{main_of}
 use Rattle.edge_model.specs.Images.{LeavesOnly}
+use Rattle.edge_model.specs.OnlyRead.{OnlyRead}
 use Rattle.pager.specs.Pages.{is_page_number}
 use Rattle.pager.specs.UnderWay.{IsReadyFor, IsUnderWay, is_touched, seen_pages}
 use Rattle.atomic_commit.specs.Database.{HoldsOld}
+use Rattle.atomic_commit.specs.Marks.{marked_count}
 use Rattle.session_hall.specs.Commit.{put_over}
 use Rattle.session_hall.specs.Machine.{is_sealed}
 use Rattle.session_hall.proofs.Written.{so_far}
@@ -25,6 +27,7 @@ invariant-loop-done g l = record {
   ready : IsReadyFor l.txn.recorded l.txn.writer;
   under_way : IsTrue g.D.Disk.tells → IsUnderWay g.start l.txn.write l.txn.recorded l.txn.written l.txn.writer (g.D.Disk.reads l.txn.disk.now)
       (g.D.Disk.images l.txn.disk.now) g.E.Entropy.tells (g.E.Entropy.drawn l.txn.entropy.now);
+  unrecorded : marked_count l.txn.recorded ≡ 0 → IsTrue g.D.Disk.tells → OnlyRead g.D.Disk.reads g.D.Disk.images g.D.Disk.moment g.D.Disk.since l.initial.txn.disk.now l.txn.disk.now;
   any_moment : IsTrue g.D.Disk.tells → LeavesOnly g.D.Disk.moment g.D.Disk.since l.initial.txn.disk.now l.txn.disk.now (HoldsOld g.start.base);
   names : (l.txn.disk.ghost_name ≡ l.initial.txn.disk.ghost_name) × (l.txn.entropy.ghost_name ≡ l.initial.txn.entropy.ghost_name);
   later : (g.D.Disk.faults l.initial.txn.disk.now ≤ g.D.Disk.faults l.txn.disk.now) × (g.E.Entropy.faults l.initial.txn.entropy.now ≤ g.E.Entropy.faults l.txn.entropy.now);

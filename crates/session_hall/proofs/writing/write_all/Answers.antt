@@ -1,8 +1,9 @@
-use Rattle.std.proofs.Common.{◌≡◌, ◌∙◌, inl, ℕ, List, false, true, sym, subst}
+use Rattle.std.proofs.Common.{◌≡◌, inl, inr, ⊎_elim, ℕ, List, false, true, sym, subst}
 use Rattle.std.proofs.lemmas.Result.{on_ok_weaker}
 use Rattle.edge_model.specs.Files.{main_of}
 use Rattle.edge_model.specs.Images.{LeavesOnly}
-use Rattle.edge_model.specs.Moments.{and_then, weaker}
+use Rattle.edge_model.specs.Moments.{and_then}
+use Rattle.edge_model.specs.OnlyRead.{OnlyRead}
 use Rattle.page_codec.specs.Page.{FileKeys}
 use Rattle.pager.specs.Pages.{is_page_number}
 use Rattle.pager.specs.UnderWay.{HasNewPages, is_touched, seen_pages}
@@ -10,7 +11,6 @@ use Rattle.atomic_commit.specs.Database.{HoldsOld}
 use Rattle.session_hall.specs.Commit.{put_over}
 use Rattle.session_hall.specs.Machine.{is_sealed}
 use Rattle.session_hall.specs.Writing.{is_unwritten_answer, page_answer}
-use Rattle.session_hall.specs.declared.step.Answer.{Answer}
 use Rattle.session_hall.proofs.Written.{changed_weaker, err_map, err_told, new_as, old_then, page_failed}
 use Rattle.session_hall.proofs.writing.write_all.Goals as goal
 
@@ -45,10 +45,6 @@ returns-in-Ok-clause-any_moment g c = λ told.
     (λ n num. ok.seen told n (subst (λ (p : ℕ). is_page_number p n ≡ true) (sym c.requires.1.1.0.1) num))
     has)) (c.finish.ensures.any_moment told))
 
-pub returns-in-Ok-clause-one_new : goal.returns-in-Ok-clause-one_new
-returns-in-Ok-clause-one_new g c =
-    on_ok_weaker c.finish.result.2 (λ run told. and_then (weaker (λ d old. inl old) (c.put_pages.ensures.any_moment told)) (run told)) c.finish.ensures.one_new
-
 pub returns-in-Ok-clause-only_old : goal.returns-in-Ok-clause-only_old
 returns-in-Ok-clause-only_old g c is told = and_then (c.put_pages.ensures.any_moment told) (c.finish.ensures.only_old is told)
 
@@ -69,3 +65,11 @@ pub returns-in-Err-clause-failed : goal.returns-in-Err-clause-failed
 returns-in-Err-clause-failed g c =
     err_told g.D.Disk.tells c.give_up.result.2 (page_answer c.in-Err.error) (λ told. (c.give_up.ensures.told told).1)
     (λ told. page_failed c.in-Err.error (λ still. (c.in-Err.ensures.refused still).1 told))
+
+pub returns-in-Ok-clause-settled : goal.returns-in-Ok-clause-settled
+returns-in-Ok-clause-settled g c =
+    let d = g.D.Disk in
+    let end = c.finish.result.0.now in
+    on_ok_weaker c.finish.result.2 (λ settled told. ⊎_elim
+    (λ still. inl (subst (λ (y : _). OnlyRead d.reads d.images d.moment d.since c.args.txn.disk.now y) (sym still.1) (c.in-Ok.ensures.unrecorded still.0 told)))
+    (λ each. inr each) (settled told)) c.finish.ensures.settled

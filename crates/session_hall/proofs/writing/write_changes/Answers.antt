@@ -1,16 +1,16 @@
-use Rattle.std.proofs.Common.{◌≡◌, ◌∙◌, inl, ℕ, Bool, true, false, List, refl, sym, ap, subst}
+use Rattle.std.proofs.Common.{◌≡◌, ◌∙◌, inl, inr, ⊎_elim, ℕ, true, sym, ap, subst}
 use Rattle.std.proofs.lemmas.Result.{on_ok_weaker}
 use Rattle.cipher_profile.specs.Profile.{usable}
 use Rattle.edge_model.specs.Files.{main_of}
 use Rattle.edge_model.specs.Images.{LeavesOnly}
 use Rattle.edge_model.specs.Moments.{started}
+use Rattle.edge_model.specs.OnlyRead.{OnlyRead}
 use Rattle.page_codec.specs.Page.{FileKeys, accepts}
 use Rattle.pager.specs.Changed.{same_layout}
 use Rattle.pager.specs.File.{page_stored}
 use Rattle.pager.specs.Pages.{is_page_number}
 use Rattle.pager.specs.UnderWay.{IsUnderWay}
-use Rattle.atomic_commit.specs.Database.{HoldsEither, HoldsOld, stored_pages}
-use Rattle.session_hall.specs.Machine.{is_sealed}
+use Rattle.atomic_commit.specs.Database.{HoldsOld}
 use Rattle.session_hall.proofs.Written.{begun_layout, changed_weaker, from_begun, usable_same}
 use Rattle.session_hall.proofs.writing.write_changes.Goals as goal
 
@@ -72,12 +72,6 @@ returns-in-Ok-clause-any_moment g c = λ told.
     layout e.file.0 e.file.1 (ap (λ (x : _). d.reads x) e.disk.1) e.file.2 e.unchanged.0 e.untouched has)
     (rw (sym e.disk.1) (c.write_all.ensures.any_moment told))
 
-pub returns-in-Ok-clause-one_new : goal.returns-in-Ok-clause-one_new
-returns-in-Ok-clause-one_new g c =
-    let d = g.D.Disk in
-    let new = stored_pages g.start.base.size g.start.base.pages (main_of (d.reads c.write_all.result.0.now)) in
-    on_ok_weaker c.write_all.result.2 (λ run told. subst (λ (x : _). LeavesOnly d.moment d.since x c.write_all.result.0.now (HoldsEither g.start.base new)) c.in-Ok.ensures.disk.1 (run told)) c.write_all.ensures.one_new
-
 pub returns-in-Err-clause-any_moment : goal.returns-in-Err-clause-any_moment
 returns-in-Err-clause-any_moment g c = λ told.
     let d = g.D.Disk in
@@ -86,3 +80,10 @@ returns-in-Err-clause-any_moment g c = λ told.
     let run : LeavesOnly d.moment d.since p.disk.now c.into_parts-disk.result.0.now (HoldsOld g.start.base) =
     rw same (started g.met.D.Disk.only_now p.disk.now (HoldsOld g.start.base) (λ files here. (c.requires.1.1.1.1.1.0 told).holds files here)) in
     inl run
+
+pub returns-in-Ok-clause-settled : goal.returns-in-Ok-clause-settled
+returns-in-Ok-clause-settled g c =
+    let d = g.D.Disk in
+    let end = c.write_all.result.0.now in
+    on_ok_weaker c.write_all.result.2 (λ settled told. ⊎_elim
+    (λ read. inl (subst (λ (x : _). OnlyRead d.reads d.images d.moment d.since x end) c.in-Ok.ensures.disk.1 read)) (λ each. inr each) (settled told)) c.write_all.ensures.settled

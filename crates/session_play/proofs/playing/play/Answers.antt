@@ -18,8 +18,8 @@ loop-carried-init g c =
     let d = g.D.Disk in
     let old = c.args.hall.now in
     record {
-      playing = begun c.args.layout.now g.K.Source.tells g.S.Sink.tells d.tells (LeavesOnly d.moment d.since old.disk.now old.disk.now)
-          (g.K.Source.left c.args.input.now) (g.S.Sink.taken c.args.out.now) (state (d.reads old.disk.now) old.layout old.sessions.items old.page)
+      playing = begun c.args.layout.now g.K.Source.tells g.S.Sink.tells d.tells g.E.Entropy.tells (LeavesOnly d.moment d.since old.disk.now old.disk.now)
+          (g.K.Source.left c.args.input.now) (g.S.Sink.taken c.args.out.now) (g.E.Entropy.drawn old.entropy.now) (state (d.reads old.disk.now) old.layout old.sessions.items old.page)
           (λ tells. begun_leaves d.reads d.images d.moment d.since g.met.D.Disk.only_now old.disk.now (c.requires.kept tells).settled);
       up = c.requires.up;
       kept = c.requires.kept;
@@ -54,9 +54,9 @@ loop-carried-preserved g c =
     let short : length line ≤ 1100 = omega (arith, length-take c.in-Line.len c.take_line.new.line, c.in-Line.ensures.short) in
     let up : new.is_down ≡ false = c.in-Ok.ensures.up tt in
     record {
-      playing = goes_on c.args.layout.now g.K.Source.tells g.S.Sink.tells d.tells leaves leaves_step leaves_new have (left c.args.input.now) (left loop.input) (taken c.args.out.now) (taken loop.out)
-          start mid loop.carried loop.invariant.playing
-          line (left c.take_line.new.source) (taken c.play_line.new.out) end
+      playing = goes_on c.args.layout.now g.K.Source.tells g.S.Sink.tells d.tells g.E.Entropy.tells leaves leaves_step leaves_new have (left c.args.input.now) (left loop.input) (taken c.args.out.now) (taken loop.out)
+          (g.E.Entropy.drawn old.entropy.now) (g.E.Entropy.drawn now.entropy.now) start mid loop.carried loop.invariant.playing
+          line (left c.take_line.new.source) (taken c.play_line.new.out) (g.E.Entropy.drawn new.entropy.now) end
           (joined d.reads d.images d.moment d.since old.disk.now now.disk.now new.disk.now)
           short (λ tells. c.in-Line.ensures.found tells) c.in-Ok.ensures.carried;
       up = up;
@@ -95,9 +95,9 @@ returns-in-Err-clause-played g c =
     let line : List ℕ = take c.in-Line.len c.take_line.new.line in
     let short : length line ≤ 1100 = omega (arith, length-take c.in-Line.len c.take_line.new.line, c.in-Line.ensures.short) in
     let few : loop.carried < 100000 = omega arith in
-    broken c.args.layout.now g.K.Source.tells g.S.Sink.tells d.tells leaves leaves_step leaves_new have (left c.args.input.now) (left loop.input) (taken c.args.out.now) (taken loop.out)
-    start mid loop.carried loop.invariant.playing
-    c.in-Err.error line (left c.take_line.new.source) (taken c.play_line.new.out) end
+    broken c.args.layout.now g.K.Source.tells g.S.Sink.tells d.tells g.E.Entropy.tells leaves leaves_step leaves_new have (left c.args.input.now) (left loop.input) (taken c.args.out.now) (taken loop.out)
+    (g.E.Entropy.drawn old.entropy.now) (g.E.Entropy.drawn now.entropy.now) start mid loop.carried loop.invariant.playing
+    c.in-Err.error line (left c.take_line.new.source) (taken c.play_line.new.out) (g.E.Entropy.drawn new.entropy.now) end
     (joined d.reads d.images d.moment d.since old.disk.now now.disk.now new.disk.now)
     (λ P run x here. at_exit g.met.D.Disk.counts_now run x here)
     few short (λ tells. c.in-Line.ensures.found tells)
@@ -118,8 +118,8 @@ returns-in-SourceFault-clause-played g c =
     let start = state (d.reads old.disk.now) old.layout old.sessions.items old.page in
     let mid = state (d.reads now.disk.now) now.layout now.sessions.items now.page in
     let few : loop.carried ≤ 100000 = omega arith in
-    stops c.args.layout.now g.K.Source.tells g.S.Sink.tells d.tells leaves leaves leaves have (left c.args.input.now) (left loop.input) (taken c.args.out.now) (taken loop.out)
-    start mid loop.carried loop.invariant.playing
+    stops c.args.layout.now g.K.Source.tells g.S.Sink.tells d.tells g.E.Entropy.tells leaves leaves leaves have (left c.args.input.now) (left loop.input) (taken c.args.out.now) (taken loop.out)
+    (g.E.Entropy.drawn old.entropy.now) (g.E.Entropy.drawn now.entropy.now) start mid loop.carried loop.invariant.playing
     (Err InputFault) (left c.take_line.new.source) (script_lines (left loop.input)) mid few (λ all. all) (λ text all. all) (λ tells. refl) (λ tells. tt) refl
 
 pub returns-in-End-clause-played : goal.returns-in-End-clause-played
@@ -135,8 +135,8 @@ returns-in-End-clause-played g c =
     let start = state (d.reads old.disk.now) old.layout old.sessions.items old.page in
     let mid = state (d.reads now.disk.now) now.layout now.sessions.items now.page in
     let all : loop.carried ≡ 100000 = omega arith in
-    limited c.args.layout.now g.K.Source.tells g.S.Sink.tells d.tells leaves leaves leaves have (left c.args.input.now) (left loop.input) (taken c.args.out.now) (taken loop.out)
-    start mid loop.carried loop.invariant.playing
+    limited c.args.layout.now g.K.Source.tells g.S.Sink.tells d.tells g.E.Entropy.tells leaves leaves leaves have (left c.args.input.now) (left loop.input) (taken c.args.out.now) (taken loop.out)
+    (g.E.Entropy.drawn old.entropy.now) (g.E.Entropy.drawn now.entropy.now) start mid loop.carried loop.invariant.playing
     End (left c.take_ending.new.source) all (λ tells. c.in-End.ensures.found tells)
 
 pub returns-in-More-clause-played : goal.returns-in-More-clause-played
@@ -152,8 +152,8 @@ returns-in-More-clause-played g c =
     let start = state (d.reads old.disk.now) old.layout old.sessions.items old.page in
     let mid = state (d.reads now.disk.now) now.layout now.sessions.items now.page in
     let all : loop.carried ≡ 100000 = omega arith in
-    limited c.args.layout.now g.K.Source.tells g.S.Sink.tells d.tells leaves leaves leaves have (left c.args.input.now) (left loop.input) (taken c.args.out.now) (taken loop.out)
-    start mid loop.carried loop.invariant.playing
+    limited c.args.layout.now g.K.Source.tells g.S.Sink.tells d.tells g.E.Entropy.tells leaves leaves leaves have (left c.args.input.now) (left loop.input) (taken c.args.out.now) (taken loop.out)
+    (g.E.Entropy.drawn old.entropy.now) (g.E.Entropy.drawn now.entropy.now) start mid loop.carried loop.invariant.playing
     More (left c.take_ending.new.source) all (λ tells. c.in-More.ensures.found tells)
 
 pub returns-in-SourceFault-take_ending-clause-played : goal.returns-in-SourceFault-take_ending-clause-played
@@ -169,8 +169,8 @@ returns-in-SourceFault-take_ending-clause-played g c =
     let start = state (d.reads old.disk.now) old.layout old.sessions.items old.page in
     let mid = state (d.reads now.disk.now) now.layout now.sessions.items now.page in
     let all : loop.carried ≡ 100000 = omega arith in
-    limited c.args.layout.now g.K.Source.tells g.S.Sink.tells d.tells leaves leaves leaves have (left c.args.input.now) (left loop.input) (taken c.args.out.now) (taken loop.out)
-    start mid loop.carried loop.invariant.playing
+    limited c.args.layout.now g.K.Source.tells g.S.Sink.tells d.tells g.E.Entropy.tells leaves leaves leaves have (left c.args.input.now) (left loop.input) (taken c.args.out.now) (taken loop.out)
+    (g.E.Entropy.drawn old.entropy.now) (g.E.Entropy.drawn now.entropy.now) start mid loop.carried loop.invariant.playing
     SourceFault (left c.take_ending.new.source) all (λ tells. c.in-SourceFault-take_ending.ensures.found tells)
 
 pub returns-in-Err-clause-undrawn : goal.returns-in-Err-clause-undrawn

@@ -1,7 +1,7 @@
 use Rattle.std.proofs.Common.{◌≡◌, ◌≤◌, ℕ, true, false, IsTrue, drop}
 use Rattle.cipher_profile.specs.Profile.{is_plain}
 use Rattle.edge_model.specs.Images.{LeavesOnly}
-use Rattle.session_hall.specs.Kept.{IsKept}
+use Rattle.session_hall.specs.Kept.{IsHallKept}
 use Rattle.session_hall.specs.Machine.{state}
 use Rattle.session_play.proofs.Progress.{IsPlaying}
 use Rattle.session_play.proofs.playing.play.Given as goal
@@ -14,10 +14,10 @@ invariant-loop-carried g l =
     let old = l.initial.hall in
     let now = l.hall in
     record {
-      playing : IsPlaying l.layout g.K.Source.tells g.S.Sink.tells d.tells (LeavesOnly d.moment d.since old.disk.now now.disk.now) (left l.initial.input) (left l.input) (g.S.Sink.taken l.initial.out) (g.S.Sink.taken l.out)
-          (state (d.reads old.disk.now) old.layout old.sessions.items old.page) (state (d.reads now.disk.now) now.layout now.sessions.items now.page) l.carried;
+      playing : IsPlaying l.layout g.K.Source.tells g.S.Sink.tells d.tells g.E.Entropy.tells (LeavesOnly d.moment d.since old.disk.now now.disk.now) (left l.initial.input) (left l.input) (g.S.Sink.taken l.initial.out) (g.S.Sink.taken l.out)
+          (g.E.Entropy.drawn old.entropy.now) (g.E.Entropy.drawn now.entropy.now) (state (d.reads old.disk.now) old.layout old.sessions.items old.page) (state (d.reads now.disk.now) now.layout now.sessions.items now.page) l.carried;
       up : now.is_down ≡ false;
-      kept : IsTrue d.tells → IsKept (d.reads now.disk.now) (d.images now.disk.now) now.sessions.items;
+      kept : IsTrue d.tells → IsHallKept (d.reads now.disk.now) (d.images now.disk.now) now.sessions.items;
       taken : IsTrue g.K.Source.tells → (n : ℕ) × (left l.input ≡ drop n (left l.initial.input));
       input_later : g.K.Source.faults l.initial.input ≤ g.K.Source.faults l.input;
       output_later : g.S.Sink.faults l.initial.out ≤ g.S.Sink.faults l.out;

@@ -1,7 +1,5 @@
-use Rattle.std.proofs.Common.{◌≡◌, ◌⊎◌, ⊎_elim, inl, inr, Result, refl, sym, ap, subst, ◌∙◌}
+use Rattle.std.proofs.Common.{inl, inr, Result, refl, sym, ap, subst}
 use Rattle.std.specs.Prelude.{IsOk}
-use Rattle.edge_model.specs.Files.{Files}
-use Rattle.edge_model.specs.Images.{From}
 use Rattle.edge_model.specs.Moments.{and_then, started_from, weaker}
 use Rattle.rollback_journal.specs.Recovery.{KeepsRecovered}
 use Rattle.rollback_journal.specs.declared.recovery.Recovery.{Recovery}
@@ -14,6 +12,7 @@ pub returns-in_default-clause-plays : goal.returns-in_default-clause-plays
 returns-in_default-clause-plays g c = inl (record {
   ends = inr (inr refl, refl);
   unread = refl;
+  undrawn = refl;
   moments = λ told. (started_from {moment = g.D.Disk.moment} {since = g.D.Disk.since} g.met.D.Disk.only_now c.args.disk.now (KeepsRecovered c.args.profile.page_size) (keeps_itself c.args.profile.page_size)).each;
 })
 
@@ -23,7 +22,7 @@ returns-in-Ok-recover_main-clause-plays g c =
     let start = g.D.Disk.images c.args.disk.now in
     inr (record {
       recovers = λ told. subst (λ (r : Result Recovery RecoverError). IsOk r) (sym (c.in-Ok-recover_main.ensures.recovery told)) refl;
-      script = played_recovered c.args.profile c.play_recovered.result g.K.Source.tells g.S.Sink.tells g.D.Disk.tells c.in-Ok-recover_main.ensures.main
+      script = played_recovered c.args.profile c.play_recovered.result g.K.Source.tells g.S.Sink.tells g.D.Disk.tells g.E.Entropy.tells c.in-Ok-recover_main.ensures.main
           (λ told P run. (and_then (weaker (λ image old. inl old) (c.recover_main.ensures.keeps told)) (weaker (λ image p. inr p) run)).each)
           c.play_recovered.ensures.played;
     })
@@ -43,6 +42,7 @@ returns-in-Err-clause-plays g c =
           (λ is. let failed = c.conclude_stop.ensures.disk is in (failed.0, ap g.S.Sink.taken failed.1))
           (λ is. let starved = c.conclude_stop.ensures.memory is in (starved.0, ap g.S.Sink.taken starved.1));
       unread = refl;
+      undrawn = refl;
       moments = λ told. (c.recover_main.ensures.keeps told).each;
     })
 

@@ -204,8 +204,8 @@ returns-in-Some-clause-plays g c =
     let played : play_form words ≡ Some c.in-Some.played = sym c.played_profile.ensures.form ∙ c.in-Some.is in
     λ profile is.
     let d = g.D.Disk in
-    subst (λ (p : Profile). PlaysScript p c.play_file.result g.K.Source.tells g.S.Sink.tells d.tells (disk_run d.reads d.images d.moment d.since c.args.disk.now c.play_file.new.disk)
-    (g.K.Source.left c.args.input.now) (g.K.Source.left c.play_file.new.input) (g.S.Sink.taken c.args.out.now) (g.S.Sink.taken c.play_file.new.out))
+    subst (λ (p : Profile). PlaysScript p c.play_file.result g.K.Source.tells g.S.Sink.tells d.tells g.E.Entropy.tells (disk_run d.reads d.images d.moment d.since c.args.disk.now c.play_file.new.disk)
+    (g.K.Source.left c.args.input.now) (g.K.Source.left c.play_file.new.input) (g.S.Sink.taken c.args.out.now) (g.S.Sink.taken c.play_file.new.out) (g.E.Entropy.drawn c.args.entropy.now) (g.E.Entropy.drawn c.play_file.new.entropy))
     (one_profile words c.in-Some.played profile played is) c.play_file.ensures.plays
 
 pub returns-in-Some-clause-complete_play : goal.returns-in-Some-clause-complete_play
@@ -216,10 +216,10 @@ returns-in-Some-clause-complete_play g c =
     let d = g.D.Disk in
     let same = one_profile words can.profile c.in-Some.played can.is_play played in
     play_done can.profile c.play_file.result g.S.Sink.tells _ _ _ _ _ _ _ _ c.play_file.ensures.input_fault c.play_file.ensures.output_fault c.play_file.ensures.entropy_fault c.play_file.ensures.disk_fault none
-    g.K.Source.tells d.tells (disk_run d.reads d.images d.moment d.since c.args.disk.now c.play_file.new.disk) (g.K.Source.left c.args.input.now) (g.K.Source.left c.play_file.new.input)
-    (g.S.Sink.taken c.args.out.now) (g.S.Sink.taken c.play_file.new.out) source told can.recovers can.few can.steps
-    (subst (λ (p : Profile). PlaysScript p c.play_file.result g.K.Source.tells g.S.Sink.tells d.tells (disk_run d.reads d.images d.moment d.since c.args.disk.now c.play_file.new.disk)
-    (g.K.Source.left c.args.input.now) (g.K.Source.left c.play_file.new.input) (g.S.Sink.taken c.args.out.now) (g.S.Sink.taken c.play_file.new.out)) (sym same) c.play_file.ensures.plays)
+    g.K.Source.tells d.tells g.E.Entropy.tells (disk_run d.reads d.images d.moment d.since c.args.disk.now c.play_file.new.disk) (g.K.Source.left c.args.input.now) (g.K.Source.left c.play_file.new.input)
+    (g.S.Sink.taken c.args.out.now) (g.S.Sink.taken c.play_file.new.out) (g.E.Entropy.drawn c.args.entropy.now) (g.E.Entropy.drawn c.play_file.new.entropy) source told can.recovers can.few can.steps
+    (subst (λ (p : Profile). PlaysScript p c.play_file.result g.K.Source.tells g.S.Sink.tells d.tells g.E.Entropy.tells (disk_run d.reads d.images d.moment d.since c.args.disk.now c.play_file.new.disk)
+    (g.K.Source.left c.args.input.now) (g.K.Source.left c.play_file.new.input) (g.S.Sink.taken c.args.out.now) (g.S.Sink.taken c.play_file.new.out) (g.E.Entropy.drawn c.args.entropy.now) (g.E.Entropy.drawn c.play_file.new.entropy)) (sym same) c.play_file.ensures.plays)
 
 -- ---- no words
 

@@ -1,4 +1,4 @@
-use Rattle.std.proofs.Common.{◌≡◌, ◌∙◌, ◌<◌, ◌≤◌, ◌*◌, length, ℕ, List, Option, None, Some, Err, sym, ap, subst, arith}
+use Rattle.std.proofs.Common.{◌≡◌, ◌∙◌, ◌<◌, ◌≤◌, ◌*◌, length, ℕ, List, None, Some, Err, sym, ap, subst, arith}
 use Rattle.std.specs.Prelude.{slice_set}
 use Rattle.edge_model.specs.Files.{main_of}
 use Rattle.session_hall.specs.Machine.{ChangesByte, changing, is_content, seen_page, state}

@@ -1,10 +1,9 @@
-use Rattle.std.proofs.Common.{◌≡◌, ◌∙◌, ◌<◌, ◌≤◌, ◌*◌, length, ℕ, Option, None, Some, Ok, sym, ap, subst, arith}
-use Rattle.std.specs.Prelude.{slice_set}
+use Rattle.std.proofs.Common.{◌≡◌, ◌∙◌, ◌<◌, ◌≤◌, ◌*◌, length, ℕ, Option, Some, Ok, sym, ap, subst, arith}
 use Rattle.edge_model.specs.Files.{main_of}
 use Rattle.pager.proofs.BatchLemmas.{and_true}
 use Rattle.session_hall.specs.Key.{Access, codec_of}
 use Rattle.session_hall.specs.Locks.{is_reserved}
-use Rattle.session_hall.specs.Machine.{IsFirstUnseen, SeesUpTo, may_be_under, state}
+use Rattle.session_hall.specs.Machine.{IsFirstUnseen, SeesUpTo, may_be_under}
 use Rattle.session_hall.specs.Session.{Session, session_at}
 use Rattle.session_hall.proofs.Answers.{one_state, same_state}
 use Rattle.session_hall.proofs.Counting.{count_whole}

@@ -1,8 +1,7 @@
-use Rattle.std.proofs.Common.{◌≡◌, ◌∙◌, ◌<◌, length, Some, Option, sym, ap, subst, arith, rules}
-use Rattle.edge_model.specs.Files.{Files}
+use Rattle.std.proofs.Common.{◌≡◌, ◌∙◌, ◌<◌, length, Some, sym, ap, subst, arith}
 use Rattle.edge_model.specs.Files.{main_of}
 use Rattle.pager.specs.Opening.{IsRefusedBy}
-use Rattle.session_hall.specs.Machine.{Shares, open_answer, opened_by, page_count, sharing, state}
+use Rattle.session_hall.specs.Machine.{Shares, opened_by, counted_pages, sharing, state}
 use Rattle.session_hall.specs.Session.{Session, session_at}
 use Rattle.session_hall.specs.declared.step.Answer.{Answer}
 use Rattle.session_hall.proofs.Answers.{one_state, same_state, share_refused}
@@ -25,7 +24,7 @@ returns-in-Ok-clause-told g c = λ told.
       c.other_has.ensures.no c.if-other_has.false,
       (
         c.in-Ok.pages,
-        subst (λ (x : Session). page_count (opened_by x.access (main_of (d.reads s.disk.now))) ≡ Some c.in-Ok.pages) here (c.in-Ok.ensures.opens told),
+        subst (λ (x : Session). counted_pages (opened_by x.access (main_of (d.reads s.disk.now))) ≡ Some c.in-Ok.pages) here (c.in-Ok.ensures.opens told),
         one_state (d.reads s.disk.now) (d.reads c.count_pages-counted.new.disk) s.layout xs s.page i back c.share.new.self (sharing (session_at xs i) c.in-Ok.pages)
             (c.count_pages-counted.ensures.only_read told).stays
             (c.share.ensures ∙ ap (λ (x : Session). sharing x c.in-Ok.pages) again),
