@@ -231,6 +231,9 @@ row 5 '' $'standard output: write: No space left on device\n'"$unchanged" 'echo 
 row 5 '' $'standard output: write: Bad file descriptor\n'"$unchanged" 'echo stop | "$tool" file.db play 4 >&-'
 row 4 '' $'file.db: another run of sqlcipher-tool has the file\nfile.db: it was not touched' 'echo stop | flock file.db "$tool" file.db play 4'
 row 0 $'done\nfile is empty' 'absent.db: there is no such file' 'printf "open 0 4 %s\nshare 0\n" "$k0" | "$tool" absent.db play 4'
+row 0 $'done\nkey refused' 'an answer of the script is `key refused`: the key or the profile that its session was opened with does not fit' \
+    'printf "open 0 4 wrong\nshare 0\n" | "$tool" file.db play 4'
+row 0 $'done\nkey refused' 'an answer of the script is `key refused`' 'printf "open 0 plain:4096\nshare 0\n" | "$tool" file.db play plain:4096'
 kept
 cp file.db played.db
 printf 'open 0 4 %s\nshare 0\nreserve 0\nchange 0 2 4000 7\ncommit 0\nwalk 0\n' "$k0" > script

@@ -258,6 +258,15 @@ pub fn explain_salvaged(rt: &HostRuntime, counts: &str) {
     );
 }
 
+/// What a refused key of a script may come of: the answers may be in a file, and the status is that of the whole script.
+pub fn explain_session_key(rt: &HostRuntime) {
+    say(
+        rt,
+        "an answer of the script is `key refused`: the key or the profile that its session was opened with does not fit the file, which may \
+        have another key since a rekey of the script. The README's section \"When the key is refused\" lists what else it may be",
+    );
+}
+
 fn explain_key(rt: &HostRuntime, run: &Ended, input: &InputSource, folder: &mut Folder) {
     if is_plain_word(run.version()) {
         say(rt, plain::NO_MAGIC);

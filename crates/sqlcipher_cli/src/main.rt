@@ -191,7 +191,8 @@ fn serve(rt: &HostRuntime, file: &str, words: &[&str]) -> Status
         return out_of_memory(rt);
     };
     disk.folder.is_decrypting = decrypts(words);
-    let mut input = InputSource::new(rt);
+    let is_play = words.first() == Some(&"play");
+    let mut input = InputSource::new(rt, is_play);
     let mut out = OutputSink::new(rt, &progress);
     let mut entropy = DeviceEntropy::new(rt);
     let alloc = rt.alloc();
@@ -220,6 +221,9 @@ fn serve(rt: &HostRuntime, file: &str, words: &[&str]) -> Status
     advice::explain(rt, &run, &input, &mut disk.folder);
     if status == Status::Done && words.first() == Some(&"salvage") {
         advice::explain_salvaged(rt, out.last_line());
+    }
+    if out.has_refused_key && is_play {
+        advice::explain_session_key(rt);
     }
     status
 }
