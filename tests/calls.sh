@@ -47,8 +47,14 @@ listed() { # listed OPTIONS.. -- WORDS..: runs the program in the folder, with i
     local options=()
     while [ "$1" != -- ]; do options+=("$1"); shift; done
     shift
+    local input=$scratch/keys
+    [ "$1" != play ] || input=$scratch/script
     (cd "$scratch/run" && strace -f -qq -y -x -s 16 -o "$scratch/calls" -e trace="$looked_at" "${options[@]}" "$program" file "$@" \
-        < "$scratch/keys" > "$scratch/said" 2> "$scratch/errors")
+        < "$input" > "$scratch/said" 2> "$scratch/errors")
+}
+
+script() { # script OPENING CHANGES..: what `play` is given: one commit, and what is read before it and after it
+    printf '%s\n' "open 0 $1" 'share 0' 'read 0 2 100' 'reserve 0' "${@:2}" 'commit 0' 'share 0' 'read 0 2 100' > "$scratch/script"
 }
 
 run() { # run NAME FILE STATE P P2 WORDS..: NAME is a run of compare.py
@@ -142,6 +148,15 @@ run migrate four none 4 plain:1024 migrate 4 plain:1024
 run migrate hot "hot=$hot" 3 plain:4096 migrate 3 plain:4096
 run migrate flat none plain:1024 plain:4096 migrate plain:1024 plain:4096
 run make nothing none plain:1024 plain:1024 make plain:1024 40
+# A script of one commit: of two pages, and under a new key of all.
+changes=('change 0 2 100 7' 'change 0 3 100 7' 'change 0 2 101 7')
+script "3 $k0" "${changes[@]}"
+run play small none 3 3 play 3
+run play hot "hot=$hot" 3 3 play 3
+script "3 $k0" "${changes[@]}" "rekey 0 3 $k1"
+run play small none 3 3 play 3
+script plain:1024 "${changes[@]}"
+run play flat none plain:1024 plain:1024 play plain:1024
 
 # ---- the program itself, kept from a sync
 kept_from_syncs stamp small 3 3 stamp 3 user-version 7
@@ -150,6 +165,8 @@ kept_from_syncs migrate small 3 4 migrate 3 4
 kept_from_syncs make nothing 3 3 make 3 5
 kept_from_syncs stamp flat plain:1024 plain:1024 stamp plain:1024 user-version 7
 kept_from_syncs migrate small 3 plain:1024 migrate 3 plain:1024
+script "3 $k0" "${changes[@]}"
+kept_from_syncs play small 3 3 play 3
 
 echo "calls: $runs runs, $wrong wrong"
 finish "$wrong"

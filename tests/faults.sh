@@ -1,15 +1,16 @@
 #!/usr/bin/env bash
-# One call of the system failing, or one request of memory refused, each alone, under `rekey 3 3`, `migrate 3 4`, `migrate 3 plain:1024`, `stamp` and the recovery of
-# a hot journal, on a file of some 80 pages: a read, write, cut, sync, open, look-up, removal or rename of the three files and their folder, of
-# the random bytes, of standard input and output, with EIO and with ENOSPC. The status is that of what failed, standard error has the
-# system's words, and where the files may be others says what to run. What is left recovers to the old content under the old key or to the new
-# one, to the program and, of a copy, to the product; and from the old one the command then goes to its end.
+# One call of the system failing, or one request of memory refused, each alone, under `rekey 3 3`, `migrate 3 4`, `migrate 3 plain:1024`, `stamp`,
+# the recovery of a hot journal, and a script of `play` of two commits and a rekey, on a file of some 80 pages: a read, write, cut, sync, open,
+# look-up, removal or rename of the three files and their folder, of the random bytes, of standard input and output, with EIO and with ENOSPC.
+# The status is that of what failed, standard error has the system's words, and where the files may be others says what to run. What is left
+# recovers to the old content under the old key or to the new one, to the program and, of a copy, to the product; and from the old one the
+# command then goes to its end. What a script leaves has every commit that was answered, and one more at most.
 #
 #     tests/faults.sh
 #
 # STRIDE=1 tries every call and every request; else each STRIDEth (8) of those that come once for each page and of the requests, and each of the
-# others. PROGRAM names another program, SQLCIPHER4 the product built for version 4. Needs strace, for the product's reading sqlcipher,
-# and for the requests of memory a C compiler.
+# others; of the script fewer. PROGRAM names another program, SQLCIPHER4 the product built for version 4. Needs strace, for the product's
+# reading sqlcipher, and for the requests of memory a C compiler.
 set -u
 top=$(cd "$(dirname "$0")/.." && pwd) || exit 1
 program=${PROGRAM:-$top/out/sqlcipher-tool}
@@ -19,10 +20,15 @@ scratch=$(readlink -f "$scratch")
 . "$top/tests/common.sh"
 export LC_ALL=C.UTF-8 HOME=$scratch
 stride=${STRIDE:-8}
+sparse=$((stride * 3 - 2))      # a script's calls are more than those of all others, since its lines are read byte by byte
 
 k1="x'000102030405060708090a0b0c0d0e0f101112131415161718191a1b1c1d1e1f'"
 k2="x'ffffffffffffffffffffffffffffffffffffffffffffffffffffffffffffffff'"
 printf '%s\n' "$k1" "$k2" > "$scratch/keys"
+# Each commit changes a byte of a value that goes on at this page, and the last one seals every page under the other key.
+place='9 500'
+printf '%s\n' "open 0 3 $k1" 'share 0' 'reserve 0' "change 0 $place 1" 'commit 0' 'share 0' 'reserve 0' "change 0 $place 2" 'commit 0' \
+    'share 0' 'reserve 0' "change 0 $place 3" "rekey 0 3 $k2" 'commit 0' > "$scratch/script"
 
 say() { echo "faults: $*"; echo wrong >> "$scratch/wrong"; }
 count() { echo "$1" >> "$scratch/ends"; }
@@ -32,6 +38,7 @@ count() { echo "$1" >> "$scratch/ends"; }
 sql() { { echo ".output /dev/null"; opening "$1" "$2"; echo ".output stdout"; cat; } | "$(product "$1")" -batch "$3" 2> /dev/null; }    # sql VERSION KEY FILE
 dump() { printf 'PRAGMA integrity_check;\n.dump\n' | sql "$1" "$2" "$3"; }                 # dump VERSION KEY FILE: `ok`, and the rows
 asked() { printf '%s\n' "$1" | "$program" "${@:2}" 2> /dev/null; }       # asked KEY FILE WORDS..
+key_after() { [ "$1" = 3 ] && echo "$k2" || echo "$k1"; }                 # key_after COMMITS: that of the file after so many of the script
 
 "$program" "$scratch/plain" make 3 30 < "$scratch/keys" > /dev/null 2>&1 || { echo "faults: make fails"; exit 1; }
 [ "$(stat -c %s "$scratch/plain")" -ge 61440 ] && [ "$(stat -c %s "$scratch/plain")" -le 102400 ] || { echo "faults: the file has not 60 to 100 pages"; exit 1; }
@@ -40,6 +47,16 @@ if has sqlcipher; then
     dump 3 "$k1" "$scratch/plain" > "$scratch/dump"
     [ "$(head -n 1 "$scratch/dump")" = ok ] || { echo "faults: the product does not find the file sound"; exit 1; }
 fi
+
+# What is in the file after each commit of the script.
+for commits in 0 1 2 3; do
+    cp "$scratch/plain" "$scratch/played"
+    awk -v commits="$commits" 'seen < commits; /^commit/ { seen++ }' "$scratch/script" | "$program" "$scratch/played" play 3 > /dev/null 2>&1
+    asked "$(key_after $commits)" "$scratch/played" export 3 > "$scratch/text-$commits" || say "the file is not sound after $commits commits"
+    ! has sqlcipher || dump 3 "$(key_after $commits)" "$scratch/played" > "$scratch/dump-$commits"
+done
+[ "$(md5sum "$scratch"/text-[0-3] | cut -c1-32 | sort -u | wc -l)" -eq 4 ] || say "a commit of the script changes no row"
+! has sqlcipher || [ "$(head -qn 1 "$scratch"/dump-[0-3] | grep -cx ok)" -eq 4 ] || say "the product does not find the file sound after each commit"
 
 place() { # place FILE FOLDER: the file and its journal in a folder of their own
     rm -rf "$2"
@@ -50,8 +67,14 @@ place() { # place FILE FOLDER: the file and its journal in a folder of their own
 # ---- what a fault left
 
 content() { # content FOLDER: `old`, `new` or `none`, as the program reads it once it is recovered; a `stamp` and a recovery keep the key
+    local commits
     "$program" "$1/file" recover 3 > /dev/null 2>&1 < /dev/null || { echo none; return; }
-    if asked "$k1" "$1/file" export 3 | cmp -s - "$scratch/text"; then
+    if [ "$later" = played ]; then      # of a script how many commits it has
+        for commits in 0 1 2 3; do
+            ! asked "$(key_after $commits)" "$1/file" export 3 | cmp -s - "$scratch/text-$commits" || { echo "$commits"; return; }
+        done
+        echo none
+    elif asked "$k1" "$1/file" export 3 | cmp -s - "$scratch/text"; then
         echo old
     elif asked "$k2" "$1/file" export "$later" | cmp -s - "$scratch/text"; then
         echo new
@@ -63,23 +86,24 @@ content() { # content FOLDER: `old`, `new` or `none`, as the program reads it on
 }
 
 product_reads() { # product_reads FOLDER CONTENT: the product opens the copy, finds it sound and dumps the same rows
-    local version=3 key=$k1
-    case $2-$later in new-stamped) ;; new-*) version=$later key=$k2 ;; esac
+    local version=3 key=$k1 rows=$scratch/dump
+    case $2-$later in new-stamped) ;; new-*) version=$later key=$k2 ;; [0-3]-*) key=$(key_after "$2") rows=$scratch/dump-$2 ;; esac
     [ -n "$(product "$version")" ] || return 0
-    dump "$version" "$key" "$1/file" | cmp -s - "$scratch/dump"
+    dump "$version" "$key" "$1/file" | cmp -s - "$rows"
 }
 
 # judge CASE STATUS WANTED: the run of $folder/run, with `said` and `errors` beside it, ended with STATUS; WANTED is the status of such a fault.
 judge() {
-    local case=$1 status=$2 wanted=$3 now by
+    local case=$1 status=$2 wanted=$3 now by answered
     if [ "$status" -eq 0 ]; then
         # A call that the command can do without: then it was done, all of it.
         cmp -s "$folder/said" "$folder/whole.said" || say "$case: status 0, and the lines are $(head -n 1 "$folder/said")"
     else
         [ "$status" -eq "$wanted" ] || say "$case: ended with $status, and $wanted is wanted: $(head -n 1 "$folder/errors")"
         case ${words[0]} in
-            # Rows go out as they are read: what is printed is how the whole text begins.
-            export | find | salvage) head -c "$(stat -c %s "$folder/said")" "$folder/whole.said" | cmp -s - "$folder/said" || say "$case: what is printed is no beginning of the text" ;;
+            # Rows go out as they are read, and answers as they are given: what is printed is how the whole text begins.
+            export | find | salvage | play)
+                head -c "$(stat -c %s "$folder/said")" "$folder/whole.said" | cmp -s - "$folder/said" || say "$case: what is printed is no beginning of the text" ;;
             *) [ "$status" -eq 5 ] || [ ! -s "$folder/said" ] || say "$case: status $status, and $(head -n 1 "$folder/said") is printed" ;;
         esac
         case $status in
@@ -89,13 +113,18 @@ judge() {
     fi
     # Where the file is another one standard error says what to do.
     if [ "$status" -ne 0 ] && [ "$later" != recovered ] && ! cmp -s "$folder/run/file" "$scratch/$file"; then
-        grep -q 'recover' "$folder/errors" || say "$case: standard error does not say to recover"
+        grep -qE 'recover|what was committed stays' "$folder/errors" || say "$case: standard error does not say to recover, or what stays"
         count told
     fi
     [ "$status" -eq 0 ] || [ ! -e "$folder/run/file-migrated" ] || grep -q 'file-migrated' "$folder/errors" || say "$case: standard error does not name file-migrated"
     rm -rf "$folder/copy" && cp -r "$folder/run" "$folder/copy"
     now=$(content "$folder/run")
     by=$now
+    if [ "$later" = played ] && [ "$now" != none ]; then
+        answered=$(head -n "$(wc -l < "$folder/said")" "$scratch/script" | grep -c '^commit')
+        [ "$now" -eq "$answered" ] || [ "$now" -eq $((answered + 1)) ] || say "$case: $answered commits are answered, and the file has $now"
+        [ "$now" -gt 0 ] && now=new || now=old
+    fi
     case $now in
         none) say "$case: neither the old content nor the new one"; return ;;
         new) [ "$later" != recovered ] || say "$case: a recovery leaves another file" ;;
@@ -103,20 +132,24 @@ judge() {
     esac
     product_reads "$folder/copy" "$by" || say "$case: the product does not read what is left, which is the $now content"
     if [ "$now" = old ]; then
-        (cd "$folder/run" && "$program" file "${words[@]}" < "$scratch/keys" > /dev/null 2> "$folder/errors") || say "$case: given again, it fails: $(head -n 1 "$folder/errors")"
+        (cd "$folder/run" && "$program" file "${words[@]}" < "$input" > /dev/null 2> "$folder/errors") || say "$case: given again, it fails: $(head -n 1 "$folder/errors")"
     fi
     count "$now"
 }
 
 # What `judge` has to find wrong, and one case that it has to let pass.
 tried_on() { # tried_on WHAT STATUS ERRORS: prints what is found wrong with a run that ended so
-    local folder=$scratch/judged later=4 file=plain number=5 words=(rekey 3 3)
+    local folder=$scratch/judged later=4 file=plain number=5 words=(rekey 3 3) input=$scratch/keys
     rm -rf "$folder"
     mkdir "$folder"
     place plain "$folder/run"
     : > "$folder/said"
     echo "rekeyed: 79 pages" > "$folder/whole.said"
     echo "$3" > "$folder/errors"
+    if [ "$1" = "a lost commit" ]; then
+        later=played words=(play 3) input=$scratch/script
+        printf 'done\n%.0s' {1..5} | tee "$folder/whole.said" > "$folder/said"
+    fi
     [ "$1" != "a lost page" ] || dd if=/dev/zero of="$folder/run/file" bs=1024 seek=4 count=1 conv=notrunc status=none
     (say() { echo "$*"; }; count() { :; }; judge "$1" "$2" 4)
 }
@@ -125,6 +158,7 @@ tried_on() { # tried_on WHAT STATUS ERRORS: prints what is found wrong with a ru
 [ -n "$(tried_on 'no words' 4 'file: read')" ] || say "the want of the system's words is not found"
 [ -n "$(tried_on 'a done line that is missing' 0 '')" ] || say "status 0 with nothing done is not found"
 [ -n "$(tried_on 'a lost page' 4 'file: write: (os error 5), run recover')" ] || say "a lost page is not found"
+[[ "$(tried_on 'a lost commit' 4 'file: read: (os error 5)')" = *'1 commits are answered, and the file has 0' ]] || say "a lost commit is not found"
 
 # ---- one call failing
 
@@ -151,12 +185,13 @@ called=open,openat,creat,read,pread64,write,pwrite64,ftruncate,fsync,fdatasync,u
 called+=,stat,lstat,fstat,statx,newfstatat,readlink,readlinkat,fchmod,fchown,flock
 
 failing() { # failing NAME FILE LATER WORDS..: each call of this command failing alone, in a process of its own
-    local name=$1 file=$2 later=$3 folder=$scratch/$1 words class call turn error number status wanted
+    local name=$1 file=$2 later=$3 folder=$scratch/$1 words class call turn error number status wanted input=$scratch/keys
     shift 3
     words=("$@")
+    [ "$1" != play ] || input=$scratch/script
     mkdir "$folder"
     place "$file" "$folder/run"
-    (cd "$folder/run" && strace -f -qq -y -o "$folder/calls" -e trace="$called" "$program" file "$@" < "$scratch/keys" > "$folder/whole.said" 2> /dev/null) ||
+    (cd "$folder/run" && strace -f -qq -y -o "$folder/calls" -e trace="$called" "$program" file "$@" < "$input" > "$folder/whole.said" 2> /dev/null) ||
         { say "$name: the program fails under strace"; return; }
     list_calls "$folder/calls" "$folder/run" > "$folder/all"
     thinned < "$folder/all" > "$folder/chosen"
@@ -167,7 +202,7 @@ failing() { # failing NAME FILE LATER WORDS..: each call of this command failing
         while read -r class call turn; do
             place "$file" "$folder/run"
             (cd "$folder/run" && strace -f -qq -y -o "$folder/failed" -e trace="$call" -e inject="$call:error=$error:when=$turn" \
-                "$program" file "${words[@]}" < "$scratch/keys" > "$folder/said" 2> "$folder/errors")
+                "$program" file "${words[@]}" < "$input" > "$folder/said" 2> "$folder/errors")
             status=$?
             # How often the system's table of locks is read is another number in each run, so what failed is asked of the run itself.
             grep INJECTED "$folder/failed" > "$folder/injected" || { echo "$call $turn" >> "$folder/missed"; continue; }
@@ -185,19 +220,20 @@ failing() { # failing NAME FILE LATER WORDS..: each call of this command failing
 # ---- one request of memory refused
 
 refused() { # refused NAME FILE LATER WORDS..
-    local name=$1 file=$2 later=$3 folder=$scratch/memory-$1 words turn status number=12 step=$stride total without=0 done=0
+    local name=$1 file=$2 later=$3 folder=$scratch/memory-$1 words turn status number=12 step=$stride total without=0 done=0 input=$scratch/keys
     shift 3
     words=("$@")
+    [ "$1" != play ] || input=$scratch/script
     mkdir "$folder"
     place "$file" "$folder/run"
-    (cd "$folder/run" && REFUSE=0 REFUSE_COUNT="$folder/requests" LD_PRELOAD=$scratch/refuse.so "$program" file "$@" < "$scratch/keys" > "$folder/whole.said" 2> /dev/null) ||
+    (cd "$folder/run" && REFUSE=0 REFUSE_COUNT="$folder/requests" LD_PRELOAD=$scratch/refuse.so "$program" file "$@" < "$input" > "$folder/whole.said" 2> /dev/null) ||
         { say "$name: the program fails beside refuse.so"; return; }
     total=$(cat "$folder/requests")
     [ "$total" -gt 5 ] || say "$name: the program asks for memory only $total times, or not by the C library"
     [ "$total" -gt 60 ] || step=1
     for ((turn = 1; turn <= total; turn += turn < 20 ? 1 : step)); do
         place "$file" "$folder/run"
-        (cd "$folder/run" && REFUSE=$turn LD_PRELOAD=$scratch/refuse.so "$program" file "${words[@]}" < "$scratch/keys" > "$folder/said" 2> "$folder/errors")
+        (cd "$folder/run" && REFUSE=$turn LD_PRELOAD=$scratch/refuse.so "$program" file "${words[@]}" < "$input" > "$folder/said" 2> "$folder/errors")
         status=$?
         [ "$status" -ne 0 ] || without=$((without + 1))
         done=$((done + 1))
@@ -228,6 +264,7 @@ if can_trace; then
     failing decrypt plain plain:1024 migrate 3 plain:1024 &
     failing stamp plain stamped stamp 3 user-version 7 &
     failing recover hot recovered recover 3 &
+    stride=$sparse failing play plain played play 3 &
     wait
 else
     leave_out "calls that fail, since strace is missing or cannot trace"
@@ -238,6 +275,7 @@ if ${CC:-cc} -shared -fPIC -O1 -o "$scratch/refuse.so" "$top/tests/faults/refuse
     refused "export 3" plain recovered export 3 &
     refused "find 3" plain recovered find 3 items 7 30 &
     refused "salvage 3" plain recovered salvage 3 &
+    stride=$sparse refused "play 3" plain played play 3 &
     [ ! -e "$scratch/hot-journal" ] || refused "recover 3" hot recovered recover 3 &
     wait
 else

@@ -23,7 +23,7 @@ import sys
 HERE = os.path.dirname(os.path.abspath(__file__))
 MODEL = os.path.join(HERE, "..", "..", "docs", "CRASH_MODEL.md")
 RECOVERY, COMMIT, STAMP, REKEY, MIGRATE = (f"A {it}, call by call" for it in ("recovery", "commit", "`stamp`", "`rekey`", "`migrate`"))
-# A run is the rows of a table, without so many at its head, and then calls of its own.
+# A run is the rows of a table, without so many at its head, and then calls of its own, among which all rows of another may stand.
 RUNS = {
     "read": (RECOVERY, 0, "read:Main+ (output read:Main*)+"),
     "probe": (None, 0, "read:Main+ output"),
@@ -33,6 +33,7 @@ RUNS = {
     "rekey": (REKEY, 0, ""),
     "migrate": (MIGRATE, 0, ""),
     "make": (MIGRATE, 2, ""),
+    "play": (RECOVERY, 0, f"read:Main* (output read:Main*)+ draw? {{{COMMIT}}} (output read:Main*)+"),
 }
 LAYOUTS = {"1": (1024, 16), "2": (1024, 48), "3": (1024, 48), "4": (4096, 80), "plain:1024": (1024, 0), "plain:4096": (4096, 0)}     # page size and reserve
 ACTS = ("create", "write", "cut", "sync", "remove", "rename")
@@ -237,7 +238,9 @@ class Run:
         self.page_size = LAYOUTS[read_version][0]
         self.new_page_size, self.reserve = LAYOUTS[written_version]
         table, without, more = RUNS[name]
-        self.rows = (self.tables[table] if table else [])[without:] + ([("what the command does itself", more)] if more else [])
+        self.rows = (self.tables[table] if table else [])[without:]
+        for part in re.split(r"(\{[^}]*\})", more):
+            self.rows += self.tables[part[1:-1]] if part.startswith("{") else [("what the command does itself", part)] if part else []
         if not self.reserve:        # of a plain file nothing is drawn
             self.rows = [(row, undrawn(calls)) for row, calls in self.rows if calls != "draw"]
         pieces = [expression(calls, self.tables, self.state) for _, calls in self.rows]
