@@ -178,7 +178,8 @@ pub fn end_batches<D: Disk, W: RecordWriter, C: Changes>(
         (C.seals changes.old) (length (C.numbers changes.old)) (main_of (D.reads disk.new))) }
     ensures new { OnOk result (IsTrue D.tells → Each (D.images disk.new) (IsCommitted base (main_of (D.reads disk.new)))) }
     // no page was changed at all, and no call was made; or each image has Main as it reads
-    ensures settled { OnOk result (IsTrue D.tells → ((marked_count recorded.old ≡ 0) × (disk.new ≡ disk.old)) ⊎ Each (D.images disk.new) (λ c. c.main ≡ (D.reads disk.new).main)) }
+    ensures settled { OnOk result (IsTrue D.tells → ((C.numbers changes.old ≡ []) × (marked_count recorded.old ≡ 0) × (disk.new ≡ disk.old))
+        ⊎ Each (D.images disk.new) (λ c. c.main ≡ (D.reads disk.new).main)) }
     ensures one_new { OnOk result (IsTrue D.tells →
         LeavesOnly D.moment D.since disk.old disk.new (HoldsEither base (stored_pages base.size base.pages (main_of (D.reads disk.new))))) }
     ensures any_moment { IsTrue D.tells → LeavesChanged D.moment D.since base (IsBatchWritten base (main_of (D.reads disk.old))

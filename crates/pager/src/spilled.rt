@@ -118,7 +118,8 @@ pub(crate) fn end_frames<D: Disk, E: Entropy>(
         (λ n. (seen_pages read codec.now (main_of (D.reads disk.old)) start.base.pages written.now changed.now.held).page n)
         E.tells (E.drawn entropy.new) (main_of (D.reads disk.new))) }
     ensures new { OnOk result (IsTrue D.tells → Each (D.images disk.new) (IsCommitted start.base (main_of (D.reads disk.new)))) }
-    ensures settled { OnOk result (IsTrue D.tells → ((marked_count recorded.old ≡ 0) × (disk.new ≡ disk.old)) ⊎ Each (D.images disk.new) (λ c. c.main ≡ (D.reads disk.new).main)) }
+    ensures settled { OnOk result (IsTrue D.tells → ((changed.now.numbers ≡ []) × (marked_count recorded.old ≡ 0) × (disk.new ≡ disk.old))
+        ⊎ Each (D.images disk.new) (λ c. c.main ≡ (D.reads disk.new).main)) }
     ensures one_new { OnOk result (IsTrue D.tells → LeavesOnly D.moment D.since disk.old disk.new
         (HoldsEither start.base (stored_pages start.base.size start.base.pages (main_of (D.reads disk.new))))) }
     ensures any_moment { IsTrue D.tells → (read : FileKeys) → codec.now.profile.page_size ≡ read.profile.page_size → LeavesChanged D.moment D.since start.base (HasNewPages start codec.now (is_touched written.now changed.now.held)

@@ -186,6 +186,7 @@ impl<'d, D: Disk, E: Entropy> Txn<'d, D, E> {
             × (self.new.writer ≡ self.old.writer) × DiskRead D.tells D.reads D.images D.moment D.since D.faults self.old.disk self.new.disk × Untouched self.old.entropy self.new.entropy × (self.new.written ≡ self.old.written)) }
         ensures unwritten { length self.old.changed.numbers < self.old.changed.frames → (self.new.recorded ≡ self.old.recorded) × (self.new.writer ≡ self.old.writer)
             × DiskRead D.tells D.reads D.images D.moment D.since D.faults self.old.disk self.new.disk × Untouched self.old.entropy self.new.entropy × (self.new.written ≡ self.old.written) }
+        // while no page has a record, the disk was only read
         ensures unrecorded { OnOk result (marked_count self.new.recorded ≡ 0 → (self.new.recorded ≡ self.old.recorded)
             × DiskRead D.tells D.reads D.images D.moment D.since D.faults self.old.disk self.new.disk) }
         ensures frames { self.new.changed.frames ≡ self.old.changed.frames }
@@ -230,6 +231,7 @@ impl<'d, D: Disk, E: Entropy> Txn<'d, D, E> {
             × (self.new.writer ≡ self.old.writer) × DiskRead D.tells D.reads D.images D.moment D.since D.faults self.old.disk self.new.disk × Untouched self.old.entropy self.new.entropy × (self.new.written ≡ self.old.written)) }
         ensures unwritten { length self.old.changed.numbers < self.old.changed.frames → (self.new.recorded ≡ self.old.recorded) × (self.new.writer ≡ self.old.writer)
             × DiskRead D.tells D.reads D.images D.moment D.since D.faults self.old.disk self.new.disk × Untouched self.old.entropy self.new.entropy × (self.new.written ≡ self.old.written) }
+        // while no page has a record, the disk was only read
         ensures unrecorded { OnOk result (marked_count self.new.recorded ≡ 0 → (self.new.recorded ≡ self.old.recorded)
             × DiskRead D.tells D.reads D.images D.moment D.since D.faults self.old.disk self.new.disk) }
         ensures frames { self.new.changed.frames ≡ self.old.changed.frames }
@@ -343,6 +345,7 @@ impl<'d, D: Disk, E: Entropy> Txn<'d, D, E> {
             × (self.new.writer ≡ self.old.writer) × DiskRead D.tells D.reads D.images D.moment D.since D.faults self.old.disk self.new.disk × Untouched self.old.entropy self.new.entropy × (self.new.written ≡ self.old.written)) }
         ensures unwritten { length self.old.changed.numbers < self.old.changed.frames → (self.new.recorded ≡ self.old.recorded) × (self.new.writer ≡ self.old.writer)
             × DiskRead D.tells D.reads D.images D.moment D.since D.faults self.old.disk self.new.disk × Untouched self.old.entropy self.new.entropy × (self.new.written ≡ self.old.written) }
+        // while no page has a record, the disk was only read
         ensures unrecorded { OnOk result (marked_count self.new.recorded ≡ 0 → (self.new.recorded ≡ self.old.recorded)
             × DiskRead D.tells D.reads D.images D.moment D.since D.faults self.old.disk self.new.disk) }
         ensures frames { self.new.changed.frames ≡ self.old.changed.frames }
@@ -407,6 +410,7 @@ impl<'d, D: Disk, E: Entropy> Txn<'d, D, E> {
         ensures plain { self.new.plain.items ≡ self.old.plain.items }
         ensures unwritten { length self.old.changed.numbers < self.old.changed.frames → (self.new.recorded ≡ self.old.recorded) × (self.new.writer ≡ self.old.writer)
             × Untouched self.old.disk self.new.disk × Untouched self.old.entropy self.new.entropy × (self.new.written ≡ self.old.written) }
+        // while no page has a record, the disk was only read
         ensures unrecorded { OnOk result (marked_count self.new.recorded ≡ 0 → (self.new.recorded ≡ self.old.recorded) × Untouched self.old.disk self.new.disk) }
         ensures frames { self.new.changed.frames ≡ self.old.changed.frames }
         ensures file { (self.new.read ≡ self.old.read) × (self.new.write ≡ self.old.write) × (self.new.count ≡ self.old.count) }
@@ -485,7 +489,8 @@ impl<'d, D: Disk, E: Entropy> Txn<'d, D, E> {
             E.tells (E.drawn result.1.now) (main_of (D.reads result.0.now))) }
         ensures new { OnOk result.2 (IsTrue D.tells → Each (D.images result.0.now) (IsCommitted start.base (main_of (D.reads result.0.now)))) }
         // no page was changed at all, and no call was made; or each image has Main as it reads
-        ensures settled { OnOk result.2 (IsTrue D.tells → ((marked_count self.entry.recorded ≡ 0) × (result.0.now ≡ self.entry.disk.now)) ⊎ Each (D.images result.0.now) (λ c. c.main ≡ (D.reads result.0.now).main)) }
+        ensures settled { OnOk result.2 (IsTrue D.tells → ((self.entry.changed.numbers ≡ []) × (marked_count self.entry.recorded ≡ 0) × (result.0.now ≡ self.entry.disk.now))
+            ⊎ Each (D.images result.0.now) (λ c. c.main ≡ (D.reads result.0.now).main)) }
         ensures one_new { OnOk result.2 (IsTrue D.tells → LeavesOnly D.moment D.since self.entry.disk.now result.0.now
             (HoldsEither start.base (stored_pages start.base.size start.base.pages (main_of (D.reads result.0.now))))) }
         ensures any_moment { IsTrue D.tells → LeavesChanged D.moment D.since start.base (HasNewPages start self.entry.write (is_touched self.entry.written self.entry.changed.held)

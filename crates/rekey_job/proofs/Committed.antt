@@ -1,9 +1,9 @@
 -- What a transaction left that began with a clean file, and what a run of reads before it adds.
-use Rattle.std.proofs.Common.{◌≡◌, inl, inr, ℕ, ◌≤◌, Bool, true, IsTrue, List, length, drop, Result, Ok, Err, refl, sym, subst}
+use Rattle.std.proofs.Common.{◌≡◌, ℕ, ◌≤◌, Bool, true, IsTrue, List, length, drop, Result, Ok, Err, refl, sym, subst}
 use Rattle.std.specs.Prelude.{IfErr}
 use Rattle.edge_model.specs.Files.{Files, main_of}
 use Rattle.edge_model.specs.Images.{Each, LeavesOnly, SameImages}
-use Rattle.edge_model.specs.Moments.{and_then, goes_less, started, weaker}
+use Rattle.edge_model.specs.Moments.{goes_less, started}
 use Rattle.edge_model.specs.OnlyRead.{OnlyRead}
 use Rattle.btree_model.specs.Plain.{with_zeros}
 use Rattle.db_format.specs.Pages.{Pages}
@@ -116,12 +116,6 @@ read_begun from before after same begun = record {
   no_journal = λ c now. begun.no_journal c (same.no_more c now);
   holds = λ c now. begun.holds c (same.no_more c now);
 }
-
--- each image held the old pages, and then one of two
-pub then_changed : {D : Type 0} (moment : D → ℕ) (since : D → ℕ → Files → Type 0) (base : Base) (changed : List ℕ → Type 0) (old mid new : D)
-    → LeavesOnly moment since old mid (HoldsOld base) → LeavesChanged moment since base changed mid new → LeavesChanged moment since base changed old new
-then_changed moment since from changed before mid after first (inl run) = inl (and_then first run)
-then_changed moment since from changed before mid after first (inr one) = inr (one.0, one.1, and_then (weaker (λ c holds. inl holds) first) one.2)
 
 -- ---- why it stopped
 

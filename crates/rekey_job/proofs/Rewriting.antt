@@ -1,12 +1,10 @@
 -- A loop that writes each page: what is seen and touched so far, and that no page is refused.
-use Rattle.std.proofs.Common.{◌≡◌, ◌≢◌, inl, inr, ℕ, zero, suc, ◌+◌, ◌-◌, ◌≤◌, ◌==◌, ◌&&◌, ◌||◌, Bool, true, false, IsTrue, List, [], ◌++◌, length, take, drop, replicate, Result, Ok, Err, if◌then◌else◌, refl, sym, ap, subst, ◌∙◌, arith, rules}
+use Rattle.std.proofs.Common.{◌≡◌, ◌≢◌, ℕ, zero, suc, ◌+◌, ◌-◌, ◌≤◌, ◌==◌, ◌&&◌, ◌||◌, Bool, true, false, IsTrue, List, [], ◌++◌, length, take, drop, replicate, Result, Ok, Err, if◌then◌else◌, refl, sym, ap, subst, ◌∙◌, arith, rules}
 use Rattle.std.specs.Prelude.{nat_le, nat_lt, IfErr}
 use Rattle.std.proofs.lemmas.List.{take-append-drop}
 use Rattle.std.proofs.lemmas.Bool.{eqb-true}
 use Rattle.std.proofs.lemmas.Bool.Decides.{nat_tests}
 use Rattle.edge_model.specs.Files.{Files, main_of}
-use Rattle.edge_model.specs.Images.{LeavesOnly}
-use Rattle.edge_model.specs.Moments.{and_then, weaker}
 use Rattle.cipher_profile.specs.Profile.{usable}
 use Rattle.btree_model.specs.Parts.{is_database}
 use Rattle.btree_model.specs.Plain.{is_leaf, with_zeros}
@@ -24,8 +22,7 @@ use Rattle.pager.proofs.BatchLemmas.{and_true, number_in, number_is}
 use Rattle.pager.proofs.TxnLemmas.{layout_same}
 use Rattle.pager.proofs.UnderWayLemmas.{same_at, same_main}
 use Rattle.rollback_journal.specs.Writing.{Writing}
-use Rattle.atomic_commit.specs.Commit.{LeavesChanged}
-use Rattle.atomic_commit.specs.Database.{Base, HoldsOld, stored_page}
+use Rattle.atomic_commit.specs.Database.{stored_page}
 use Rattle.atomic_commit.specs.Marks.{is_marked}
 use Rattle.rekey_job.specs.Rewritten.{is_zeroed, rewritten}
 use Rattle.rekey_job.specs.Stops.{AreClean, IsChangeRefusal, is_unwritten, rekey_page_error}
@@ -202,18 +199,6 @@ all_new start keys touched plain new tells drawn main all same has = record {
 
     not_both : true ≡ false → ⊥
     not_both is = cc
-
--- what new pages it has follows from other ones
-pub changed_weaker : {D : Type 0} {moment : D → ℕ} {since : D → ℕ → Files → Type 0} {base : Base} {P Q : List ℕ → Type 0} {old new : D} → ((main : List ℕ) → P main → Q main)
-    → LeavesChanged moment since base P old new → LeavesChanged moment since base Q old new
-changed_weaker gives (inl run) = inl run
-changed_weaker gives (inr new) = inr (new.0, gives new.0 new.1, new.2)
-
--- behind a run that left the old pages
-pub old_then : {D : Type 0} {moment : D → ℕ} {since : D → ℕ → Files → Type 0} {base : Base} {P : List ℕ → Type 0} {old mid new : D} → LeavesOnly moment since old mid (HoldsOld base)
-    → LeavesChanged moment since base P mid new → LeavesChanged moment since base P old new
-old_then first (inl run) = inl (and_then first run)
-old_then first (inr new) = inr (new.0, new.1, and_then (weaker (λ c old. inl old) first) new.2)
 
 -- ---- the start
 

@@ -1,14 +1,16 @@
 -- The rows of a machine, from what the calls of a step answered.
 use Rattle.std.proofs.Common.{◌≡◌, ◌≢◌, ◌∙◌, ℕ, true, false, List, None, Result, Err, inl, inr, refl, ap}
 use Rattle.std.specs.Prelude.{slice_set}
-use Rattle.edge_model.specs.Files.{Files}
+use Rattle.edge_model.specs.Files.{Files, main_of}
+use Rattle.edge_model.specs.Images.{LeavesOnly}
 use Rattle.cipher_profile.specs.Profile.{is_plain}
 use Rattle.cipher_profile.specs.declared.profile.Profile.{Profile}
 use Rattle.pager.specs.Opening.{Opened, IsRefusedBy}
 use Rattle.pager.specs.declared.opening.OpenError.{OpenError}
 use Rattle.pager.specs.declared.opening.OpenError.TheVariants.{Empty as IsEmpty, Short as IsShort, KeyRefused as NoKey, HeaderFault as AtFault, WalMode as IsWal, AutoVacuum as IsVacuum, Ragged as IsRagged, TooLarge as IsLarge, DiskFault as DiskFails, OutOfMemory as MemoryEnds}
-use Rattle.session_hall.specs.Commit.{CommitsTo}
+use Rattle.session_hall.specs.Commit.{CommitLeaves, Commitment, CommitsTo}
 use Rattle.session_hall.specs.Draws.{CommitDraws, HasDrawn}
+use Rattle.session_hall.specs.Kept.{StandsAsRead}
 use Rattle.session_hall.specs.Machine.{ChangesByte, Commits, Reads, Shares, HallState, may_change, may_commit, may_read, unopened_answer, opened_by, seen_page, state, unseen_answer, with_session}
 use Rattle.session_hall.specs.declared.reading.Unseen.{Unseen}
 use Rattle.session_hall.specs.declared.reading.Unseen.TheVariants.{TagRefused as Unaccepted, DiskFault as Unread, OutOfMemory as Unkept}
@@ -104,3 +106,19 @@ commit_draws layout Down session now file new before after is drawn plain memory
 commit_draws layout DiskFault session now file new before after is drawn plain memory = tt
 commit_draws layout EntropyFault session now file new before after is drawn plain memory = tt
 commit_draws layout OutOfMemory session now file new before after is drawn plain memory = memory refl
+
+-- what a commit leaves at each moment, by its answer
+module _ {D : Type 0} (reads : D → Files) (moment : D → ℕ) (since : D → ℕ → Files → Type 0) (session : Session) (old new : D) where
+  pub commit_leaves : (answer : Answer) (now : Session) → CommitsTo session (main_of (reads old)) answer (main_of (reads new)) now
+      → (answer ≡ OutOfMemory → LeavesOnly moment since old new (StandsAsRead (reads old))) → Commitment moment since session (main_of (reads old)) old new
+      → CommitLeaves reads moment since answer session old new
+  commit_leaves Done now to stands run = inr (tt, run)
+  commit_leaves DiskFault now to stands run = inr (tt, run)
+  commit_leaves EntropyFault now to stands run = inr (tt, run)
+  commit_leaves OutOfMemory now to stands run = inl (stands refl)
+  commit_leaves Page now to stands run = absurd to
+  commit_leaves Busy now to stands run = absurd to
+  commit_leaves (Refused error) now to stands run = absurd to
+  commit_leaves (TagRefused page) now to stands run = absurd to
+  commit_leaves Misuse now to stands run = absurd to
+  commit_leaves Down now to stands run = absurd to

@@ -1,11 +1,11 @@
 -- What a session's transaction leaves is the file with its changes.
-use Rattle.std.proofs.Common.{◌≡◌, ◌≢◌, inl, inr, ⊎_elim, ℕ, ◌-◌, ◌*◌, ◌≤◌, ◌==◌, ◌||◌, Bool, true, false, IsTrue, List, length, take, drop, Option, Some, None, is_some, if◌then◌else◌, refl, sym, ap, subst, ◌∙◌, arith, rules, length-take}
+use Rattle.std.proofs.Common.{◌≡◌, ◌≢◌, inl, inr, ℕ, ◌-◌, ◌*◌, ◌≤◌, ◌==◌, ◌||◌, Bool, true, false, IsTrue, List, length, take, drop, Option, Some, None, is_some, if◌then◌else◌, refl, sym, ap, subst, ◌∙◌, arith, length-take}
 use Rattle.std.specs.Prelude.{unwrap_or}
-use Rattle.std.proofs.lemmas.Bool.{cases_eq}
+use Rattle.std.proofs.lemmas.Bool.{eqb-true}
 use Rattle.std.proofs.lemmas.List.{take-take}
 use Rattle.edge_model.specs.Files.{Files, main_of}
 use Rattle.edge_model.specs.Images.{Each, LeavesOnly}
-use Rattle.edge_model.specs.Moments.{and_then, goes_less, started, weaker}
+use Rattle.edge_model.specs.Moments.{goes_less, started}
 use Rattle.edge_model.specs.OnlyRead.{OnlyRead}
 use Rattle.cipher_profile.proofs.Layouts.{IsListed-laid_out}
 use Rattle.cipher_profile.specs.Profile.{IsListed, is_plain, usable}
@@ -25,7 +25,7 @@ use Rattle.pager.proofs.UnderWayLemmas.{opened_at}
 use Rattle.atomic_commit.specs.Commit.{IsCommitted, LeavesChanged}
 use Rattle.atomic_commit.specs.Database.{Base, HoldsEither, HoldsOld, stored_page, stored_pages}
 use Rattle.atomic_commit.specs.Draws.{drawn_at}
-use Rattle.session_hall.specs.Commit.{StopsCommit, base_by, content_at, put_change, put_over}
+use Rattle.session_hall.specs.Commit.{StopsCommit, base_by, put_change, put_over}
 use Rattle.session_hall.specs.Draws.{HasDrawn, OwnDrawsBy}
 use Rattle.session_hall.specs.Kept.{IsHallSettled, IsSessionSound}
 use Rattle.session_hall.specs.Key.{Access, codec_at, codec_of}
@@ -60,13 +60,6 @@ or_false false b is = refl
 -- a commit that leaves a page as it is rekeys nothing
 pub same_access : (x : Session) (n : ℕ) → is_sealed x n ≡ false → write_access x ≡ x.access
 same_access x n is = no_key x.new_access x.access (or_false (is_some x.new_access) (is_some (change_of n x.changes)) is)
-
-content_least : (n : ℕ) → content_at n ≤ 100
-content_least n = by_number (n == 1)
-  where
-    by_number : (b : Bool) → (if b then 100 else 0) ≤ 100
-    by_number true = omega arith
-    by_number false = omega arith
 
 module _ (x : Session) (file : List ℕ) (listed : IsListed x.access.profile) (write_listed : IsListed (write_access x).profile) (plains : HasPlainPages x.access x.changes)
     (sound : IsSessionSound file x) (opens : counted_pages (opened_by x.access file) ≡ Some x.pages) (some : 1 ≤ x.pages)
@@ -132,29 +125,34 @@ module _ (x : Session) (file : List ℕ) (listed : IsListed x.access.profile) (w
     -- ---- plain pages
 
     plain_is : (n : ℕ) (page : List ℕ) → is_page_number count n ≡ true → change_of n x.changes ≡ Some page → plain n ≡ page
-    plain_is n page num is =
-        let o = (opened_pages keys file count).page n in
-        let sealed_too : is_sealed x n ≡ true = ap (λ (c : Option (List ℕ)). is_some x.new_access || is_some c) is ∙ or_true (is_some x.new_access) in
-        let written : plain n ≡ with_bytes (content_at n) (drop (content_at n) page) o =
-        ap (λ (c : Option (List ℕ)). put_change n c o) is in
-        let here : length page ≡ usable keys.profile = plains n page is in
-        let content = (IsListed-laid_out x.access.profile listed).content in
-        let sized : length (plain n) ≡ length page = has.sizes n num sealed_too ∙ (usable_is ∙ sym here) in
-        written
-        ∙ put_back_is (content_at n) page o (omega (arith, content_least n, content, here)) (begins n page o is (opened_at keys file count n num)) (ap length (sym written) ∙ sized)
+    plain_is n page num is = written ∙ by_number (n == 1) refl
       where
+        o : List ℕ
+        o = (opened_pages keys file count).page n
+
+        over : List ℕ
+        over = with_bytes 100 (drop 100 page) o
+
+        written : plain n ≡ (if n == 1 then over else page)
+        written = ap (λ (c : Option (List ℕ)). put_change n c o) is
+
         or_true : (a : Bool) → (a || true) ≡ true
         or_true true = refl
         or_true false = refl
 
-        begins : (n : ℕ) (page o : List ℕ) → change_of n x.changes ≡ Some page → o ≡ old_plain n → take (content_at n) o ≡ take (content_at n) page
-        begins n page o is opens_to = ⊎_elim
-            (λ (same : n ≡ 1). subst (λ (m : ℕ). take (content_at m) o ≡ take (content_at m) page) (sym same)
-            (ap (take 100) (opens_to ∙ ap old_plain same) ∙ sym (sound.header page (subst (λ (m : ℕ). change_of m x.changes ≡ Some page) same is))))
-            (λ other. ap (λ (at : ℕ). take at o) (behind n other) ∙ sym (ap (λ (at : ℕ). take at page) (behind n other))) (cases_eq n 1)
-          where
-            behind : (n : ℕ) → n ≢ 1 → content_at n ≡ 0
-            behind n other = search (rules, other)
+        here : length page ≡ usable keys.profile
+        here = plains n page is
+
+        sized : length (plain n) ≡ length page
+        sized = has.sizes n num (ap (λ (c : Option (List ℕ)). is_some x.new_access || is_some c) is ∙ or_true (is_some x.new_access)) ∙ (usable_is ∙ sym here)
+
+        by_number : (b : Bool) → (n == 1) ≡ b → (if n == 1 then over else page) ≡ page
+        by_number true first =
+            let one : n ≡ 1 = eqb-true n 1 first in
+            let cut : (if n == 1 then over else page) ≡ over = ap (λ (b : Bool). if b then over else page) first in
+            let begins : take 100 o ≡ take 100 page = ap (take 100) (opened_at keys file count n num ∙ ap old_plain one) ∙ sym (sound.header page (subst (λ (m : ℕ). change_of m x.changes ≡ Some page) one is)) in
+            cut ∙ put_back_is 100 page o (omega (arith, (IsListed-laid_out x.access.profile listed).content, here)) begins (ap length (sym (written ∙ cut)) ∙ sized)
+        by_number false other = ap (λ (b : Bool). if b then over else page) other
 
     unchanged_is : (n : ℕ) → is_page_number count n ≡ true → change_of n x.changes ≡ None → plain n ≡ old_plain n
     unchanged_is n num is =
@@ -294,12 +292,6 @@ old_read reads images moment since counts_now only_now x old new settled opens r
     (open_count (codec_of x.access (main_of (reads old))) (main_of (reads old)) x.pages opens)
     (stands_alone (reads old) (images old) settled (open_some (codec_of x.access (main_of (reads old))) (main_of (reads old)) x.pages opens) image here)))
     read.time (λ c now. read.same_images.no_more c now)
-
--- behind reads, the same run
-pub read_then : {D : Type 0} {moment : D → ℕ} {since : D → ℕ → Files → Type 0} {base : Base} {P : List ℕ → Type 0} {old mid new : D} → LeavesOnly moment since old mid (HoldsOld base)
-    → LeavesChanged moment since base P mid new → LeavesChanged moment since base P old new
-read_then first (inl run) = inl (and_then first run)
-read_then first (inr new) = inr (new.0, new.1, and_then (weaker (λ c old. inl old) first) new.2)
 
 -- a file that opens is refused by the disk or for memory alone
 pub refused_stops : {D : Type 0} (reads : D → Files) (images : D → Files → Type 0) (moment : D → ℕ) (since : D → ℕ → Files → Type 0) (old new : D) (r : Result Opened OpenError) (x : Opened) (error : OpenError)

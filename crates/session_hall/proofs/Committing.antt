@@ -16,6 +16,7 @@ use Rattle.pager.specs.Pages.{is_page_number, opened_pages}
 use Rattle.atomic_commit.specs.Commit.{IsCommitted, LeavesChanged}
 use Rattle.atomic_commit.specs.Database.{Base, HoldsOld}
 use Rattle.atomic_commit.specs.Facts.{IsCommitBegun}
+use Rattle.atomic_commit.proofs.Behind.{then_changed}
 use Rattle.session_hall.specs.Commit.{base_by, put_over}
 use Rattle.session_hall.specs.Draws.{HasDrawn}
 use Rattle.session_hall.specs.Kept.{IsHallSettled, IsSessionSound}
@@ -24,7 +25,7 @@ use Rattle.session_hall.specs.Locks.{is_holding}
 use Rattle.session_hall.specs.Machine.{HasSessionChanges, is_sealed, opened_by, counted_pages, write_access}
 use Rattle.session_hall.specs.Session.{HasPlainPages, Session}
 use Rattle.session_hall.specs.Writing.{HasWritten}
-use Rattle.session_hall.proofs.Committed.{HasNew, done_changes, has_drawn, leaves_changes, old_read, read_then}
+use Rattle.session_hall.proofs.Committed.{HasNew, done_changes, has_drawn, leaves_changes, old_read}
 use Rattle.session_hall.proofs.Counting.{open_long, open_some}
 use Rattle.session_hall.proofs.Sound.{read_settled}
 use Rattle.pager.proofs.Bases.{any_base, told_base}
@@ -136,7 +137,7 @@ module _ {D : Type 0} (reads : D → Files) (images : D → Files → Type 0) (m
         has_drawn x file listed write_listed plains sound opens pages_some layout draws_told before after main (same_left main left layout) draws
 
     pub moments : (new : D) → LeavesChanged moment since any HasLeft mid new → LeavesChanged moment since (base_by x file) (HasSessionChanges x file) old new
-    moments new changes = read_then still_old (by_case (subst (λ (b : Base). LeavesChanged moment since b HasLeft mid new) base_is changes))
+    moments new changes = then_changed still_old (by_case (subst (λ (b : Base). LeavesChanged moment since b HasLeft mid new) base_is changes))
       where
         by_case : LeavesChanged moment since (base_by x file) HasLeft mid new → LeavesChanged moment since (base_by x file) (HasSessionChanges x file) mid new
         by_case (inl olds) = inl olds

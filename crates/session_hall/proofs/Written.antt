@@ -1,12 +1,9 @@
 -- A loop that writes the pages of a commit: what is seen and touched so far, and that no page is refused.
-use Rattle.std.proofs.Common.{◌≡◌, inl, inr, ℕ, ◌+◌, ◌-◌, ◌≤◌, ◌==◌, ◌&&◌, ◌||◌, Bool, true, false, IsTrue, List, [], ◌++◌, length, take, drop, Option, Some, None, is_some, Result, Ok, Err, if◌then◌else◌, refl, sym, ap, subst, ◌∙◌, arith, rules}
-use Rattle.std.specs.Prelude.{nat_le, IfErr, IsErrAnd, OnOk}
-use Rattle.std.proofs.lemmas.List.{take-append-drop}
+use Rattle.std.proofs.Common.{◌≡◌, ◌≢◌, ℕ, ◌+◌, ◌-◌, ◌==◌, ◌&&◌, ◌||◌, Bool, true, false, IsTrue, List, [], ◌++◌, length, take, drop, replicate, append-nil, Option, Some, None, is_some, Result, Ok, Err, if◌then◌else◌, refl, sym, ap, subst, ◌∙◌, arith, rules}
+use Rattle.std.specs.Prelude.{IfErr, IsErrAnd, OnOk}
+use Rattle.std.proofs.lemmas.List.{drop_all, length-replicate, take-append-drop}
 use Rattle.std.proofs.lemmas.Bool.{eqb-true}
-use Rattle.std.proofs.lemmas.Bool.Decides.{nat_tests}
 use Rattle.edge_model.specs.Files.{Files, main_of}
-use Rattle.edge_model.specs.Images.{LeavesOnly}
-use Rattle.edge_model.specs.Moments.{and_then, weaker}
 use Rattle.cipher_profile.specs.Profile.{usable}
 use Rattle.db_format.specs.Pages.{Pages}
 use Rattle.page_cache.specs.Pages.{Page, is_held}
@@ -21,11 +18,10 @@ use Rattle.pager.proofs.BatchLemmas.{and_true}
 use Rattle.pager.proofs.TxnLemmas.{layout_same}
 use Rattle.pager.proofs.UnderWayLemmas.{same_at}
 use Rattle.rollback_journal.specs.Writing.{Writing}
-use Rattle.atomic_commit.specs.Commit.{LeavesChanged}
-use Rattle.atomic_commit.specs.Database.{Base, HoldsOld, stored_page}
+use Rattle.atomic_commit.specs.Database.{stored_page}
 use Rattle.atomic_commit.specs.Draws.{drawn_at}
 use Rattle.atomic_commit.specs.Marks.{is_marked}
-use Rattle.session_hall.specs.Commit.{content_at, put_change, put_over}
+use Rattle.session_hall.specs.Commit.{put_change, put_over}
 use Rattle.session_hall.specs.Machine.{is_sealed}
 use Rattle.session_hall.specs.Session.{Session, change_of}
 use Rattle.session_hall.specs.Writing.{HasWritten, MayStopChange, is_unwritten_answer, page_answer}
@@ -83,25 +79,70 @@ change_refusal tells seen n a b c d AllPinned num refused = refused
 pub written_none : (at : ℕ) (page : List ℕ) → with_bytes at [] page ≡ page
 written_none at page = ap (λ (i : ℕ). take at page ++ drop i page) {x = at + 0} {y = at} (omega arith) ∙ take-append-drop at page
 
--- what a session sees of its changes is what is written
-pub put_changed : (session : Session) (n : ℕ) (changed page : List ℕ) → change_of n session.changes ≡ Some changed
-    → with_bytes (content_at n) (drop (content_at n) changed) page ≡ put_over session n page
-put_changed session n changed page is = ap (λ (o : Option (List ℕ)). put_change n o page) (sym is)
-
 pub put_unchanged : (session : Session) (n : ℕ) (page : List ℕ) → change_of n session.changes ≡ None → put_over session n page ≡ page
 put_unchanged session n page is = ap (λ (o : Option (List ℕ)). put_change n o page) is
 
--- the changed part of a page, as it is cut out of it
-pub put_written : (session : Session) (n at : ℕ) (bytes changed page : List ℕ) → at ≡ content_at n → bytes ≡ drop at changed → Some changed ≡ change_of n session.changes
-    → with_bytes at bytes page ≡ put_over session n page
-put_written session n at bytes changed page is_at cut is =
-    ap (λ (l : List ℕ). with_bytes at l page) cut
-    ∙ ap (λ (k : ℕ). with_bytes k (drop k changed) page) is_at
-    ∙ put_changed session n changed page (sym is)
+-- nor is a page that is not sealed anew
+pub unsealed_same : (session : Session) (n : ℕ) (page : List ℕ) → is_sealed session n ≡ false → put_over session n page ≡ page
+unsealed_same session n page is = put_unchanged session n page (none_of (change_of n session.changes) (second (is_some session.new_access) (is_some (change_of n session.changes)) is))
+  where
+    second : (a b : Bool) → (a || b) ≡ false → b ≡ false
+    second true b is = cc
+    second false b is = is
+
+    none_of : (o : Option (List ℕ)) → is_some o ≡ false → o ≡ None
+    none_of None is = refl
+    none_of (Some x) is = cc
+
+-- page 1: the changed part, as it is cut out of the changed page
+pub put_first : (session : Session) (n : ℕ) (bytes changed page : List ℕ) → n ≡ 1 → bytes ≡ drop 100 changed → Some changed ≡ change_of n session.changes
+    → with_bytes 100 bytes page ≡ put_over session n page
+put_first session n bytes changed page first cut is =
+    ap (λ (l : List ℕ). with_bytes 100 l page) cut
+    ∙ ap (λ (k : ℕ). if k == 1 then with_bytes 100 (drop 100 changed) page else changed) (sym first)
+    ∙ ap (λ (o : Option (List ℕ)). put_change n o page) is
+
+-- every other one: the changed page
+pub put_whole : (session : Session) (n : ℕ) (changed page : List ℕ) → n ≢ 1 → Some changed ≡ change_of n session.changes → changed ≡ put_over session n page
+put_whole session n changed page other is =
+    ap (λ (b : Bool). if b then with_bytes 100 (drop 100 changed) page else changed) (sym (by_number (n == 1) refl))
+    ∙ ap (λ (o : Option (List ℕ)). put_change n o page) is
+  where
+    by_number : (b : Bool) → (n == 1) ≡ b → (n == 1) ≡ false
+    by_number true same = absurd (other (eqb-true n 1 same))
+    by_number false is = is
 
 -- no byte of a page that was not changed
 pub same_written : (session : Session) (n at : ℕ) (page : List ℕ) → None ≡ change_of n session.changes → with_bytes at [] page ≡ put_over session n page
 same_written session n at page is = written_none at page ∙ sym (put_unchanged session n page (sym is))
+
+-- a page over zeros
+pub over_zeros : (page : List ℕ) (size : ℕ) → length page ≡ size → with_bytes 0 page (replicate size 0) ≡ page
+over_zeros page size long =
+    ap (λ (l : List ℕ). take 0 (replicate size 0) ++ (page ++ l)) (drop_all (0 + length page) (replicate size 0) (omega (arith, long, length-replicate {A = ℕ} size 0)))
+    ∙ append-nil page
+
+-- where page n was made zeros and then this one
+module _ (m n : ℕ) (page none : List ℕ) (old mid : ℕ → List ℕ) (made : (k : ℕ) → mid k ≡ (if k == n then none else old k)) (over : with_bytes 0 page none ≡ page) where
+  pub replaced : (if m == n then with_bytes 0 page (mid n) else mid m) ≡ (if m == n then page else old m)
+  replaced = by_number (m == n) refl
+    where
+      self : (k : ℕ) → (k == k) ≡ true
+      self k = search rules
+
+      by_number : (b : Bool) → (m == n) ≡ b → (if m == n then with_bytes 0 page (mid n) else mid m) ≡ (if m == n then page else old m)
+      by_number true same =
+          ap (λ (b : Bool). if b then with_bytes 0 page (mid n) else mid m) same
+          ∙ ap (with_bytes 0 page) (made n ∙ ap (λ (b : Bool). if b then none else old n) (self n))
+          ∙ over ∙ sym (ap (λ (b : Bool). if b then page else old m) same)
+      by_number false other =
+          ap (λ (b : Bool). if b then with_bytes 0 page (mid n) else mid m) other
+          ∙ made m ∙ ap (λ (b : Bool). if b then none else old m) other ∙ sym (ap (λ (b : Bool). if b then page else old m) other)
+
+-- what was touched twice was touched
+pub touched_twice : (b one : Bool) → (if b then true else (if b then true else one)) ≡ (if b then true else one)
+touched_twice true one = refl
+touched_twice false one = refl
 
 -- where page n alone was written
 pub one_written : (m n : ℕ) (new old : List ℕ) (page : ℕ → List ℕ) → new ≡ old → (if m == n then new else page m) ≡ (if m == n then old else page m)
@@ -140,54 +181,6 @@ or_nothing false = refl
 
 -- ---- the pages so far
 
-module _ {A : Type 0} (new old : ℕ → A) where
-  -- of the first pages the new ones, else the old ones
-  abbrev pub so_far : ℕ → ℕ → A
-  so_far done m = if nat_le m done then new m else old m
-
-  pub none_yet : (m : ℕ) → 1 ≤ m → old m ≡ so_far 0 m
-  none_yet m one =
-      let none : nat_le m 0 ≡ false = search (rules, one) in
-      ap (λ (b : Bool). if b then new m else old m) (sym none)
-
-  pub all_now : (m done : ℕ) → m ≤ done → so_far done m ≡ new m
-  all_now m done le =
-      let all : nat_le m done ≡ true = search (rules, le) in
-      ap (λ (b : Bool). if b then new m else old m) all
-
-  le_more : (m done : ℕ) → nat_le m (done + 1) ≡ ((m == done + 1) || nat_le m done)
-  le_more m done = grind (arith, nat_tests)
-
-  not_yet : (done : ℕ) → nat_le (done + 1) done ≡ false
-  not_yet done = grind (arith, nat_tests)
-
-  by_or : (e l : Bool) (x y : A) → (if e then x else (if l then x else y)) ≡ (if e || l then x else y)
-  by_or true l x y = refl
-  by_or false true x y = refl
-  by_or false false x y = refl
-
-  -- one page more: `put` makes the new one of the old one
-  pub one_more : (m done : ℕ) (put : ℕ → A → A) (seen : ℕ → A) (next : A) → ((k : ℕ) → new k ≡ put k (old k))
-      → seen m ≡ so_far done m → seen (done + 1) ≡ so_far done (done + 1)
-      → next ≡ (if m == done + 1 then put (done + 1) (seen (done + 1)) else seen m) → next ≡ so_far (done + 1) m
-  one_more m done put seen next is_new now here is =
-      is
-      ∙ ap (λ (x : A). if m == done + 1 then x else seen m) written
-      ∙ ap (λ (x : A). if m == done + 1 then new (done + 1) else x) now
-      ∙ by_number (m == done + 1) refl
-    where
-      written : put (done + 1) (seen (done + 1)) ≡ new (done + 1)
-      written = ap (put (done + 1)) (here ∙ ap (λ (b : Bool). if b then new (done + 1) else old (done + 1)) (not_yet done)) ∙ sym (is_new (done + 1))
-
-      by_number : (b : Bool) → (m == done + 1) ≡ b → (if m == done + 1 then new (done + 1) else so_far done m) ≡ so_far (done + 1) m
-      by_number true same =
-          ap (λ (b : Bool). if b then new (done + 1) else so_far done m) same
-          ∙ ap new (sym (eqb-true m (done + 1) same))
-          ∙ sym (ap (λ (b : Bool). if b then new m else old m) (le_more m done ∙ ap (λ (b : Bool). b || nat_le m done) same))
-      by_number false other =
-          ap (λ (b : Bool). if b then new (done + 1) else so_far done m) other
-          ∙ sym (ap (λ (b : Bool). if b then new m else old m) (le_more m done ∙ ap (λ (b : Bool). b || nat_le m done) other))
-
 -- ---- the end
 
 -- new pages by other words
@@ -215,18 +208,6 @@ new_as start keys touched sealed_anew plain new tells drawn main all same has = 
     sealed_too n is =
         let two = and_true (is_page_number start.base.pages n) (sealed_anew n) is in
         and_both (is_page_number start.base.pages n) (touched n) two.0 (all n two.0 ∙ two.1)
-
--- what new pages it has follows from other ones
-pub changed_weaker : {D : Type 0} {moment : D → ℕ} {since : D → ℕ → Files → Type 0} {base : Base} {P Q : List ℕ → Type 0} {old new : D} → ((main : List ℕ) → P main → Q main)
-    → LeavesChanged moment since base P old new → LeavesChanged moment since base Q old new
-changed_weaker gives (inl run) = inl run
-changed_weaker gives (inr new) = inr (new.0, gives new.0 new.1, new.2)
-
--- behind a run that left the old pages
-pub old_then : {D : Type 0} {moment : D → ℕ} {since : D → ℕ → Files → Type 0} {base : Base} {P : List ℕ → Type 0} {old mid new : D} → LeavesOnly moment since old mid (HoldsOld base)
-    → LeavesChanged moment since base P mid new → LeavesChanged moment since base P old new
-old_then first (inl run) = inl (and_then first run)
-old_then first (inr new) = inr (new.0, new.1, and_then (weaker (λ c old. inl old) first) new.2)
 
 -- ---- the start
 

@@ -18,15 +18,11 @@ use Rattle.session_hall.specs.declared.step.Answer.TheVariants.{Done, Page, Busy
 
 -- ---- pages
 
--- where the part of plain page n begins that a session may change: on page 1 behind the header
-abbrev pub content_at : ℕ → ℕ
-content_at n = if n == 1 then 100 else 0
-
 abbrev pub put_change : ℕ → Option (List ℕ) → List ℕ → List ℕ
 put_change n None page = page
-put_change n (Some changed) page = with_bytes (content_at n) (drop (content_at n) changed) page
+put_change n (Some changed) page = if n == 1 then with_bytes 100 (drop 100 changed) page else changed
 
--- what the commit writes for plain page n: the part of it that the session may have changed
+-- what the commit writes for plain page n: of page 1 the part behind the header, which is all that the session may have changed there
 abbrev pub put_over : Session → ℕ → List ℕ → List ℕ
 put_over session n page = put_change n (change_of n session.changes) page
 
@@ -73,12 +69,26 @@ StopsCommit reads images moment since old new EntropyFault = Unit {0}
 StopsCommit reads images moment since old new OutOfMemory = OnlyRead reads images moment since old new
 StopsCommit reads images moment since old new answer = ⊥
 
--- nothing is written, or the session's commit is under way
-abbrev pub CommitLeaves : {D : Type 0} → (D → Files) → (D → ℕ) → (D → ℕ → Files → Type 0) → Session → D → D → Type 0
-CommitLeaves reads moment since session old new =
-    LeavesOnly moment since old new (StandsAsRead (reads old)) ⊎ Commitment moment since session (main_of (reads old)) old new
+-- a commit that is answered so may have written something
+abbrev pub MayHaveWritten : Answer → Type 0
+MayHaveWritten Done = Unit {0}
+MayHaveWritten Page = ⊥
+MayHaveWritten Busy = ⊥
+MayHaveWritten (Refused error) = ⊥
+MayHaveWritten (TagRefused page) = ⊥
+MayHaveWritten Misuse = ⊥
+MayHaveWritten Down = ⊥
+MayHaveWritten DiskFault = Unit {0}
+MayHaveWritten EntropyFault = Unit {0}
+MayHaveWritten OutOfMemory = ⊥
 
--- At each moment of a step each image has Main and Journal as they read at its start; but for a commit, of this session.
-abbrev pub StepLeaves : {D : Type 0} → (D → Files) → (D → ℕ) → (D → ℕ → Files → Type 0) → Step → Session → D → D → Type 0
-StepLeaves reads moment since step session old new =
-    LeavesOnly moment since old new (StandsAsRead (reads old)) ⊎ ((step ≡ Commit) × Commitment moment since session (main_of (reads old)) old new)
+-- nothing is written, or the session's commit is under way, which is answered so
+abbrev pub CommitLeaves : {D : Type 0} → (D → Files) → (D → ℕ) → (D → ℕ → Files → Type 0) → Answer → Session → D → D → Type 0
+CommitLeaves reads moment since answer session old new =
+    LeavesOnly moment since old new (StandsAsRead (reads old)) ⊎ (MayHaveWritten answer × Commitment moment since session (main_of (reads old)) old new)
+
+-- At each moment of a step each image has Main and Journal as they read at its start; but for a commit, of this session, by its answer.
+abbrev pub StepLeaves : {D : Type 0} → (D → Files) → (D → ℕ) → (D → ℕ → Files → Type 0) → Step → Answer → Session → D → D → Type 0
+StepLeaves reads moment since step answer session old new =
+    LeavesOnly moment since old new (StandsAsRead (reads old))
+    ⊎ ((step ≡ Commit) × MayHaveWritten answer × Commitment moment since session (main_of (reads old)) old new)

@@ -46,7 +46,7 @@ pub fn commit_session<D: Disk, E: Entropy>(
         (HoldsSessionPages session.old (main_of (D.reads disk.old)) (main_of (D.reads disk.old))) }
     ensures drawn { is_plain layout.now ≡ false → result ≡ Answer.Done → IsTrue D.tells → IsTrue E.tells
         → HasDrawn session.old (main_of (D.reads disk.new)) (E.drawn entropy.old) (E.drawn entropy.new) }
-    ensures no_memory { result ≡ Answer.OutOfMemory → IsTrue D.tells → entropy.new ≡ entropy.old }
+    ensures no_memory { result ≡ Answer.OutOfMemory → IsTrue D.tells → (entropy.new ≡ entropy.old) × OnlyRead D.reads D.images D.moment D.since disk.old disk.new }
     ensures undrawn { is_plain layout.now ≡ true → (entropy.new ≡ entropy.old) × (result ≢ Answer.EntropyFault) }
     ensures disk_fault { result ≡ Answer.DiskFault → Rose (D.faults disk.old) (D.faults disk.new) }
     ensures entropy_fault { result ≡ Answer.EntropyFault → Rose (E.faults entropy.old) (E.faults entropy.new) }
@@ -73,7 +73,7 @@ fn commit_drawing<D: Disk, E: Entropy>(
     ensures settled { IsTrue D.tells → IsUp result → IsHallSettled (D.reads disk.new) (D.images disk.new) }
     ensures drawn { result ≡ Answer.Done → IsTrue D.tells → IsTrue E.tells
         → HasDrawn session.old (main_of (D.reads disk.new)) (E.drawn entropy.old) (E.drawn entropy.new) }
-    ensures no_memory { result ≡ Answer.OutOfMemory → IsTrue D.tells → entropy.new ≡ entropy.old }
+    ensures no_memory { result ≡ Answer.OutOfMemory → IsTrue D.tells → (entropy.new ≡ entropy.old) × OnlyRead D.reads D.images D.moment D.since disk.old disk.new }
     ensures any_moment { IsTrue D.tells → Commitment D.moment D.since session.old (main_of (D.reads disk.old)) disk.old disk.new }
     ensures only_old { result ≡ Answer.EntropyFault → IsTrue D.tells → LeavesOnly D.moment D.since disk.old disk.new
         (HoldsSessionPages session.old (main_of (D.reads disk.old)) (main_of (D.reads disk.old))) }

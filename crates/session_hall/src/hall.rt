@@ -123,7 +123,7 @@ impl<'d, D: Disk, E: Entropy> Hall<'d, D, E> {
         ensures kept { IsTrue D.tells → self.new.is_down ≡ false → IsHallKept (D.reads self.new.disk.now) (D.images self.new.disk.now) self.new.sessions.items }
         // what a stop leaves at each moment
         ensures any_moment { IsTrue D.tells → self.old.is_down ≡ false
-            → StepLeaves D.reads D.moment D.since step (session_at self.old.sessions.items session) self.old.disk.now self.new.disk.now }
+            → StepLeaves D.reads D.moment D.since step result (session_at self.old.sessions.items session) self.old.disk.now self.new.disk.now }
         ensures only_old { result ≡ Answer.EntropyFault → IsTrue D.tells → self.old.is_down ≡ false → LeavesOnly D.moment D.since self.old.disk.now self.new.disk.now
             (HoldsSessionPages (session_at self.old.sessions.items session) (main_of (D.reads self.old.disk.now)) (main_of (D.reads self.old.disk.now))) }
         // a commit alone draws, and each page that it seals anew has bytes of its own of those
@@ -157,7 +157,7 @@ impl<'d, D: Disk, E: Entropy> Hall<'d, D, E> {
         ensures up_before { result ≢ Answer.Down }
         ensures settled { IsTrue D.tells → IsUp result → IsHallSettled (D.reads self.new.disk.now) (D.images self.new.disk.now) }
         ensures any_moment { IsTrue D.tells
-            → StepLeaves D.reads D.moment D.since step (session_at self.old.sessions.items i) self.old.disk.now self.new.disk.now }
+            → StepLeaves D.reads D.moment D.since step result (session_at self.old.sessions.items i) self.old.disk.now self.new.disk.now }
         ensures only_old { result ≡ Answer.EntropyFault → IsTrue D.tells → LeavesOnly D.moment D.since self.old.disk.now self.new.disk.now
             (HoldsSessionPages (session_at self.old.sessions.items i) (main_of (D.reads self.old.disk.now)) (main_of (D.reads self.old.disk.now))) }
         ensures drawn { IsTrue D.tells → IsTrue E.tells → StepDraws self.old.layout step result (session_at self.old.sessions.items i)
@@ -373,7 +373,7 @@ impl<'d, D: Disk, E: Entropy> Hall<'d, D, E> {
             (state (D.reads self.new.disk.now) self.new.layout self.new.sessions.items self.new.page) }
         ensures settled { IsTrue D.tells → IsUp result → IsHallSettled (D.reads self.new.disk.now) (D.images self.new.disk.now) }
         ensures awake { result ≢ Answer.Down }
-        ensures any_moment { IsTrue D.tells → CommitLeaves D.reads D.moment D.since (session_at self.old.sessions.items i) self.old.disk.now self.new.disk.now }
+        ensures any_moment { IsTrue D.tells → CommitLeaves D.reads D.moment D.since result (session_at self.old.sessions.items i) self.old.disk.now self.new.disk.now }
         ensures only_old { result ≡ Answer.EntropyFault → IsTrue D.tells → LeavesOnly D.moment D.since self.old.disk.now self.new.disk.now
             (HoldsSessionPages (session_at self.old.sessions.items i) (main_of (D.reads self.old.disk.now)) (main_of (D.reads self.old.disk.now))) }
         ensures drawn { IsTrue D.tells → IsTrue E.tells → CommitDraws self.old.layout result (session_at self.old.sessions.items i)

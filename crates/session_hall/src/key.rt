@@ -1,12 +1,12 @@
-// What a session opens the file with. The keys are derived once for a salt, since a passphrase takes long.
-ghost use Rattle.std.specs.Prelude.{◌≡◌, IfSome, true};
-ghost use Rattle.cipher_profile.specs.Profile.{IsListed, is_plain};
-ghost use Rattle.cipher_profile.specs.Keys.{page_keys};
-ghost use Rattle.page_codec.specs.Page.{magic};
+// What a session opens the file with. Its codec is made once for a salt: to derive the keys of a passphrase takes long, and key schedules
+// for each page add up.
+ghost use Rattle.std.specs.Prelude.{◌≡◌, ◌≤◌, ◌↔◌, length, take, IfSome, IfOk, IsOk, IsTrue, true};
+ghost use Rattle.cipher_profile.specs.Profile.{IsListed, is_plain, usable};
+ghost use Rattle.page_codec.specs.Page.{accepts, keys_with_salt, magic, opened};
 ghost use Rattle.session_hall.specs.Key.{Access, codec_at, is_key_for, salt_in};
 
-use cipher_profile::{PageKeys, Profile, Secret, derive};
-use page_codec::{Codec, MAGIC};
+use cipher_profile::{Profile, Secret};
+use page_codec::{Codec, MAGIC, TagRefused};
 use std::marker::Model;
 
 /// Whether the secret is one for files of the profile: a plain file has no key, and every other one has one.
@@ -30,19 +30,12 @@ fn salt_in(profile: &Profile, first: [u8; 16]) -> [u8; 16]
     first
 }
 
-/// The keys that a secret gives for a salt.
-#[derive(Clone, Copy, Debug, PartialEq, Eq)]
-pub struct Found {
-    pub keys: PageKeys,
-    pub salt: [u8; 16],
-}
-
-/// A profile and a secret, with the keys that were derived last.
+/// A profile and a secret, with the codec that they gave last.
 #[derive(Drop)]
 pub struct Key {
     profile: Profile,
     secret: Secret,
-    found: Option<Found>,
+    last: Option<Codec>,
 }
 
 impl Model for Key {
@@ -52,7 +45,7 @@ impl Model for Key {
 
     ghost invariant = { λ k. record {
       listed : IsListed k.profile;
-      right : IfSome k.found (λ f. f.keys ≡ page_keys k.profile k.secret f.salt);
+      right : IfSome k.last (λ codec. codec ≡ keys_with_salt k.profile k.secret codec.salt);
     } };
 }
 
@@ -65,7 +58,7 @@ impl Key {
         Key {
             profile,
             secret,
-            found: None,
+            last: None,
         }
     }
 
@@ -82,23 +75,42 @@ impl Key {
         ensures value { result ≡ codec_at self.old first }
         ensures same { self.new ≡ self.old }
     {
-        let salt = salt_in(&self.profile, first);
-        let keys = self.keys(salt);
-        Codec::new(self.profile, keys, salt)
+        let codec = self.take_codec(first);
+        let again = codec.again();
+        self.last = Some(codec);
+        again
     }
 
-    // The keys for this salt, derived where they are not those that were derived last.
-    fn keys(&mut self, salt: [u8; 16]) -> PageKeys
-        ensures value { result ≡ page_keys self.old.profile self.old.secret salt }
+    /// Opens stored page n of such a file where it stands, as that codec does.
+    pub fn open_in_place(
+        &mut self,
+        first: [u8; 16],
+        n: u32,
+        page: &mut [u8],
+    ) -> Result<(), TagRefused>
+        requires number { 1 ≤ n }
+        requires size { length page.old ≡ self.old.profile.page_size }
+        ensures accepted { IsOk result ↔ IsTrue (accepts (codec_at self.old first) n page.old) }
+        ensures opened { IfOk result (λ _. take (usable self.old.profile) page.new ≡ opened (codec_at self.old first) n page.old) }
         ensures same { self.new ≡ self.old }
     {
-        if let Some(found) = self.found {
-            if found.salt == salt {
-                return found.keys;
+        let codec = self.take_codec(first);
+        let result = codec.open_in_place(n, page);
+        self.last = Some(codec);
+        result
+    }
+
+    // The codec of such a file: the last one where that is of the same salt. The caller puts it back.
+    fn take_codec(&mut self, first: [u8; 16]) -> Codec
+        ensures value { result ≡ codec_at self.old first }
+        ensures same { self.new ≡ self.old }
+    {
+        let salt = salt_in(&self.profile, first);
+        if let Some(codec) = self.last.take() {
+            if codec.salt() == salt {
+                return codec;
             }
         }
-        let keys = derive(&self.secret, &self.profile, &salt);
-        self.found = Some(Found { keys, salt });
-        keys
+        Codec::of_secret(self.profile, &self.secret, salt)
     }
 }

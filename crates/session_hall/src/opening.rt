@@ -5,7 +5,7 @@ ghost use Rattle.edge_model.specs.Images.{Each};
 ghost use Rattle.edge_model.specs.OnlyRead.{OnlyRead};
 ghost use Rattle.edge_model.specs.Files.{main_of};
 ghost use Rattle.pager.specs.Opening.{HasNoJournal, IsRefusedBy};
-ghost use Rattle.session_hall.specs.Key.{codec_of};
+ghost use Rattle.session_hall.specs.Key.{Access, codec_at, codec_of};
 ghost use Rattle.session_hall.specs.Machine.{opened_by, counted_pages};
 
 use crate::session::Session;
@@ -17,6 +17,17 @@ use std::alloc::Global;
 /// How many frames are taken where a file is only looked at.
 const FRAMES: u32 = 24;
 
+/// The bytes that Main begins with, which give the codec of each session for it.
+pub fn first_bytes<D: Disk>(disk: &mut D) -> Result<[u8; 16], Failed>
+    ensures codec { IfOk result (λ first. IsTrue D.tells → 16 ≤ length (main_of (D.reads disk.old)) → (access : Access) → codec_at access first ≡ codec_of access (main_of (D.reads disk.old))) }
+    ensures cause { HasCause (D.faults disk.old) (D.faults disk.new) result }
+    ensures only_read { IsTrue D.tells → OnlyRead D.reads D.images D.moment D.since disk.old disk.new }
+{
+    let mut first = [0u8; 16];
+    read_main(disk, 0, &mut first)?;
+    Ok(first)
+}
+
 /// The session's codec for Main.
 pub fn codec_of_main<D: Disk>(disk: &mut D, session: &mut Session) -> Result<Codec, Failed>
     ensures codec { IfOk result (λ codec. IsTrue D.tells → 16 ≤ length (main_of (D.reads disk.old)) → codec ≡ codec_of session.old.access (main_of (D.reads disk.old))) }
@@ -25,8 +36,7 @@ pub fn codec_of_main<D: Disk>(disk: &mut D, session: &mut Session) -> Result<Cod
     ensures cause { HasCause (D.faults disk.old) (D.faults disk.new) result }
     ensures only_read { IsTrue D.tells → OnlyRead D.reads D.images D.moment D.since disk.old disk.new }
 {
-    let mut first = [0u8; 16];
-    read_main(disk, 0, &mut first)?;
+    let first = first_bytes(disk)?;
     Ok(session.codec(first))
 }
 

@@ -1,20 +1,23 @@
 // One session.
-ghost use Rattle.std.specs.Prelude.{◌≡◌, ◌≤◌, [], length, None, Some, OnOk, OnErr, IfSome, is_some, option_map, unwrap_or};
+ghost use Rattle.std.specs.Prelude.{◌≡◌, ◌≤◌, ◌<◌, ◌↔◌, ℕ, [], length, take, false, None, Some, OnOk, OnErr, IfOk, IsOk, IfSome, IsTrue, is_some, option_map, unwrap_or};
 ghost use Rattle.std.specs.BTreeMap.{insert_entry};
 ghost use Rattle.std.specs.Ordering.{nat_cmp};
 ghost use Rattle.cipher_profile.specs.Profile.{IsListed, usable};
+ghost use Rattle.page_codec.specs.Page.{accepts, opened};
 ghost use Rattle.session_hall.specs.Key.{codec_at};
-ghost use Rattle.session_hall.specs.Session.{HasPlainPages, change_of};
+ghost use Rattle.session_hall.specs.Machine.{is_sealed};
+ghost use Rattle.session_hall.specs.Session.{HasPlainPages, change_of, changed_among};
 
 use crate::key::Key;
 use crate::lock::Lock;
 use crate::plain_page::PlainPage;
 use cipher_profile::Profile;
 use edge_model::OutOfMemory;
-use page_codec::Codec;
+use page_codec::{Codec, TagRefused};
 use std::alloc::Global;
 use std::collections::BTreeMap;
 use std::marker::Model;
+use std::ops::Bound;
 
 /// One session: its lock, what it opens the file with, and what it has changed.
 #[derive(Drop)]
@@ -82,6 +85,22 @@ impl Session {
         self.key.codec(first)
     }
 
+    /// Opens stored page n of such a file where it stands, as that codec does.
+    pub fn open_in_place(
+        &mut self,
+        first: [u8; 16],
+        n: u32,
+        page: &mut [u8],
+    ) -> Result<(), TagRefused>
+        requires number { 1 ≤ n }
+        requires size { length page.old ≡ self.old.access.profile.page_size }
+        ensures accepted { IsOk result ↔ IsTrue (accepts (codec_at self.old.access first) n page.old) }
+        ensures opened { IfOk result (λ _. take (usable self.old.access.profile) page.new ≡ opened (codec_at self.old.access first) n page.old) }
+        ensures same { self.new ≡ self.old }
+    {
+        self.key.open_in_place(first, n, page)
+    }
+
     /// The codec of its commit for a file that begins with these bytes.
     pub fn write_codec(&mut self, first: [u8; 16]) -> Codec
         ensures value { result ≡ codec_at (unwrap_or self.old.new_access self.old.access) first }
@@ -109,6 +128,49 @@ impl Session {
         if let Some(key) = self.new_key.take() {
             self.key = key;
         }
+    }
+
+    /// How many pages it has changed.
+    pub fn changed_pages(&self) -> usize
+        ensures { result ≡ length self.now.changes }
+    {
+        self.changes.len()
+    }
+
+    /// The first page behind this one, of so many pages, that its commit seals anew; none where it seals none of them.
+    pub fn next_sealed(&self, after: u32, pages: u32) -> Option<u32>
+        ensures next { IfSome result (λ n. (after < n) × (n ≤ pages)) }
+        ensures between { IfSome result (λ n. (m : ℕ) → after < m → m < n → is_sealed self.now m ≡ false) }
+        ensures none { result ≡ None → (m : ℕ) → after < m → m ≤ pages → is_sealed self.now m ≡ false }
+    {
+        if self.rekeys() {
+            return if after < pages { Some(after + 1) } else { None };
+        }
+        match self.next_change(after) {
+            Some(n) if n <= pages => Some(n),
+            _ => None,
+        }
+    }
+
+    // The first page behind this one that it has changed.
+    fn next_change(&self, after: u32) -> Option<u32>
+        ensures next { IfSome result (λ n. after < n) }
+        ensures between { IfSome result (λ n. (m : ℕ) → after < m → m < n → change_of m self.now.changes ≡ None) }
+        ensures none { result ≡ None → (m : ℕ) → after < m → change_of m self.now.changes ≡ None }
+    {
+        let behind = (Bound::Excluded(after), Bound::Unbounded);
+        match self.changes.range(behind).next() {
+            Some((n, _page)) => Some(*n),
+            None => None,
+        }
+    }
+
+    /// How many of the pages from the first to the last one it has changed.
+    pub fn changed_among(&self, first: u32, last: u32) -> usize
+        requires { first ≤ last }
+        ensures { result ≡ changed_among first last self.now.changes }
+    {
+        self.changes.range(first..=last).count()
     }
 
     /// Page n as it was changed, none where it was not.

@@ -4,7 +4,7 @@ use Rattle.edge_model.specs.Files.{Files, main_of}
 use Rattle.edge_model.specs.Images.{Each, LeavesOnly}
 use Rattle.edge_model.specs.Moments.{and_then, started, weaker}
 use Rattle.cipher_profile.specs.declared.profile.Profile.{Profile}
-use Rattle.session_hall.specs.Commit.{Commitment, StepLeaves}
+use Rattle.session_hall.specs.Commit.{Commitment, MayHaveWritten, StepLeaves}
 use Rattle.session_hall.specs.Kept.{IsHallSettled, StandsAsRead}
 use Rattle.session_hall.specs.Machine.{state}
 use Rattle.session_hall.specs.Session.{Session, session_at}
@@ -43,28 +43,28 @@ module _ {D : Type 0} (reads : D → Files) (images : D → Files → Type 0) (m
   committing old new session (inl stays) = weaker (λ c has. inl has) stays
   committing old new session (inr changed) = weaker (λ c has. ⊎_elim (λ was. inl was) (λ now. inr (changed.1, now)) has) changed.2
 
-  answered : (old new : D) (session : Session) (answer : Answer) (made : List ℕ) → LeavesOnly moment since old new (IsInCommit session (main_of (reads old)) made)
+  answered : (old new : D) (session : Session) (answer : Answer) (made : List ℕ) → MayHaveWritten answer → LeavesOnly moment since old new (IsInCommit session (main_of (reads old)) made)
       → (answer ≡ EntropyFault → LeavesOnly moment since old new (IsBeforeCommit session (main_of (reads old))))
       → LeavesOnly moment since old new (IsInAnswered answer session (main_of (reads old)) made)
-  answered old new session Done made leaves only_old = leaves
-  answered old new session Page made leaves only_old = leaves
-  answered old new session Busy made leaves only_old = leaves
-  answered old new session (Refused error) made leaves only_old = leaves
-  answered old new session (TagRefused page) made leaves only_old = leaves
-  answered old new session Misuse made leaves only_old = leaves
-  answered old new session Down made leaves only_old = leaves
-  answered old new session DiskFault made leaves only_old = leaves
-  answered old new session EntropyFault made leaves only_old = only_old refl
-  answered old new session OutOfMemory made leaves only_old = leaves
+  answered old new session Done made may leaves only_old = leaves
+  answered old new session Page made may leaves only_old = absurd may
+  answered old new session Busy made may leaves only_old = absurd may
+  answered old new session (Refused error) made may leaves only_old = absurd may
+  answered old new session (TagRefused page) made may leaves only_old = absurd may
+  answered old new session Misuse made may leaves only_old = absurd may
+  answered old new session Down made may leaves only_old = absurd may
+  answered old new session DiskFault made may leaves only_old = leaves
+  answered old new session EntropyFault made may leaves only_old = only_old refl
+  answered old new session OutOfMemory made may leaves only_old = absurd may
 
   module _ (old new : D) (layout : Profile) (sessions : List Session) (page : List ℕ) (entry : ScriptStep) (answer : Answer) where
     abbrev Leaves : Type 0
-    Leaves = StepLeaves reads moment since entry.step (session_at sessions entry.session) old new
+    Leaves = StepLeaves reads moment since entry.step answer (session_at sessions entry.session) old new
 
     -- the file that a step may come to, if it is a commit
     abbrev step_file : Leaves → List ℕ
     step_file (inl stands) = []
-    step_file (inr commit) = committed_file commit.1
+    step_file (inr commit) = committed_file commit.2
 
     -- and where the disk may not tell
     abbrev pub made_file : (tells : Bool) → (IsTrue tells → Leaves) → List ℕ
@@ -77,7 +77,7 @@ module _ {D : Type 0} (reads : D → Files) (images : D → Files → Type 0) (m
     step_leaves : IsHallSettled (reads old) (images old) → (leaves : Leaves) → Only → LeavesOnly moment since old new (IsInStep (Some entry) answer (step_file leaves) (state (reads old) layout sessions page))
     step_leaves settled (inl stands) only_old = weaker (λ c as_read. inl (has_main (reads old) c settled.alone as_read)) stands
     step_leaves settled (inr commit) only_old =
-        weaker (λ c has. inr (commit.0, has)) (answered old new (session_at sessions entry.session) answer (committed_file commit.1) (committing old new (session_at sessions entry.session) commit.1) only_old)
+        weaker (λ c has. inr (commit.0, has)) (answered old new (session_at sessions entry.session) answer (committed_file commit.2) commit.1 (committing old new (session_at sessions entry.session) commit.2) only_old)
 
     -- what a step leaves, with one file for all moments of a commit
     pub made_leaves : (tells : Bool) (leaves : IsTrue tells → Leaves) → IsTrue tells → IsHallSettled (reads old) (images old) → Only

@@ -26,18 +26,19 @@ abbrev pub IsInCommit : Session → List ℕ → List ℕ → Files → Type 0
 IsInCommit session file made image =
     IsBeforeCommit session file image ⊎ (HasSessionChanges session file made × HoldsSessionPages session file made image)
 
--- so it is within a commit that is answered so: where the entropy failed, nothing was written over the old pages
+-- So it is within a commit that is answered so. One that is answered otherwise wrote nothing, and where the entropy failed, nothing was
+-- written over the old pages.
 abbrev pub IsInAnswered : Answer → Session → List ℕ → List ℕ → Files → Type 0
 IsInAnswered Done session file made image = IsInCommit session file made image
-IsInAnswered Page session file made image = IsInCommit session file made image
-IsInAnswered Busy session file made image = IsInCommit session file made image
-IsInAnswered (Refused error) session file made image = IsInCommit session file made image
-IsInAnswered (TagRefused page) session file made image = IsInCommit session file made image
-IsInAnswered Misuse session file made image = IsInCommit session file made image
-IsInAnswered Down session file made image = IsInCommit session file made image
+IsInAnswered Page session file made image = ⊥
+IsInAnswered Busy session file made image = ⊥
+IsInAnswered (Refused error) session file made image = ⊥
+IsInAnswered (TagRefused page) session file made image = ⊥
+IsInAnswered Misuse session file made image = ⊥
+IsInAnswered Down session file made image = ⊥
 IsInAnswered DiskFault session file made image = IsInCommit session file made image
 IsInAnswered EntropyFault session file made image = IsBeforeCommit session file image
-IsInAnswered OutOfMemory session file made image = IsInCommit session file made image
+IsInAnswered OutOfMemory session file made image = ⊥
 
 -- within a step that is answered so, the file stands as it was; within a commit its pages are those from before or after it
 abbrev pub IsInStep : Option ScriptStep → Answer → List ℕ → HallState → Files → Type 0

@@ -34,5 +34,6 @@ returns-then-count-eq0-clause-settled g c told =
     let numbers = g.C.PageNumbers.numbers c.args.changes.now in
     let changes : AreChanges (length c.args.recorded.now) numbers = subst (λ (p : ℕ). AreChanges p numbers) (sym r.1.0) r.1.1.1.1.1.0 in
     let unmarked : marked_count c.write_batch.new.recorded ≡ 0 = search (rules, c.if-count-eq0.true, c.count.ensures) in
-    let still = c.write_batch.ensures.none (unmarked_none numbers c.args.recorded.now c.write_batch.new.recorded changes c.in_ok-write_batch.ensures.marks unmarked) in
-    inl (ap marked_count (sym still.2) ∙ unmarked, still.1)
+    let none = unmarked_none numbers c.args.recorded.now c.write_batch.new.recorded changes c.in_ok-write_batch.ensures.marks unmarked in
+    let still = c.write_batch.ensures.none none in
+    inl (none, ap marked_count (sym still.2) ∙ unmarked, still.1)

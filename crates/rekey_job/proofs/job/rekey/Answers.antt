@@ -20,7 +20,8 @@ use Rattle.rekey_job.specs.Rekeyed.{IsRekeyed}
 use Rattle.rekey_job.specs.Stops.{AreClean}
 use Rattle.rekey_job.specs.declared.error.RekeyError.{RekeyError}
 use Rattle.rekey_job.specs.declared.error.RekeyError.TheVariants.{DiskFault}
-use Rattle.rekey_job.proofs.Committed.{by_names, late_show, late_unwritten, read_begun, same_error, then_changed, while_read}
+use Rattle.atomic_commit.proofs.Behind.{then_changed}
+use Rattle.rekey_job.proofs.Committed.{by_names, late_show, late_unwritten, read_begun, same_error, while_read}
 use Rattle.rekey_job.proofs.job.rekey.Goals as goal
 
 pub returns-in-Ok-clause-rekeyed : goal.returns-in-Ok-clause-rekeyed
@@ -64,8 +65,7 @@ returns-in-Ok-clause-any_moment g c told =
     let clean = subst (λ (e : _). LeavesChanged d.moment d.since (base_of q.codec (main_of (d.reads q.disk.now)) q.count)
     (λ main. IsRekeyed q.codec c.args.write q.count (main_of (d.reads q.disk.now)) main × (IsTrue g.E.Entropy.tells → FileDraws c.args.write main (is_page_number q.count) 0 (drop (length (g.E.Entropy.drawn e)) after))) q.disk.now end)
     c.check_pages.ensures.entropy.value (c.rekey_clean.ensures.any_moment told) in
-    then_changed d.moment d.since base (λ main. IsRekeyed p.codec c.args.write p.count (main_of (d.reads p.disk.now)) main × (IsTrue g.E.Entropy.tells → FileDraws c.args.write main (is_page_number p.count) 0 drawn)) p.disk.now q.disk.now end
-    (while_read d.reads d.images d.moment d.since g.met.D.Disk.counts_now g.met.D.Disk.only_now (HoldsOld base) p.disk.now q.disk.now (c.requires.begun told).holds read)
+    then_changed (while_read d.reads d.images d.moment d.since g.met.D.Disk.counts_now g.met.D.Disk.only_now (HoldsOld base) p.disk.now q.disk.now (c.requires.begun told).holds read)
     (by_names (λ k f n. LeavesChanged d.moment d.since (base_of k f n) (λ main. IsRekeyed k c.args.write n f main × (IsTrue g.E.Entropy.tells → FileDraws c.args.write main (is_page_number n) 0 drawn)) q.disk.now end)
     p.codec q.codec (d.reads p.disk.now) (d.reads q.disk.now) p.count q.count file.0 read.stays file.1 clean)
 

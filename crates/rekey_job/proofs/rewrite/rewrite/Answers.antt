@@ -9,11 +9,12 @@ use Rattle.pager.specs.Pages.{is_page_number}
 use Rattle.pager.specs.UnderWay.{HasNewPages, is_touched, seen_pages}
 use Rattle.edge_model.specs.Files.{main_of}
 use Rattle.atomic_commit.specs.Database.{HoldsOld}
+use Rattle.atomic_commit.proofs.Behind.{changed_weaker, then_changed}
 use Rattle.rekey_job.specs.Rewritten.{rewritten}
 use Rattle.rekey_job.specs.Stops.{is_unwritten, rekey_page_error}
 use Rattle.rekey_job.specs.declared.error.RekeyError.{RekeyError}
 use Rattle.rekey_job.specs.declared.error.RekeyError.TheVariants.{LayoutDiffers}
-use Rattle.rekey_job.proofs.Rewriting.{all_new, changed_weaker, err_at, err_told, old_then, page_failed}
+use Rattle.rekey_job.proofs.Rewriting.{all_new, err_at, err_told, page_failed}
 use Rattle.rekey_job.proofs.rewrite.rewrite.Goals as goal
 
 -- the conditions, by their places: sizes, base_is, ready, under_way, accepted
@@ -38,7 +39,7 @@ returns-in-Ok-clause-any_moment g c = λ told.
     let ok = c.in-Ok.ensures in
     let new = rewritten c.args.leaves.now.leaves (usable t.write.profile) (seen_pages t.read t.write (main_of (g.D.Disk.reads t.disk.now)) t.count t.written t.changed.held) in
     let drawn = g.E.Entropy.drawn c.finish.result.1.now in
-    old_then (c.reseal_pages.ensures.any_moment told)
+    then_changed (c.reseal_pages.ensures.any_moment told)
     (changed_weaker (λ main has. subst (λ (k : FileKeys). HasNewPages g.start k (λ n. true) new g.E.Entropy.tells drawn main) ok.file.1
     (all_new g.start m.write (is_touched m.written m.changed.held) (seen_pages m.read m.write (main_of (g.D.Disk.reads m.disk.now)) m.count m.written m.changed.held).page new g.E.Entropy.tells drawn main
     (λ n num. ok.touched n (subst (λ (p : ℕ). is_page_number p n ≡ true) (sym c.requires.1.1.0.1) num))

@@ -10,7 +10,8 @@ use Rattle.pager.proofs.TxnLemmas.{layout_same}
 use Rattle.edge_model.specs.Files.{main_of}
 use Rattle.atomic_commit.specs.Database.{HoldsEither, HoldsOld, stored_pages}
 use Rattle.atomic_commit.specs.Facts.{SameFresh}
-use Rattle.rekey_job.proofs.Rewriting.{all_accepted, changed_weaker, from_begun}
+use Rattle.atomic_commit.proofs.Behind.{changed_weaker}
+use Rattle.rekey_job.proofs.Rewriting.{all_accepted, from_begun}
 use Rattle.rekey_job.proofs.rewrite.rewrite_pages.Goals as goal
 
 -- the conditions, by their places: layout, sizes, drawn, base_is, begun, same, clean, leaves

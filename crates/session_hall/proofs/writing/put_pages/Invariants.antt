@@ -1,4 +1,4 @@
-use Rattle.std.proofs.Common.{◌≡◌, ◌≤◌, ℕ, true, false, IsTrue}
+use Rattle.std.proofs.Common.{◌≡◌, ◌≤◌, ◌-◌, ℕ, true, false, IsTrue}
 use Rattle.edge_model.specs.Files.{main_of}
 use Rattle.edge_model.specs.Images.{LeavesOnly}
 use Rattle.edge_model.specs.OnlyRead.{OnlyRead}
@@ -8,15 +8,18 @@ use Rattle.atomic_commit.specs.Database.{HoldsOld}
 use Rattle.atomic_commit.specs.Marks.{marked_count}
 use Rattle.session_hall.specs.Commit.{put_over}
 use Rattle.session_hall.specs.Machine.{is_sealed}
-use Rattle.session_hall.proofs.Written.{so_far}
+use Rattle.session_hall.proofs.SoFar.{so_far}
 use Rattle.session_hall.proofs.writing.put_pages.Given as goal
 
-abbrev pub ghost-put_page : goal.ghost-put_page
-ghost-put_page g a = g.start
+abbrev pub ghost-put_next : goal.ghost-put_next
+ghost-put_next g a = g.start
+
+abbrev pub decreases-loop-n : goal.decreases-loop-n
+decreases-loop-n g l = l.pages - l.done
 
 -- The pages so far are written, where the commit seals them anew.
-abbrev pub invariant-loop-done : goal.invariant-loop-done
-invariant-loop-done g l = record {
+abbrev pub invariant-loop-n : goal.invariant-loop-n
+invariant-loop-n g l = record {
   seen : IsTrue g.D.Disk.tells → (n : ℕ) → is_page_number l.initial.txn.count n ≡ true
       → (seen_pages l.txn.read l.txn.write (main_of (g.D.Disk.reads l.txn.disk.now)) l.txn.count l.txn.written l.txn.changed.held).page n
       ≡ so_far

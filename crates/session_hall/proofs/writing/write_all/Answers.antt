@@ -8,10 +8,11 @@ use Rattle.page_codec.specs.Page.{FileKeys}
 use Rattle.pager.specs.Pages.{is_page_number}
 use Rattle.pager.specs.UnderWay.{HasNewPages, is_touched, seen_pages}
 use Rattle.atomic_commit.specs.Database.{HoldsOld}
+use Rattle.atomic_commit.proofs.Behind.{changed_weaker, then_changed}
 use Rattle.session_hall.specs.Commit.{put_over}
 use Rattle.session_hall.specs.Machine.{is_sealed}
 use Rattle.session_hall.specs.Writing.{is_unwritten_answer, page_answer}
-use Rattle.session_hall.proofs.Written.{changed_weaker, err_map, err_told, new_as, old_then, page_failed}
+use Rattle.session_hall.proofs.Written.{err_map, err_told, new_as, page_failed}
 use Rattle.session_hall.proofs.writing.write_all.Goals as goal
 
 -- the conditions, by their places: sizes, base_is, usable, untouched, ready, under_way, accepted
@@ -38,7 +39,7 @@ returns-in-Ok-clause-any_moment g c = λ told.
     let ok = c.in-Ok.ensures in
     let new : ℕ → List ℕ = λ n. put_over x n ((seen_pages t.read t.write (main_of (g.D.Disk.reads t.disk.now)) t.count t.written t.changed.held).page n) in
     let drawn = g.E.Entropy.drawn c.finish.result.1.now in
-    old_then (c.put_pages.ensures.any_moment told)
+    then_changed (c.put_pages.ensures.any_moment told)
     (changed_weaker (λ main has. subst (λ (k : FileKeys). HasNewPages g.start k (is_sealed x) new g.E.Entropy.tells drawn main) ok.file.1
     (new_as g.start m.write (is_touched m.written m.changed.held) (is_sealed x) (seen_pages m.read m.write (main_of (g.D.Disk.reads m.disk.now)) m.count m.written m.changed.held).page new g.E.Entropy.tells drawn main
     (λ n num. ok.touched n (subst (λ (p : ℕ). is_page_number p n ≡ true) (sym c.requires.1.1.0.1) num))
@@ -71,5 +72,5 @@ returns-in-Ok-clause-settled g c =
     let d = g.D.Disk in
     let end = c.finish.result.0.now in
     on_ok_weaker c.finish.result.2 (λ settled told. ⊎_elim
-    (λ still. inl (subst (λ (y : _). OnlyRead d.reads d.images d.moment d.since c.args.txn.disk.now y) (sym still.1) (c.in-Ok.ensures.unrecorded still.0 told)))
+    (λ still. inl (subst (λ (y : _). OnlyRead d.reads d.images d.moment d.since c.args.txn.disk.now y) (sym still.2) (c.in-Ok.ensures.unrecorded still.1 told)))
     (λ each. inr each) (settled told)) c.finish.ensures.settled

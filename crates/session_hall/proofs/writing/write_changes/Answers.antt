@@ -11,7 +11,8 @@ use Rattle.pager.specs.File.{page_stored}
 use Rattle.pager.specs.Pages.{is_page_number}
 use Rattle.pager.specs.UnderWay.{IsUnderWay}
 use Rattle.atomic_commit.specs.Database.{HoldsOld}
-use Rattle.session_hall.proofs.Written.{begun_layout, changed_weaker, from_begun, usable_same}
+use Rattle.atomic_commit.proofs.Behind.{changed_weaker}
+use Rattle.session_hall.proofs.Written.{begun_layout, from_begun, usable_same}
 use Rattle.session_hall.proofs.writing.write_changes.Goals as goal
 
 -- the conditions, by their places: sizes, drawn, base_is, begun, usable, accepted

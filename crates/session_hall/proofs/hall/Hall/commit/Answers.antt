@@ -1,4 +1,4 @@
-use Rattle.std.proofs.Common.{◌≡◌, ◌∙◌, ◌<◌, true, length, inl, inr, sym, ap, subst, arith}
+use Rattle.std.proofs.Common.{◌≡◌, ◌∙◌, ◌<◌, true, length, inl, sym, ap, subst, arith}
 use Rattle.edge_model.specs.Moments.{started}
 use Rattle.edge_model.specs.Files.{main_of}
 use Rattle.session_hall.specs.Commit.{Commitment, CommitsTo}
@@ -7,9 +7,9 @@ use Rattle.session_hall.specs.Kept.{IsSessionSound, StandsAsRead}
 use Rattle.session_hall.specs.Locks.{is_holding}
 use Rattle.session_hall.specs.Machine.{state}
 use Rattle.session_hall.specs.Session.{Session, session_at}
-use Rattle.session_hall.proofs.Answers.{commit_answered, commit_draws}
+use Rattle.session_hall.proofs.Answers.{commit_answered, commit_draws, commit_leaves}
 use Rattle.session_hall.proofs.Places.{at_place}
-use Rattle.session_hall.proofs.Sound.{writing_holds}
+use Rattle.session_hall.proofs.Sound.{read_leaves, writing_holds}
 use Rattle.session_hall.proofs.hall.Hall.commit.Goals as goal
 
 pub returns-then-not-may_commit-clause-any_moment : goal.returns-then-not-may_commit-clause-any_moment
@@ -63,7 +63,11 @@ returns-clause-any_moment g c = λ told.
     let i = c.args.i in
     let small : i < length xs = omega (arith, c.requires.number, s.many) in
     let done = c.commit_session-answer in
-    inr (subst (λ (x : Session). Commitment d.moment d.since x (main_of (d.reads s.disk.now)) s.disk.now done.new.disk)
+    commit_leaves d.reads d.moment d.since (session_at xs i) s.disk.now done.new.disk done.result done.new.session
+    (subst (λ (x : Session). CommitsTo x (main_of (d.reads s.disk.now)) done.result (main_of (d.reads done.new.disk)) done.new.session)
+    (at_place xs i c.index_mut-2.result.now small c.index_mut-2.ensures.value) (done.ensures.told told))
+    (λ is. read_leaves d.reads d.images d.moment d.since g.met.D.Disk.counts_now g.met.D.Disk.only_now s.disk.now done.new.disk (c.requires.kept told).settled (done.ensures.no_memory is told).1)
+    (subst (λ (x : Session). Commitment d.moment d.since x (main_of (d.reads s.disk.now)) s.disk.now done.new.disk)
     (at_place xs i c.index_mut-2.result.now small c.index_mut-2.ensures.value) (done.ensures.any_moment told))
 
 pub returns-clause-drawn : goal.returns-clause-drawn
@@ -78,4 +82,4 @@ returns-clause-drawn g c = λ told draws.
     subst (λ (x : Session). CommitDraws s.layout done.result x (main_of (d.reads done.new.disk)) (e.drawn s.entropy.now) (e.drawn done.new.entropy))
     (at_place xs i c.index_mut-2.result.now small c.index_mut-2.ensures.value)
     (commit_draws s.layout done.result c.index_mut-2.result.now done.new.session (main_of (d.reads s.disk.now)) (main_of (d.reads done.new.disk)) (e.drawn s.entropy.now) (e.drawn done.new.entropy)
-    (done.ensures.told told) (λ is ciphered. done.ensures.drawn ciphered is told draws) (λ plain. ap e.drawn (done.ensures.undrawn plain).0) (λ is. ap e.drawn (done.ensures.no_memory is told)))
+    (done.ensures.told told) (λ is ciphered. done.ensures.drawn ciphered is told draws) (λ plain. ap e.drawn (done.ensures.undrawn plain).0) (λ is. ap e.drawn (done.ensures.no_memory is told).0))
