@@ -157,6 +157,13 @@ script "3 $k0" "${changes[@]}" "rekey 0 3 $k1"
 run play small none 3 3 play 3
 script plain:1024 "${changes[@]}"
 run play flat none plain:1024 plain:1024 play plain:1024
+# The same of all pages but the first, more than stand in memory: their old bytes are kept ahead, as those of a rekey are.
+mapfile -t many < <(for ((page = 2; page <= $(stat -c %s "$scratch/large") / 1024; page++)); do echo "change 0 $page 100 7"; done)
+script "3 $k0" "${many[@]}"
+run play_ahead large none 3 3 play 3
+run play_ahead hot "hot=$hot" 3 3 play 3
+script "3 $k0" "${changes[@]}" "rekey 0 3 $k1"
+run play_ahead large none 3 3 play 3
 
 # ---- the program itself, kept from a sync
 kept_from_syncs stamp small 3 3 stamp 3 user-version 7

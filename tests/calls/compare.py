@@ -23,7 +23,8 @@ import sys
 HERE = os.path.dirname(os.path.abspath(__file__))
 MODEL = os.path.join(HERE, "..", "..", "docs", "CRASH_MODEL.md")
 RECOVERY, COMMIT, STAMP, REKEY, MIGRATE = (f"A {it}, call by call" for it in ("recovery", "commit", "`stamp`", "`rekey`", "`migrate`"))
-# A run is the rows of a table, without so many at its head, and then calls of its own, among which all rows of another may stand.
+# A run is the rows of a table, without so many at its head, and then calls of its own, among which the rows of another may stand:
+# all, or `|` without so many at its head `|` and so many at its end.
 RUNS = {
     "read": (RECOVERY, 0, "read:Main+ (output read:Main*)+"),
     "probe": (None, 0, "read:Main+ output"),
@@ -34,6 +35,7 @@ RUNS = {
     "migrate": (MIGRATE, 0, ""),
     "make": (MIGRATE, 2, ""),
     "play": (RECOVERY, 0, f"read:Main* (output read:Main*)+ draw? {{{COMMIT}}} (output read:Main*)+"),
+    "play_ahead": (RECOVERY, 0, f"read:Main* (output read:Main*)+ {{{REKEY}|2|1}} (output read:Main*)+"),
 }
 LAYOUTS = {"1": (1024, 16), "2": (1024, 48), "3": (1024, 48), "4": (4096, 80), "plain:1024": (1024, 0), "plain:4096": (4096, 0)}     # page size and reserve
 ACTS = ("create", "write", "cut", "sync", "remove", "rename")
@@ -83,6 +85,12 @@ def compare_tables():
     print(f"{sum(map(len, here.values()))} rows of {len(here)} tables are those of docs/CRASH_MODEL.md")
 
 
+def rows_named(tables, named):
+    """The rows of `{TABLE}`, or of `{TABLE|HEAD|END}` without so many at its head and at its end."""
+    name, head, end = (named[1:-1].split("|") + ["0", "0"])[:3]
+    return tables[name][int(head):len(tables[name]) - int(end)]
+
+
 def undrawn(calls):
     """The calls of a row without its draws."""
     for draws in ("(draw read:Main*)* ", "draw? ", "draw "):
@@ -104,7 +112,7 @@ def expression(calls, tables, state):
             tokens.pop(0)
             body = inner if token == "(" or token[:-1] in state else ""
         elif token.startswith("{"):
-            body = "".join(expression(row_calls, tables, state) for _, row_calls in tables[token[1:-1]])
+            body = "".join(expression(row_calls, tables, state) for _, row_calls in rows_named(tables, token))
         elif token.startswith("read:"):
             body = rf"(?:read:(?!{token[5:]} )\w+ )*+{token} "
         else:
@@ -240,7 +248,7 @@ class Run:
         table, without, more = RUNS[name]
         self.rows = (self.tables[table] if table else [])[without:]
         for part in re.split(r"(\{[^}]*\})", more):
-            self.rows += self.tables[part[1:-1]] if part.startswith("{") else [("what the command does itself", part)] if part else []
+            self.rows += rows_named(self.tables, part) if part.startswith("{") else [("what the command does itself", part)] if part else []
         if not self.reserve:        # of a plain file nothing is drawn
             self.rows = [(row, undrawn(calls)) for row, calls in self.rows if calls != "draw"]
         pieces = [expression(calls, self.tables, self.state) for _, calls in self.rows]
