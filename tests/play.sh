@@ -3,7 +3,7 @@
 # with the locks beside each step; lines that are no step, and files and journals that are refused; scripts at random beside the machine of
 # tests/session_machine.py over the reference's files, of every profile (tests/reference/oracle/check_plays.py); every step from each state
 # that this machine has within eight steps; 100,000 lines in bounded memory; a stop at each writing call of a script of two commits and a
-# rekey, and of one with a commit of 70 pages, which leaves the file of the steps answered so far; and scripts beside as many processes of
+# rekey, and of one with a commit of 75 pages, which leaves the file of the steps answered so far; and scripts beside as many processes of
 # the product (play_beside_product.py).
 #
 #     tests/play.sh [SEED [COUNT]]        200 scripts at random, and as many beside the product, where nothing else is said
@@ -374,9 +374,9 @@ else
         stops "rows-${profile/:/-}" "$profile" "$script" "$used" "$opening" &
         while [ "$(jobs -rp | wc -l)" -ge "$jobs" ]; do wait -n; done
     done
-    # A commit of more pages than stand in memory.
-    python3 "$check" make "$scratch/many" 3 70 > "$scratch/places"
-    script="open 0 3 K0, share 0, reserve 0$(while read -r page at; do printf ', change 0 %s %s 9' "$page" "$at"; done < "$scratch/places"), commit 0"
+    # A commit of more pages than stand in memory: three of each four, so that pages whose old bytes are kept ahead stay as they are.
+    python3 "$check" make "$scratch/many" 3 100 > "$scratch/places"
+    script="open 0 3 K0, share 0, reserve 0$(awk 'NR % 4 { printf ", change 0 %s %s 9", $1, $2 }' "$scratch/places"), commit 0"
     stops many 3 "$script" "$(product 3)" &
     wait
     # A plain file is sealed without a draw.
