@@ -1,0 +1,3 @@
+pub mod Agree
+pub mod Checked
+pub mod Window
