@@ -1,36 +1,60 @@
 -- Serial types: what is written of a value is read back.
-use Rattle.std.proofs.Common.{◌≡◌, ℕ, zero, suc, ◌+◌, ◌-◌, ◌*◌, ◌%◌, ◌^◌, ◌<◌, ◌≤◌, ◌⊎◌, inl, inr, ℤ, pos, negsuc, true, length, drop, fold, refl, sym, ap, ◌∙◌, arith, pow-suc, mul_comm}
+use Rattle.std.proofs.Common.{◌≡◌, ℕ, zero, suc, ◌+◌, ◌-◌, ◌*◌, ◌%◌, ◌^◌, ◌<◌, ◌≤◌, ◌⊎◌, inl, inr, List, [], ◌∷◌, slice_index, ℤ, pos, negsuc, true, length, drop, fold, refl, sym, ap, ◌∙◌, arith, pow-suc, mul_comm}
 use Rattle.std.proofs.Math.Arith.{mod-mul}
-use Rattle.std.proofs.Math.Nat.{pow-le-pow_right}
+use Rattle.std.proofs.Math.Nat.{add-mul, mul_assoc, pow-le-pow_right}
 use Rattle.std.proofs.lemmas.Bool.{cases_lt, lt-ltb, le-ltb}
 use Rattle.std.proofs.lemmas.Bool.Decides.{nat_tests}
 use Rattle.std.specs.Int.{w64, byte_at, bytes_high_first, cast_unsigned}
 use Rattle.std.specs.Prelude.{nat_lt, if◌then◌else◌}
+use Rattle.byteorder.specs.Endian.{big_from, big_number, twos_complement}
+use Rattle.byteorder.specs.Numbers.{big_from-cons, big_from-lt}
 use Rattle.db_format.specs.Value.{Datum}
 use Rattle.db_format.specs.Value.Datum.{null, int, float, text, blob}
 use Rattle.db_format.specs.Row.{IsStorable, datum_bytes, integer_type, steps, type_of}
-use Rattle.db_format.specs.Serial.{big_endian, is_type, size_of, value_of}
+use Rattle.db_format.specs.Serial.{big_endian, is_type, signed, size_of, value_of}
 
--- a number of whole bytes has one bit for its sign
-pub record IsHalf (half all : ℕ) : Type 0 where
-  pub twice : all ≡ 2 * half
-  pub small : half ≤ 2 ^ 63
+-- ---- an integer is read as its bytes say
 
-pub half_of_all : (n : ℕ) → 1 ≤ n → n ≤ 8 → IsHalf (2 ^ (8 * n - 1)) (256 ^ n)
-half_of_all zero some few = absurd (omega arith)
-half_of_all (suc zero) some few = record { twice = refl; small = omega arith }
-half_of_all (suc (suc zero)) some few = record { twice = refl; small = omega arith }
-half_of_all (suc (suc (suc zero))) some few = record { twice = refl; small = omega arith }
-half_of_all (suc (suc (suc (suc zero)))) some few = record { twice = refl; small = omega arith }
-half_of_all (suc (suc (suc (suc (suc zero))))) some few = record { twice = refl; small = omega arith }
-half_of_all (suc (suc (suc (suc (suc (suc zero)))))) some few = record { twice = refl; small = omega arith }
-half_of_all (suc (suc (suc (suc (suc (suc (suc zero))))))) some few = record { twice = refl; small = omega arith }
-half_of_all (suc (suc (suc (suc (suc (suc (suc (suc zero)))))))) some few = record { twice = refl; small = omega arith }
-half_of_all (suc (suc (suc (suc (suc (suc (suc (suc (suc n))))))))) some few = absurd (omega arith)
+-- the bits of whole bytes
+whole_bits : (n : ℕ) → n ≤ 8 → 256 ^ n ≡ 2 ^ (8 * n)
+whole_bits zero few = refl
+whole_bits (suc zero) few = refl
+whole_bits (suc (suc zero)) few = refl
+whole_bits (suc (suc (suc zero))) few = refl
+whole_bits (suc (suc (suc (suc zero)))) few = refl
+whole_bits (suc (suc (suc (suc (suc zero))))) few = refl
+whole_bits (suc (suc (suc (suc (suc (suc zero)))))) few = refl
+whole_bits (suc (suc (suc (suc (suc (suc (suc zero))))))) few = refl
+whole_bits (suc (suc (suc (suc (suc (suc (suc (suc zero)))))))) few = refl
+whole_bits (suc (suc (suc (suc (suc (suc (suc (suc (suc n))))))))) few = absurd (omega arith)
 
--- seven bytes leave room for one more
-pub bytes-cap : (n : ℕ) → n ≤ 7 → 256 ^ n ≤ 2 ^ 56
-bytes-cap n few = pow-le-pow_right {n = 256} (omega arith) few
+-- one more byte behind a number, where q is the worth of a byte in front of it
+by_parts : (high byte p q low low2 : ℕ) → q ≡ p * 256 → low2 ≡ low → (high * 256 + byte) * p + low ≡ high * q + (byte * p + low2)
+by_parts high byte p q low low2 worth same =
+    let spread = add-mul (high * 256) byte p in
+    let front : high * 256 * p ≡ high * q = mul_assoc high 256 p ∙ ap (λ (x : ℕ). high * x) (mul_comm 256 p ∙ sym worth) in
+    ap (λ (x : ℕ). x + low) spread ∙ rw (front, same) (omega arith)
+
+-- bytes behind a number
+number_on : (bytes : List ℕ) (high : ℕ)
+    → fold (λ h byte. h * 256 + byte) high bytes ≡ high * 256 ^ length bytes + big_from 0 (length bytes) bytes
+number_on [] high = omega arith
+number_on (byte ∷ bytes) high =
+    number_on bytes (high * 256 + byte)
+    ∙ by_parts high byte (256 ^ length bytes) (256 ^ suc (length bytes)) (big_from 0 (length bytes) bytes) (big_from 1 (length bytes) (byte ∷ bytes))
+    (pow-suc 256 (length bytes)) (big_from-cons 0 (length bytes) byte bytes)
+
+-- the number of all bytes
+pub all_bytes : (bytes : List ℕ) → big_number (length bytes) bytes ≡ big_endian bytes
+all_bytes bytes = sym (number_on bytes 0 ∙ omega arith)
+
+-- both forms of two's complement
+pub as_signed : (n : ℕ) (bytes : List ℕ) → n ≤ 8 → ((i : ℕ) → slice_index bytes i < 256)
+    → twos_complement n (big_number n bytes) ≡ signed (8 * n) (big_number n bytes)
+as_signed n bytes few small =
+    let fits = big_from-lt 0 n bytes small in
+    let bits = whole_bits n few in
+    grind (arith, nat_tests)
 
 -- ---- bytes that were written are read back as their number
 

@@ -6,7 +6,7 @@ ghost use Rattle.db_format.specs.Bytes.{u8_at, u32_at};
 ghost use Rattle.db_format.specs.Header.{IsPageSize, header_bytes, header_fields, header_read, page_size_of, stored_page_size, must_be, at_most};
 ghost use Rattle.db_format.specs.Rules.{unless_broken};
 
-use crate::bytes::{u16_at, u32_at};
+use number_fields::{u16_at, u16_bytes, u32_at, u32_bytes};
 
 /// The fields of a database header, each with its offset in bytes.
 #[derive(Clone, Copy, Debug, PartialEq, Eq)]
@@ -220,7 +220,7 @@ fn put_u16(out: &mut [u8; 100], at: usize, number: u16)
     requires { at ≤ 98 }
     ensures { out.new ≡ splice out.old at (at + 2) (to_be_bytes w16 number) }
 {
-    put(out, at, &number.to_be_bytes());
+    put(out, at, &u16_bytes(number));
 }
 
 // Replaces the four bytes from `at` on.
@@ -229,5 +229,5 @@ fn put_u32(out: &mut [u8; 100], at: usize, number: u32)
     ensures bytes { out.new ≡ splice out.old at (at + 4) (to_be_bytes w32 number) }
     ensures fits { number < 2 ^ 32 }
 {
-    put(out, at, &number.to_be_bytes());
+    put(out, at, &u32_bytes(number));
 }

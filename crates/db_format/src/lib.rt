@@ -4,7 +4,6 @@
 //! What is read are decrypted pages. Section numbers are those of SQLite's "Database File Format".
 #![tactic(auto)]
 
-mod bytes;
 mod column;
 mod count;
 mod counted;
@@ -23,7 +22,6 @@ mod value_text;
 mod values;
 mod varint;
 
-pub use bytes::{u16_at, u32_at};
 pub use count::{CountRefusal, LARGEST_DATABASE, counted_pages};
 pub use counted::Counted;
 pub use defect::Defect;
@@ -33,6 +31,7 @@ pub use header::{
 };
 pub use mem_pages::{MemPages, NoPage};
 pub use memory::OutOfMemory;
+pub use number_fields::{u16_at, u32_at};
 pub use plain::plain_run;
 pub use record::{LONGEST_PAYLOAD, RecordFault, RecordView};
 pub use row::{RowPieces, write_row};

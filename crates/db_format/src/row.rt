@@ -11,6 +11,7 @@ use crate::memory::OutOfMemory;
 use crate::serial::{integer_size, integer_type};
 use crate::value::Value;
 use crate::varint::{varint_size, write_varint};
+use number_fields::u64_bytes;
 use std::alloc::Global;
 use std::marker::Model;
 
@@ -112,7 +113,7 @@ fn push_bytes(value: Value<'_>, body: &mut Vec<u8>) -> Result<(), OutOfMemory>
         Value::Null => Ok(()),
         Value::Int(number) => {
             let size = integer_size(number);
-            append(body, &number.cast_unsigned().to_be_bytes()[8 - size..])
+            append(body, &u64_bytes(number.cast_unsigned())[8 - size..])
         }
         Value::Float(bytes) => append(body, &bytes),
         Value::Text(bytes) => append(body, bytes),

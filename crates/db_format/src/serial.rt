@@ -5,6 +5,7 @@ ghost use Rattle.db_format.specs.Row.{integer_type, steps};
 ghost use Rattle.db_format.specs.Serial.{big_endian, is_type, signed, size_of, value_of};
 
 use crate::value::Value;
+use byteorder::{BigEndian, ByteOrder};
 
 // How many bytes of the body a value of this type takes. `None` for the two reserved types.
 #[tactic(auto, unfolding(crate::specs::Serial::size_of))]
@@ -53,32 +54,7 @@ fn integer(bytes: &[u8]) -> i64
     requires few { length bytes.now ≤ 8 }
     ensures { result ≡ signed (8 * length bytes.now) (big_endian bytes.now) }
 {
-    with_sign(big_endian(bytes), 1 << (8 * bytes.len() - 1))
-}
-
-fn big_endian(bytes: &[u8]) -> u64
-    requires { length bytes.now ≤ 8 }
-    ensures value { result ≡ big_endian bytes.now }
-    ensures fits { result < 256 ^ length bytes.now }
-{
-    let mut number = 0u64;
-    for byte in bytes {
-        number = number * 256 + u64::from(*byte);
-    }
-    number
-}
-
-// A number below twice this limit, of which those from the limit on are the negative ones.
-fn with_sign(number: u64, limit: u64) -> i64
-    requires limit { limit ≤ 2 ^ 63 }
-    requires fits { number < 2 * limit }
-    ensures { result ≡ (if nat_lt number limit then pos number else negsuc (2 * limit - 1 - number)) }
-{
-    if number < limit {
-        number as i64
-    } else {
-        -1 - (limit - 1 - (number - limit)) as i64
-    }
+    BigEndian::read_int(bytes, bytes.len())
 }
 
 // The least of the types 1 to 6 that holds an integer.

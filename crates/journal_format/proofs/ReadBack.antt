@@ -10,7 +10,7 @@ use Rattle.journal_format.specs.Records.{page_of, image_of, is_sound_record, sum
 
 -- a number of four bytes
 abbrev pub joined : ℕ → ℕ → ℕ → ℕ → ℕ
-joined a b c d = a * 16777216 + b * 65536 + c * 256 + d
+joined a b c d = (a * 256 + b) * 65536 + (c * 256 + d)
 
 pub u32_back : (n : ℕ) → n < 4294967296 → joined (n / 16777216 % 256) (n / 65536 % 256) (n / 256 % 256) (n % 256) ≡ n
 u32_back n small = omega arith
@@ -32,12 +32,12 @@ just_behind xs ys p is = let e : p ≡ p + 0 = omega arith in ap (λ (n : ℕ). 
 
 pub u32_behind : (xs : List ℕ) (s p : ℕ) → p ≡ length xs → s < 4294967296 → u32_at (xs ++ u32_bytes s) p ≡ s
 u32_behind xs s p is small =
-    ap (λ (a : ℕ). joined a (get_or (xs ++ u32_bytes s) (p + 1) 0) (get_or (xs ++ u32_bytes s) (p + 2) 0) (get_or (xs ++ u32_bytes s) (p + 3) 0))
+    ap (λ (a : ℕ). joined a (get_or (xs ++ u32_bytes s) (p + 1) 0) (get_or (xs ++ u32_bytes s) (p + 2) 0) (get_or (xs ++ u32_bytes s) (p + 2 + 1) 0))
     (just_behind xs (u32_bytes s) p is)
-    ∙ ap (λ (b : ℕ). joined (s / 16777216 % 256) b (get_or (xs ++ u32_bytes s) (p + 2) 0) (get_or (xs ++ u32_bytes s) (p + 3) 0))
+    ∙ ap (λ (b : ℕ). joined (s / 16777216 % 256) b (get_or (xs ++ u32_bytes s) (p + 2) 0) (get_or (xs ++ u32_bytes s) (p + 2 + 1) 0))
     (behind xs (u32_bytes s) p 1 is)
-    ∙ ap (λ (c : ℕ). joined (s / 16777216 % 256) (s / 65536 % 256) c (get_or (xs ++ u32_bytes s) (p + 3) 0)) (behind xs (u32_bytes s) p 2 is)
-    ∙ ap (λ (d : ℕ). joined (s / 16777216 % 256) (s / 65536 % 256) (s / 256 % 256) d) (behind xs (u32_bytes s) p 3 is)
+    ∙ ap (λ (c : ℕ). joined (s / 16777216 % 256) (s / 65536 % 256) c (get_or (xs ++ u32_bytes s) (p + 2 + 1) 0)) (behind xs (u32_bytes s) p 2 is)
+    ∙ ap (λ (d : ℕ). joined (s / 16777216 % 256) (s / 65536 % 256) (s / 256 % 256) d) (ap (λ (k : ℕ). get_or (xs ++ u32_bytes s) k 0) (let e : p + 2 + 1 ≡ p + 3 = omega arith in e) ∙ behind xs (u32_bytes s) p 3 is)
     ∙ u32_back s small
 
 module _ (nonce page : ℕ) (image : List ℕ) where

@@ -1,10 +1,7 @@
--- Numbers in a journal: four bytes, the highest first.
-use Rattle.std.specs.Prelude.{ℕ, ◌+◌, ◌*◌, ◌/◌, ◌%◌, List, [], ◌∷◌, slice_index}
-
--- the number in the four bytes from `at` on
-abbrev pub u32_at : List ℕ → ℕ → ℕ
-u32_at bytes at =
-    slice_index bytes at * 16777216 + slice_index bytes (at + 1) * 65536 + slice_index bytes (at + 2) * 256 + slice_index bytes (at + 3)
+-- Numbers in a journal: four bytes, the most significant first.
+use Rattle.std.specs.Prelude.{ℕ, ◌/◌, ◌%◌, List, [], ◌∷◌}
+-- the number in the four bytes from a place on
+pub use Rattle.number_fields.specs.Fields.{u32_at}
 
 -- a number as four bytes
 abbrev pub u32_bytes : ℕ → List ℕ

@@ -10,7 +10,7 @@
 ghost use Rattle.std.specs.Prelude.{◌≡◌, ◌≤◌, IsTrue, MatchOption, bytes_eq, false, length, take, true};
 ghost use Rattle.journal_format.specs.Header.{HasFields, journal_header_bytes, is_header, is_sector, journal_magic};
 
-use crate::bytes::u32_at;
+use number_fields::{u32_at, u32_bytes};
 
 /// The fields of a segment's header, each with its offset in bytes.
 #[derive(Clone, Copy, Debug, PartialEq, Eq)]
@@ -61,11 +61,11 @@ pub fn write_header(header: &SegmentHeader, out: &mut [u8; 28])
     ensures bytes { out.new ≡ journal_header_bytes header.now.count header.now.nonce header.now.initial header.now.sector header.now.page_size }
     ensures reads_back { (is_header out.new ≡ true) × HasFields out.new header.now }
 {
-    let count = header.count.to_be_bytes();
-    let nonce = header.nonce.to_be_bytes();
-    let initial = header.initial.to_be_bytes();
-    let sector = header.sector.to_be_bytes();
-    let size = header.page_size.to_be_bytes();
+    let count = u32_bytes(header.count);
+    let nonce = u32_bytes(header.nonce);
+    let initial = u32_bytes(header.initial);
+    let sector = u32_bytes(header.sector);
+    let size = u32_bytes(header.page_size);
     *out = [
         0xd9, 0xd5, 0x05, 0xf9, 0x20, 0xa1, 0x63, 0xd7, count[0], count[1], count[2], count[3],
         nonce[0], nonce[1], nonce[2], nonce[3], initial[0], initial[1], initial[2], initial[3],

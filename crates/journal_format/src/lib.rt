@@ -3,7 +3,6 @@
 //! Headers of segments, records with their checksums, and the name of a super-journal at the end. No call takes memory.
 #![tactic(auto)]
 
-mod bytes;
 mod header;
 mod record;
 mod super_journal;

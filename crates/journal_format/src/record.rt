@@ -9,7 +9,7 @@
 ghost use Rattle.std.specs.Prelude.{◌≡◌, ◌+◌, ◌≤◌, IfSome, MatchOption, false, length, true};
 ghost use Rattle.journal_format.specs.Records.{image_of, is_sound_record, page_of, journal_record_bytes, sum_of};
 
-use crate::bytes::u32_at;
+use number_fields::{u32_at, u32_bytes};
 
 /// The checksum of a page's bytes.
 pub fn checksum(nonce: u32, image: &[u8]) -> u32
@@ -54,7 +54,7 @@ pub fn write_record(nonce: u32, n: u32, image: &[u8], out: &mut [u8])
 {
     let (number, rest) = out.split_at_mut(4);
     let (page, sum) = rest.split_at_mut(image.len());
-    number.copy_from_slice(&n.to_be_bytes());
+    number.copy_from_slice(&u32_bytes(n));
     page.copy_from_slice(image);
-    sum.copy_from_slice(&checksum(nonce, image).to_be_bytes());
+    sum.copy_from_slice(&u32_bytes(checksum(nonce, image)));
 }

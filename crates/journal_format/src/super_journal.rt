@@ -10,8 +10,8 @@
 ghost use Rattle.std.specs.Prelude.{◌≡◌, ◌&&◌, nat_le};
 ghost use Rattle.journal_format.specs.Segments.{ends_super_by, has_mark};
 
-use crate::bytes::u32_at;
 use crate::header::has_magic;
+use number_fields::u32_at;
 
 /// What this tool writes into the padding of a journal's first header, at 28.
 const MARK: &[u8; 16] = b"sqlcipher-tool 1";

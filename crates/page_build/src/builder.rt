@@ -5,7 +5,7 @@ ghost use Rattle.btree_page.specs.Cell.{Cell};
 ghost use Rattle.btree_page.specs.Kind.{family_of, header_at};
 ghost use Rattle.btree_page.specs.Page.{header_len, read_node, read_page};
 ghost use Rattle.page_build.specs.Draft.{as_first, blank, finished, laid, room_of, with_cell, without_cells};
-ghost use Rattle.page_build.specs.Written.{AreWritten, kind_byte, page_head, right_child};
+ghost use Rattle.page_build.specs.Written.{leaf_head, AreWritten, kind_byte, page_head, right_child};
 
 use crate::bytes::{four_bytes, lay, two_bytes};
 use btree_page::Kind;
@@ -59,23 +59,32 @@ fn kind_byte(kind: Kind) -> u8
     }
 }
 
+// A page header but for the right child: no freeblock, no fragment, and a start of 65,536 as 0.
+fn leaf_head(kind: Kind, count: usize, start: usize) -> [u8; 8]
+    requires few { count < 65536 }
+    ensures { result ≡ leaf_head kind count start }
+{
+    let [count_high, count_low] = two_bytes(count as u16);
+    let [start_high, start_low] = two_bytes((start % 65536) as u16);
+    [
+        kind_byte(kind),
+        0,
+        0,
+        count_high,
+        count_low,
+        start_high,
+        start_low,
+        0,
+    ]
+}
+
 // Writes a page header.
 fn write_head(page: &mut Vec<u8>, kind: Kind, header: usize, count: usize, start: usize, right: u32)
     requires place { header + 12 ≤ length page.old.items }
     requires few { count < 65536 }
     ensures { page.new.items ≡ laid header (page_head kind count start right) page.old.items }
 {
-    let head = [
-        kind_byte(kind),
-        0,
-        0,
-        (count / 256) as u8,
-        (count % 256) as u8,
-        (start % 65536 / 256) as u8,
-        (start % 256) as u8,
-        0,
-    ];
-    lay(page, header, &head);
+    lay(page, header, &leaf_head(kind, count, start));
     if kind.is_interior() {
         lay(page, header + 8, &four_bytes(right));
     }

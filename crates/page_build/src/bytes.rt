@@ -3,6 +3,8 @@ ghost use Rattle.std.specs.Prelude.{◌≡◌, ◌≤◌, ◌+◌, length};
 ghost use Rattle.page_build.specs.Draft.{laid};
 ghost use Rattle.page_build.specs.Written.{four_bytes, two_bytes};
 
+use number_fields::{u16_bytes, u32_bytes};
+
 /// Writes these bytes over those from `at` on.
 pub fn lay(page: &mut Vec<u8>, at: usize, piece: &[u8])
     requires { at + length piece.now ≤ length page.old.items }
@@ -15,14 +17,12 @@ pub fn lay(page: &mut Vec<u8>, at: usize, piece: &[u8])
 pub fn four_bytes(number: u32) -> [u8; 4]
     ensures { result ≡ four_bytes number }
 {
-    let [a, b] = two_bytes((number / 65536) as u16);
-    let [c, d] = two_bytes((number % 65536) as u16);
-    [a, b, c, d]
+    u32_bytes(number)
 }
 
-// A number in two bytes.
+/// A number in two bytes, the most significant first.
 pub fn two_bytes(number: u16) -> [u8; 2]
     ensures { result ≡ two_bytes number }
 {
-    [(number / 256) as u8, (number % 256) as u8]
+    u16_bytes(number)
 }

@@ -22,12 +22,12 @@ returns-then-is_interior c =
     c.lay-then-is_interior.ensures
     ∙ ap (λ l. laid (c.args.header + 8) l c.lay.new.page.items) c.four_bytes.ensures
     ∙ ap (laid (c.args.header + 8) (four_bytes c.args.right))
-    (c.lay.ensures ∙ ap (λ k. laid c.args.header (k ∷ 0 ∷ 0 ∷ c.args.count / 256 ∷ c.args.count % 256 ∷ c.args.start % 65536 / 256 ∷ c.args.start % 256 ∷ 0 ∷ []) c.args.page.now.items) c.kind_byte.ensures)
+    (c.lay.ensures ∙ ap (λ l. laid c.args.header l c.args.page.now.items) c.leaf_head.ensures)
     ∙ laid_twice c.args.header (leaf_head c.args.kind c.args.count c.args.start) (four_bytes c.args.right) c.args.page.now.items place
     ∙ ap (λ l. laid c.args.header l c.args.page.now.items) (with_child (is_interior c.args.kind) (leaf_head c.args.kind c.args.count c.args.start) (four_bytes c.args.right) inner)
 
 pub returns-else-is_interior : goal.returns-else-is_interior
 returns-else-is_interior c =
     let leaf : is_interior c.args.kind ≡ false = sym c.is_interior.ensures ∙ c.if-is_interior.false in
-    c.lay.ensures ∙ ap (λ k. laid c.args.header (k ∷ 0 ∷ 0 ∷ c.args.count / 256 ∷ c.args.count % 256 ∷ c.args.start % 65536 / 256 ∷ c.args.start % 256 ∷ 0 ∷ []) c.args.page.now.items) c.kind_byte.ensures
+    c.lay.ensures ∙ ap (λ l. laid c.args.header l c.args.page.now.items) c.leaf_head.ensures
     ∙ ap (λ l. laid c.args.header l c.args.page.now.items) (without_child (is_interior c.args.kind) (leaf_head c.args.kind c.args.count c.args.start) (four_bytes c.args.right) leaf)

@@ -1,13 +1,15 @@
-// Big-endian numbers by their place.
+// Numbers by their place, the most significant byte first.
 ghost use Rattle.std.specs.Prelude.{◌≡◌, ◌+◌, ◌≤◌, length};
-ghost use Rattle.db_format.specs.Bytes.{u16_at, u32_at};
+ghost use Rattle.number_fields.specs.Fields.{u16_at, u32_at};
+
+use byteorder::{BigEndian, ByteOrder};
 
 /// The number in the two bytes from `at` on.
 pub fn u16_at(bytes: &[u8], at: usize) -> u16
     requires { at + 2 ≤ length bytes.now }
     ensures { result ≡ u16_at bytes.now at }
 {
-    u16::from_be_bytes([bytes[at], bytes[at + 1]])
+    BigEndian::read_u16(&bytes[at..])
 }
 
 /// The number in the four bytes from `at` on.
@@ -15,5 +17,5 @@ pub fn u32_at(bytes: &[u8], at: usize) -> u32
     requires { at + 4 ≤ length bytes.now }
     ensures { result ≡ u32_at bytes.now at }
 {
-    u32::from_be_bytes([bytes[at], bytes[at + 1], bytes[at + 2], bytes[at + 3]])
+    BigEndian::read_u32(&bytes[at..])
 }
