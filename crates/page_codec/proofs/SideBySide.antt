@@ -68,19 +68,19 @@ batch_within size at k count fits = omega (arith, pages_sum size at k, mul-le-mu
 
 -- ---- answers, one for each page
 
-pub answered_none : (file : FileKeys) (first : ℕ) (pages : List ℕ) (at : ℕ) (held : List Bool) → AreAnswered file first pages at at held held
-answered_none file first pages at held = record {
+pub answered_none : (file : FileKeys) (number : ℕ → ℕ) (pages : List ℕ) (at : ℕ) (held : List Bool) → AreAnswered file number pages at at held held
+answered_none file number pages at held = record {
   length_kept = refl;
   done = λ k from to. absurd (omega arith);
   before = λ k lt. refl;
 }
 
 -- one answer more
-pub answered_more : (file : FileKeys) (first : ℕ) (pages : List ℕ) (from i : ℕ) (old held : List Bool) (x : Bool) → from ≤ i → i < length old
-    → AreAnswered file first pages from i old held → x ≡ accepts file (first + i) (nth_page file.profile.page_size pages i)
-    → AreAnswered file first pages from (i + 1) old (slice_set held i x)
-answered_more file first pages from i old held x after less h is =
-    let value : ℕ → Bool = λ k. accepts file (first + k) (nth_page file.profile.page_size pages k) in
+pub answered_more : (file : FileKeys) (number : ℕ → ℕ) (pages : List ℕ) (from i : ℕ) (old held : List Bool) (x : Bool) → from ≤ i → i < length old
+    → AreAnswered file number pages from i old held → x ≡ accepts file (number i) (nth_page file.profile.page_size pages i)
+    → AreAnswered file number pages from (i + 1) old (slice_set held i x)
+answered_more file number pages from i old held x after less h is =
+    let value : ℕ → Bool = λ k. accepts file (number k) (nth_page file.profile.page_size pages k) in
     record {
       length_kept = length-set held i x ∙ h.length_kept;
       done = λ k begins ends. elim (cases_lt k i) as (λ _. slice_index_or (slice_set held i x) k false ≡ value k) [
@@ -92,11 +92,11 @@ answered_more file first pages from i old held x after less h is =
       before = λ k lt. get_or-set_other held i k x false (omega arith) ∙ h.before k lt;
     }
 
-pub answered_then : (file : FileKeys) (first : ℕ) (pages : List ℕ) (from mid to : ℕ) (old between new : List Bool) → from ≤ mid → mid ≤ to
-    → AreAnswered file first pages from mid old between → AreAnswered file first pages mid to between new
-    → AreAnswered file first pages from to old new
-answered_then file first pages from mid to old between new one two f s =
-    let value : ℕ → Bool = λ k. accepts file (first + k) (nth_page file.profile.page_size pages k) in
+pub answered_then : (file : FileKeys) (number : ℕ → ℕ) (pages : List ℕ) (from mid to : ℕ) (old between new : List Bool) → from ≤ mid → mid ≤ to
+    → AreAnswered file number pages from mid old between → AreAnswered file number pages mid to between new
+    → AreAnswered file number pages from to old new
+answered_then file number pages from mid to old between new one two f s =
+    let value : ℕ → Bool = λ k. accepts file (number k) (nth_page file.profile.page_size pages k) in
     record {
       length_kept = s.length_kept ∙ f.length_kept;
       done = λ k begins ends. elim (cases_lt k mid) as (λ _. slice_index_or new k false ≡ value k) [

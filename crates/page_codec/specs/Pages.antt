@@ -1,7 +1,9 @@
 -- Pages that stand one after another.
-use Rattle.std.specs.Prelude.{◌≡◌, ℕ, ◌+◌, ◌*◌, ◌<◌, ◌≤◌, Bool, false, List, length, slice_index, slice_index_or, take, drop, IsTrue}
+use Rattle.std.specs.Prelude.{◌≡◌, ℕ, ◌+◌, ◌*◌, ◌<◌, ◌≤◌, Bool, true, false, List, length, slice_index, slice_index_or, take, drop, IsTrue}
+use Rattle.std.specs.Int.{w32, to_le_bytes}
+use Rattle.hash_lanes.specs.Messages.{piece}
 use Rattle.cipher_profile.specs.Profile.{usable}
-use Rattle.page_codec.specs.Page.{FileKeys, accepts, deciphered, sealed, tag, with_tag}
+use Rattle.page_codec.specs.Page.{FileKeys, accepts, deciphered, opened, sealed, tag, with_tag}
 
 -- page i of them, from 0
 abbrev pub nth_page : ℕ → List ℕ → ℕ → List ℕ
@@ -25,10 +27,27 @@ pub record AreTagged (file : FileKeys) (numbers : List ℕ) (from to : ℕ) (old
   pub before : (i : ℕ) → i < from → nth_page file.profile.page_size new i ≡ nth_page file.profile.page_size old i
   pub left : (i : ℕ) → to ≤ i → nth_page file.profile.page_size new i ≡ nth_page file.profile.page_size old i
 
--- answers `from` to `to - 1`, counted from 0, say now whether those pages are accepted, where page `first` is the first of the pages, and
--- the answers before them are as they were
-pub record AreAnswered (file : FileKeys) (first : ℕ) (pages : List ℕ) (from to : ℕ) (old new : List Bool) : Type 0 where
+-- the numbers of pages that follow one another in the file, of which this is the first; those of a list
+abbrev pub run_from : ℕ → ℕ → ℕ
+run_from first i = first + i
+
+abbrev pub listed : List ℕ → ℕ → ℕ
+listed numbers i = slice_index numbers i
+
+-- each of so many pages from page `at` on has a number other than 1, and these are the numbers' bytes, the lowest first
+abbrev pub AreEnds : (ℕ → ℕ) → ℕ → ℕ → List ℕ → Type 0
+AreEnds number at count ends = (j : ℕ) → j < count → (2 ≤ number (at + j)) × (piece ends 4 4 j ≡ to_le_bytes w32 (number (at + j)))
+
+-- answers `from` to `to - 1`, counted from 0, say now whether those pages are accepted, by the number of each, and the answers before
+-- them are as they were
+pub record AreAnswered (file : FileKeys) (number : ℕ → ℕ) (pages : List ℕ) (from to : ℕ) (old new : List Bool) : Type 0 where
   pub length_kept : length new ≡ length old
   pub done : (i : ℕ) → from ≤ i → i < to
-      → slice_index_or new i false ≡ accepts file (first + i) (nth_page file.profile.page_size pages i)
+      → slice_index_or new i false ≡ accepts file (number i) (nth_page file.profile.page_size pages i)
   pub before : (i : ℕ) → i < from → slice_index_or new i false ≡ slice_index_or old i false
+
+-- stored page n was opened where it stands, before its reserve, where it is held as accepted, and else stays as it was
+pub record IsOpenedIf (file : FileKeys) (n : ℕ) (held : Bool) (old new : List ℕ) : Type 0 where
+  pub opened : held ≡ true → take (usable file.profile) new ≡ opened file n old
+  pub reserve : drop (usable file.profile) new ≡ drop (usable file.profile) old
+  pub kept : held ≡ false → new ≡ old

@@ -5,6 +5,7 @@ ghost use Rattle.cipher_profile.specs.Profile.{IsListed, is_plain};
 ghost use Rattle.page_codec.specs.MacKey.{mac_key};
 ghost use Rattle.page_codec.specs.Page.{FileKeys, accepts, bears_sign, cipher_start, deciphered, fits, keys_of, keys_with_salt, magic, tag};
 
+use crate::side_by_side::SideKey;
 use crate::tag::{MAX_TAG, TagKey};
 use aes_block::Aes256;
 use cipher_profile::{PageKeys, Profile, Secret, derive};
@@ -27,6 +28,8 @@ pub struct Codec {
     pub(crate) salt: [u8; SALT_LEN],
     pub(crate) cipher: Aes256,
     pub(crate) tags: TagKey,
+    // for the tags of several pages at a time
+    pub(crate) side: SideKey,
 }
 
 impl Model for Codec {
@@ -38,6 +41,7 @@ impl Model for Codec {
       listed : IsListed c.profile;
       ciphers : c.cipher ≡ c.keys.enc;
       tags : c.tags ≡ mac_key c.profile.hash c.keys.mac;
+      side : c.side ≡ mac_key c.profile.hash c.keys.mac;
       plain : is_plain c.profile ≡ true → c.salt ≡ magic;
     } };
 }
@@ -51,12 +55,14 @@ impl Codec {
     {
         let cipher = Aes256::new(&keys.enc);
         let tags = TagKey::new(profile.hash, &keys.mac);
+        let side = SideKey::new(profile.hash, &keys.mac);
         Codec {
             profile,
             keys,
             salt,
             cipher,
             tags,
+            side,
         }
     }
 

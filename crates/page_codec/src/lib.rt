@@ -3,6 +3,7 @@
 
 mod codec;
 mod laws;
+mod listed;
 mod opening;
 mod sealing;
 mod side_by_side;

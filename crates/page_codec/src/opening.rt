@@ -1,8 +1,9 @@
 // Opening a stored page.
-ghost use Rattle.std.specs.Prelude.{◌≡◌, ◌≤◌, ◌↔◌, ◌++◌, true, false, length, take, drop, IfErr, IfOk, IsOk, IsTrue};
+ghost use Rattle.std.specs.Prelude.{◌≡◌, ℕ, ◌+◌, ◌*◌, ◌^◌, ◌<◌, ◌≤◌, ◌↔◌, ◌++◌, true, false, length, slice_index_or, take, drop, IfErr, IfOk, IsOk, IsTrue};
 ghost use Rattle.cbc_mode.specs.Cbc.{cbc_decrypted};
 ghost use Rattle.cipher_profile.specs.Profile.{is_plain, usable};
 ghost use Rattle.page_codec.specs.Page.{accepts, cipher_start, deciphered, fits, magic, opened};
+ghost use Rattle.page_codec.specs.Pages.{IsOpenedIf};
 
 use crate::codec::{Codec, IV_LEN, MAGIC, cipher_start};
 use cbc_mode::cbc_decrypt;
@@ -52,10 +53,31 @@ impl Codec {
         ensures without_tags { self.now.profile.tag_len ≡ 0 → IsOk result }
     {
         self.check_tag(n, page)?;
+        self.open_accepted(n, page);
+        Ok(())
+    }
+
+    /// Opens stored page n where it stands, where it is accepted.
+    pub(crate) fn open_if(&self, held: bool, n: u32, page: &mut [u8])
+        requires size { length page.old ≡ self.now.profile.page_size }
+        ensures size { length page.new ≡ length page.old }
+        ensures opened { IsOpenedIf self.now n held page.old page.new }
+    {
+        if held {
+            self.open_accepted(n, page);
+        }
+    }
+
+    // Opens stored page n where it stands, whatever its tag is.
+    #[tactic(auto, unfolding(crate::specs::Page::opened))]
+    fn open_accepted(&self, n: u32, page: &mut [u8])
+        requires size { length page.old ≡ self.now.profile.page_size }
+        ensures opened { take (usable self.now.profile) page.new ≡ opened self.now n page.old }
+        ensures reserve { drop (usable self.now.profile) page.new ≡ drop (usable self.now.profile) page.old }
+    {
         if !self.profile.is_plain() {
             self.decipher_in_place(n, page);
         }
-        Ok(())
     }
 
     /// Opens stored page 1 where it stands, and says so, where the key fits its file. Its tag is looked at once.

@@ -119,10 +119,9 @@ impl Codec {
         if self.profile.tag_len == 0 || numbers.len() < count {
             return 0;
         }
-        let key = SideKey::new(self.profile.hash, &self.keys.mac);
         let mut done = 0;
         'batches: while numbers.len() - done >= count {
-            self.put_batch(&key, done, numbers, pages);
+            self.put_batch(&self.side, done, numbers, pages);
             done += count;
         }
         done

@@ -7,11 +7,12 @@ ghost use Rattle.hash_lanes.specs.Messages.{message, piece};
 ghost use Rattle.cipher_profile.specs.Hashes.{digest, digest_len};
 ghost use Rattle.page_codec.specs.MacKey.{at_once, mac_key};
 ghost use Rattle.page_codec.specs.Page.{accepts, stored_tag};
-ghost use Rattle.page_codec.specs.Pages.{AreAnswered, nth_page};
+ghost use Rattle.page_codec.specs.Pages.{AreAnswered, AreEnds, nth_page, run_from};
 
 use crate::codec::{Codec, IV_LEN};
 use cipher_profile::HashKind;
 use hash_lanes::{EightMacs, FourMacs};
+use number_fields::u32_bytes_low_first;
 use std::marker::Model;
 
 /// How many tags of this hash are computed at once: as many as a vector has words of it.
@@ -102,7 +103,7 @@ fn numbers_from(n: u32, count: usize) -> [u8; 32]
 {
     let mut out = [0u8; 32];
     'numbers: for i in 0..count {
-        out[4 * i..4 * i + 4].copy_from_slice(&(n + i as u32).to_le_bytes());
+        out[4 * i..4 * i + 4].copy_from_slice(&u32_bytes_low_first(n + i as u32));
     }
     out
 }
@@ -115,7 +116,7 @@ pub(crate) fn numbers_at(numbers: &[u32], at: usize, count: usize) -> [u8; 32]
 {
     let mut out = [0u8; 32];
     'numbers: for i in 0..count {
-        out[4 * i..4 * i + 4].copy_from_slice(&numbers[at + i].to_le_bytes());
+        out[4 * i..4 * i + 4].copy_from_slice(&u32_bytes_low_first(numbers[at + i]));
     }
     out
 }
@@ -144,16 +145,15 @@ impl Codec {
         requires size { length pages.now ≡ self.now.profile.page_size * length held.old }
         requires tagged { 0 < self.now.profile.tag_len }
         ensures within { result ≤ length held.old }
-        ensures answered { AreAnswered self.now first pages.now 0 result held.old held.new }
+        ensures answered { AreAnswered self.now (run_from first) pages.now 0 result held.old held.new }
     {
         let count = at_once(self.profile.hash);
         if held.len() < count {
             return 0;
         }
-        let key = SideKey::new(self.profile.hash, &self.keys.mac);
         let mut done = 0;
         'batches: while held.len() - done >= count {
-            self.batch_holds(&key, first, done, pages, held);
+            self.batch_holds(&self.side, first, done, pages, held);
             done += count;
         }
         done
@@ -167,31 +167,37 @@ impl Codec {
         requires tagged { 0 < self.now.profile.tag_len }
         requires within { at + at_once self.now.profile.hash ≤ length held.old }
         requires key { key.now ≡ mac_key self.now.profile.hash self.now.keys.mac }
-        ensures { AreAnswered self.now first pages.now at (at + at_once self.now.profile.hash) held.old held.new }
+        ensures { AreAnswered self.now (run_from first) pages.now at (at + at_once self.now.profile.hash) held.old held.new }
     {
         let count = at_once(self.profile.hash);
         if first as usize + at > 1 {
-            self.later_hold(key, first, at, pages, held);
+            let ends = numbers_from(first + at as u32, count);
+            self.later_hold(key, &ends, at, pages, held);
         } else {
             self.each_holds(first, at, at + count, pages, held);
         }
     }
 
-    // The same where none of them is page 1.
-    fn later_hold(&self, key: &SideKey, first: u32, at: usize, pages: &[u8], held: &mut [bool])
-        requires later { 2 ≤ first + at }
-        requires numbers { first + length held.old ≤ 2 ^ 32 }
+    /// The same where these are their numbers, whichever they are but 1, as four bytes each, the lowest first.
+    pub(crate) fn later_hold(
+        &self,
+        key: &SideKey,
+        ends: &[u8; 32],
+        at: usize,
+        pages: &[u8],
+        held: &mut [bool],
+    )
         requires size { length pages.now ≡ self.now.profile.page_size * length held.old }
         requires tagged { 0 < self.now.profile.tag_len }
         requires within { at + at_once self.now.profile.hash ≤ length held.old }
         requires key { key.now ≡ mac_key self.now.profile.hash self.now.keys.mac }
-        ensures { AreAnswered self.now first pages.now at (at + at_once self.now.profile.hash) held.old held.new }
+        ensures { (number : ℕ → ℕ) → AreEnds number at (at_once self.now.profile.hash) ends.now
+            → AreAnswered self.now number pages.now at (at + at_once self.now.profile.hash) held.old held.new }
     {
         let count = at_once(self.profile.hash);
         let size = self.profile.page_size as usize;
         let tag_at = self.profile.usable() + IV_LEN;
-        let numbers = numbers_from(first + at as u32, count);
-        let tags = key.tags(&pages[size * at..], size, tag_at, &numbers);
+        let tags = key.tags(&pages[size * at..], size, tag_at, ends);
         'pages: for j in 0..count {
             let i = at + j;
             held[i] = self.bears(
@@ -209,7 +215,7 @@ impl Codec {
         requires tagged { 0 < self.now.profile.tag_len }
         requires order { from ≤ to }
         requires within { to ≤ length held.old }
-        ensures { AreAnswered self.now first pages.now from to held.old held.new }
+        ensures { AreAnswered self.now (run_from first) pages.now from to held.old held.new }
     {
         let _usable = self.profile.usable();
         let size = self.profile.page_size as usize;

@@ -7,6 +7,7 @@ ghost use Rattle.page_codec.specs.MacKey.{mac_key};
 
 use cipher_profile::HashKind;
 use hmac_core::{HmacKey, PageHash, Sha1Hash, Sha512Hash};
+use number_fields::u32_bytes_low_first;
 use std::marker::Model;
 
 /// The longest tag, in bytes.
@@ -64,7 +65,7 @@ fn tag_under<H: PageHash>(key: &HmacKey<H>, covered: &[u8], n: u32) -> [u8; MAX_
 {
     let mut mac = key.start();
     mac.update(covered);
-    mac.update(&n.to_le_bytes());
+    mac.update(&u32_bytes_low_first(n));
     let mut tag = [0u8; MAX_TAG];
     mac.finish(&mut tag[..H::OUT]);
     tag

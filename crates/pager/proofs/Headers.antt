@@ -3,8 +3,7 @@ use Rattle.std.proofs.Common.{◌≡◌, ℕ, ◌+◌, ◌<◌, ◌≤◌, List,
 use Rattle.std.specs.Prelude.{slice_index}
 use Rattle.std.proofs.lemmas.List.{get_or-take}
 use Rattle.db_format.specs.Bytes.{u32_at}
-use Rattle.db_format.specs.Header.{header_fields, header_read, header_rules}
-use Rattle.db_format.specs.Rules.{unless_broken}
+use Rattle.db_format.specs.Header.{header_read}
 
 module _ (a b : List ℕ) (same : take 100 a ≡ take 100 b) where
   byte_same : (k : ℕ) → k < 100 → slice_index a k ≡ slice_index b k

@@ -1,3 +1,4 @@
+mod AheadLemmas
 pub mod WholeReads
 pub mod FirstPage
 pub mod Filling

@@ -3,6 +3,7 @@ pub mod Opening
 pub mod Database
 pub mod Pages
 pub mod Held
+pub mod Ahead
 pub mod Causes
 pub mod Reads
 pub mod Beside

@@ -73,6 +73,13 @@ impl ChangedPages {
         self.numbers.len()
     }
 
+    /// How many frames hold no changed page.
+    pub(crate) fn free_frames(&self) -> u32
+        ensures { result ≡ self.now.frames - length self.now.numbers }
+    {
+        self.frames - self.numbers.len() as u32
+    }
+
     /// Whether every frame holds a changed page.
     pub(crate) fn is_full(&self) -> bool
         ensures value { result ≡ (length self.now.numbers == self.now.frames) }

@@ -12,6 +12,7 @@ ghost use Rattle.pager.specs.Opening.{HasNoJournal, IsRefusedBy, file_opened};
 
 use crate::opening::{Counted, OpenError, open_main, open_under};
 use crate::pager::Pager;
+use crate::window::{Window, window_bytes};
 use cipher_profile::{Profile, Secret};
 use db_format::Header;
 use edge_model::{Disk, Entropy};
@@ -26,6 +27,7 @@ pub struct OpenedFile {
     pub(crate) header: Header,
     pub(crate) count: u32,
     pub(crate) cache: Cache,
+    pub(crate) ahead: Vec<u8>,
     ghost layout: { header.page_size ≡ codec.profile.page_size },
     ghost limits: { (header.format ≤ 4) × (header.encoding ≤ 3) },
     ghost some: { 1 ≤ count },
@@ -107,11 +109,15 @@ impl OpenedFile {
         let Ok(cache) = Cache::new(alloc, frames, page_size) else {
             return Err(OpenError::OutOfMemory);
         };
+        let Ok(ahead) = vec![in alloc; 0u8; window_bytes(codec.profile().page_size)] else {
+            return Err(OpenError::OutOfMemory);
+        };
         Ok(OpenedFile {
             codec,
             header: found.header,
             count: found.count,
             cache,
+            ahead,
         })
     }
 
@@ -148,6 +154,7 @@ impl OpenedFile {
             header,
             count,
             cache,
+            ahead,
         } = self;
         Pager {
             disk,
@@ -156,6 +163,8 @@ impl OpenedFile {
             header,
             count,
             cache,
+            window: Window::new(),
+            ahead,
             last: 0,
         }
     }

@@ -6,11 +6,15 @@ ghost use Rattle.cipher_profile.specs.Profile.{usable};
 ghost use Rattle.page_codec.specs.Page.{accepts, opened};
 ghost use Rattle.page_cache.specs.Pages.{is_held};
 ghost use Rattle.pager.specs.File.{page_stored};
+ghost use Rattle.pager.specs.Ahead.{IsAhead};
 ghost use Rattle.pager.specs.Held.{bytes_of_page, pins_of, AreOpened, IsAllPinned, HasRoom};
 ghost use Rattle.pager.specs.Causes.{IsLoadCause};
 ghost use Rattle.edge_model.specs.Files.{main_of};
 
+use crate::ahead::read_ahead;
+use crate::children::siblings;
 use crate::main_file::read_page;
+use crate::window::{Wanted, Window};
 use edge_model::Disk;
 use page_cache::Cache;
 use page_codec::Codec;
@@ -52,7 +56,7 @@ fn make_room(cache: &mut Cache, n: u32) -> Result<(), PageError>
 }
 
 // Reads page n and opens it where it stands: the plain page is in front then.
-fn read_opened<D: Disk>(
+pub(crate) fn read_opened<D: Disk>(
     disk: &mut D,
     codec: &Codec,
     n: u32,
@@ -102,18 +106,34 @@ pub(crate) fn read_plain<D: Disk>(
     Ok(())
 }
 
-/// Page n is held, the most recently used.
+// The next children behind page n of the page that was held last, if that is still there.
+fn siblings_in(cache: &Cache, parent: u32, n: u32) -> Wanted {
+    match cache.get(parent) {
+        Some(page) => siblings(page, parent, n),
+        None => Wanted::none(),
+    }
+}
+
+/// Page n is held, the most recently used. Page `parent` was held last: if it names page n as a child, the next children may be read with it.
 pub(crate) fn fill_page<D: Disk>(
     disk: &mut D,
     codec: &Codec,
     cache: &mut Cache,
+    pages: &mut [u8],
+    window: &mut Window,
+    parent: u32,
     n: u32,
+    last: u32,
 ) -> Result<(), PageError>
     requires number { 1 ≤ n }
     requires there { IsTrue D.tells → n * codec.now.profile.page_size ≤ length (main_of (D.reads disk.old)) }
+    requires whole { IsTrue D.tells → last * codec.now.profile.page_size ≤ length (main_of (D.reads disk.old)) }
     requires size { cache.old.usable ≡ codec.now.profile.page_size }
+    requires ahead { IsTrue D.tells → IsAhead codec.now (main_of (D.reads disk.old)) window.old pages.old }
     requires opened { IsTrue D.tells → AreOpened codec.now (main_of (D.reads disk.old)) cache.old.held }
     ensures held { OnOk result (is_held n cache.new.held ≡ true) }
+    ensures room { length pages.new ≡ length pages.old }
+    ensures ahead { IsTrue D.tells → IsAhead codec.now (main_of (D.reads disk.old)) window.new pages.new }
     ensures opened { IsTrue D.tells → AreOpened codec.now (main_of (D.reads disk.old)) cache.new.held }
     ensures sized { OnOk result (length (bytes_of_page n cache.new.held) ≡ cache.old.usable) }
     ensures frames { (cache.new.usable ≡ cache.old.usable) × (cache.new.frames ≡ cache.old.frames) }
@@ -129,8 +149,18 @@ pub(crate) fn fill_page<D: Disk>(
     if cache.touch(n) {
         return Ok(());
     }
+    let siblings = siblings_in(cache, parent, n);
     make_room(cache, n)?;
-    match read_opened(disk, codec, n, cache.at_mut(n)) {
+    match read_ahead(
+        disk,
+        codec,
+        pages,
+        window,
+        n,
+        &siblings,
+        last,
+        cache.at_mut(n),
+    ) {
         Ok(()) => Ok(()),
         Err(refusal) => {
             cache.discard(n);

@@ -21,7 +21,9 @@
 //!    `into_parts`.
 #![tactic(auto)]
 
+mod ahead;
 mod changed;
+mod children;
 mod file;
 mod fill;
 mod main_file;
@@ -32,7 +34,9 @@ mod side;
 mod source;
 mod spilled;
 mod txn;
+mod window;
 
+pub use ahead::read_ahead;
 pub use atomic_commit::CommitFault;
 pub use changed::ChangedPages;
 pub use db_format::PageSource;
@@ -42,3 +46,4 @@ pub use main_file::{MAX_PAGE, file_length, read_main, read_page};
 pub use opening::{OpenError, codec_of, served_length};
 pub use pager::Pager;
 pub use txn::{BeginError, Txn, is_same_layout};
+pub use window::{Wanted, Window, window_bytes};

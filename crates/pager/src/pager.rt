@@ -7,6 +7,7 @@ ghost use Rattle.db_format.specs.Count.{largest_database};
 ghost use Rattle.db_format.specs.Pages.{IsUsable};
 ghost use Rattle.page_cache.specs.Pages.{is_held};
 ghost use Rattle.edge_model.specs.Files.{main_of};
+ghost use Rattle.pager.specs.Ahead.{IsAhead, IsAhead-prop};
 ghost use Rattle.pager.specs.Held.{plain_of_page, pins_of, AreOpened, AreOpened-prop, IsAllPinned};
 ghost use Rattle.pager.specs.Opening.{HasNoJournal, IsRefusedBy, file_opened};
 ghost use Rattle.pager.specs.Pages.{is_page_number, opened_pages};
@@ -16,6 +17,7 @@ ghost use Rattle.pager.specs.Reads.{DiskRead, Untouched};
 use crate::file::OpenedFile;
 use crate::fill::{PageError, fill_page};
 use crate::opening::OpenError;
+use crate::window::Window;
 use db_format::Header;
 use edge_model::{Disk, Entropy};
 use page_cache::Cache;
@@ -32,6 +34,9 @@ pub struct Pager<'d, D: Disk, E: Entropy> {
     pub(crate) count: u32,
     // in a frame a page is read and opened: the plain page is in front, before the reserve
     pub(crate) cache: Cache,
+    // pages that were read before they are asked for
+    pub(crate) window: Window,
+    pub(crate) ahead: Vec<u8>,
     // the page that was loaded last, 0 for none
     pub(crate) last: u32,
     ghost whole: { IsTrue D.tells → count * codec.profile.page_size ≤ length (main_of (D.reads disk.now)) },
@@ -41,6 +46,7 @@ pub struct Pager<'d, D: Disk, E: Entropy> {
     ghost fits: { cache.usable ≡ codec.profile.page_size },
     ghost lendable: { IsUsable (usable codec.profile) },
     ghost opened: { IsTrue D.tells → AreOpened codec (main_of (D.reads disk.now)) cache.held } by { λ f g i told. AreOpened-prop codec (main_of (D.reads disk.now)) cache.held (f told) (g told) i },
+    ghost before: { IsTrue D.tells → IsAhead codec (main_of (D.reads disk.now)) window ahead.items } by { λ f g i told. IsAhead-prop codec (main_of (D.reads disk.now)) window ahead.items (f told) (g told) i },
 }
 
 impl<'d, D: Disk, E: Entropy> Pager<'d, D, E> {
@@ -129,7 +135,16 @@ impl<'d, D: Disk, E: Entropy> Pager<'d, D, E> {
         if n == 0 || n > self.count {
             return Err(PageError::OutOfRange);
         }
-        match fill_page(&mut *self.disk, &self.codec, &mut self.cache, n) {
+        match fill_page(
+            &mut *self.disk,
+            &self.codec,
+            &mut self.cache,
+            &mut self.ahead,
+            &mut self.window,
+            self.last,
+            n,
+            self.count,
+        ) {
             Ok(()) => {
                 self.last = n;
                 Ok(())
@@ -161,6 +176,8 @@ impl<'d, D: Disk, E: Entropy> Pager<'d, D, E> {
             header: _,
             count: _,
             cache: _,
+            window: _,
+            ahead: _,
             last: _,
         } = self;
         (disk, entropy)

@@ -13,15 +13,18 @@ ghost use Rattle.atomic_commit.specs.Commit.{IsCommitted, LeavesChanged};
 ghost use Rattle.atomic_commit.specs.Database.{HoldsEither, HoldsOld, stored_pages};
 ghost use Rattle.atomic_commit.specs.Facts.{IsBase, IsCommitBegun, SameFresh};
 ghost use Rattle.atomic_commit.specs.Marks.{marked_count};
+ghost use Rattle.pager.specs.Ahead.{IsAhead, IsAhead-prop};
 ghost use Rattle.pager.specs.Changed.{HasMagic, same_layout, unchanged, with_bytes};
 ghost use Rattle.pager.specs.Pages.{is_page_number};
 ghost use Rattle.pager.specs.Reads.{DiskRead, Untouched};
 ghost use Rattle.pager.specs.UnderWay.{HasNewPages, lent_out, IsReadyFor, IsRefusedAs, IsUnderWay, MayRefuseAs, Start, is_failure, is_touched, seen_pages};
 
+use crate::ahead::read_plain_ahead;
 use crate::changed::ChangedPages;
 use crate::fill::{PageError, read_plain};
 use crate::pager::Pager;
 use crate::spilled::{end_frames, write_frames};
+use crate::window::Window;
 use atomic_commit::{CommitFault, PageMarks, guard_ahead, undo_batches};
 use edge_model::{Disk, Entropy, Failed};
 use page_codec::{Codec, MAGIC};
@@ -59,6 +62,9 @@ pub struct Txn<'d, D: Disk, E: Entropy> {
     stored: Vec<u8>,
     // the page that was read last
     pub(crate) plain: Vec<u8>,
+    // pages that were read before they are asked for
+    window: Window,
+    ahead: Vec<u8>,
     // the page that was loaded last, 0 for none
     pub(crate) last: u32,
     ghost layout: { (write.profile.page_size ≡ read.profile.page_size) × (write.profile.reserve ≡ read.profile.reserve) },
@@ -71,6 +77,7 @@ pub struct Txn<'d, D: Disk, E: Entropy> {
     ghost long: { 16 ≤ usable write.profile },
     ghost journal: { (writer.page_size ≡ write.profile.page_size) × (writer.initial ≡ count) },
     ghost marks: { length written ≡ count },
+    ghost before: { IsTrue D.tells → IsAhead read (main_of (D.reads disk.now)) window ahead.items } by { λ f g i told. IsAhead-prop read (main_of (D.reads disk.now)) window ahead.items (f told) (g told) i },
 }
 
 /// Whether both codecs have pages of one length, one reserve and one salt.
@@ -277,6 +284,7 @@ impl<'d, D: Disk, E: Entropy> Txn<'d, D, E> {
     {
         let _listed = self.write.profile();
         let _pages = self.pages();
+        self.window = self.window.forget();
         guard_ahead(
             &mut *self.disk,
             &mut self.writer,
@@ -315,13 +323,29 @@ impl<'d, D: Disk, E: Entropy> Txn<'d, D, E> {
                 &mut self.plain,
             );
         }
-        read_plain(
+        let last = self.last_wanted(n);
+        read_plain_ahead(
             &mut *self.disk,
             &self.read,
+            &mut self.ahead,
+            &mut self.window,
             n,
+            last,
             &mut self.stored,
             &mut self.plain,
         )
+    }
+
+    // The last page that may be read with page n: no more than frames are free, since the window is let go when the frames are written.
+    fn last_wanted(&self, n: u32) -> u32
+        requires number { n ≤ self.now.count }
+        ensures within { result ≤ self.now.count }
+    {
+        let free = self.changed.free_frames();
+        if free == 0 {
+            return n;
+        }
+        (self.count - n).min(free - 1) + n
     }
 
     // Page n, which no frame holds, is in a frame from now on, as the transaction sees it.
@@ -447,6 +471,7 @@ impl<'d, D: Disk, E: Entropy> Txn<'d, D, E> {
         ensures file { (self.new.read ≡ self.old.read) × (self.new.write ≡ self.old.write) × (self.new.count ≡ self.old.count) }
     {
         let _listed = self.changed.len();
+        self.window = self.window.forget();
         let written = write_frames(
             &mut *self.disk,
             &mut *self.entropy,
@@ -519,6 +544,8 @@ impl<'d, D: Disk, E: Entropy> Txn<'d, D, E> {
             mut batch,
             mut stored,
             plain: _,
+            window: _,
+            ahead: _,
             last: _,
         } = self;
         let _listed = changed.len();
@@ -557,6 +584,8 @@ impl<'d, D: Disk, E: Entropy> Txn<'d, D, E> {
             batch: _,
             stored: _,
             plain: _,
+            window: _,
+            ahead: _,
             last: _,
         } = self;
         (disk, entropy)
@@ -593,6 +622,8 @@ impl<'d, D: Disk, E: Entropy> Txn<'d, D, E> {
             batch: _,
             stored: _,
             plain: _,
+            window: _,
+            ahead: _,
             last: _,
         } = self;
         let done = undo_batches(&mut *disk, &mut writer, &recorded);
@@ -670,6 +701,8 @@ impl<'d, D: Disk, E: Entropy> Pager<'d, D, E> {
             header: _,
             count,
             cache: _,
+            window,
+            ahead,
             last: _,
         } = self;
         Ok(Txn {
@@ -686,6 +719,8 @@ impl<'d, D: Disk, E: Entropy> Pager<'d, D, E> {
             batch,
             stored,
             plain,
+            window,
+            ahead,
             last: 0,
         })
     }

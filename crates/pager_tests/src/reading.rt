@@ -1,7 +1,8 @@
 // Pages that are lent, and each refusal of a page or of a file.
 
 use crate::sealed_file::{SALT, codec_of, disk_of, put_plain, sealed};
-use edge_model::{Disk, Entropy, MemEntropy, Role, SilentDisk};
+use edge_memory::{MemEntropy, SilentDisk};
+use edge_model::{Disk, Entropy, Role};
 use pager::{OpenError, PageError, PageSource, Pager};
 use std::alloc::Global;
 use std::process::Abort;
@@ -93,8 +94,9 @@ fn answers_each_refusal_of_a_page(rt: HostRuntime) -> Result<(), Fail> {
     let mut entropy = MemEntropy::new(alloc, &[], &[])?;
     let mut pager = opened(&rt, alloc, &mut disk, &mut entropy, 0)?;
     check_page(&rt, &mut pager, 8);
-    check_refused(&rt, &mut pager, 10, PageError::DiskFault);
-    check_page(&rt, &mut pager, 10);
+    // (far from page 8, so that it is read alone)
+    check_refused(&rt, &mut pager, 30, PageError::DiskFault);
+    check_page(&rt, &mut pager, 30);
     check_refused(&rt, &mut pager, 0, PageError::OutOfRange);
     check_refused(&rt, &mut pager, 61, PageError::OutOfRange);
     check_refused(&rt, &mut pager, 9, PageError::TagRefused { page: 9 });

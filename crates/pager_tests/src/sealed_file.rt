@@ -2,7 +2,7 @@
 // 976 bytes n, behind the header on page 1.
 
 use cipher_profile::{Secret, derive, profile_of};
-use edge_model::{MemDisk, SilentDisk};
+use edge_memory::{MemDisk, SilentDisk};
 use page_codec::Codec;
 use std::alloc::Global;
 use std::process::Abort;

@@ -5,7 +5,8 @@ ghost use Rattle.pager.specs.UnderWay.{IsReadyFor, zeros};
 ghost use Rattle.atomic_commit.specs.Facts.{IsBase};
 
 use crate::sealed_file::{codec_of, disk_of, put_byte, put_plain, sealed};
-use edge_model::{ImagePick, MemDisk, MemEntropy, Role, SilentDisk, SilentEntropy};
+use edge_memory::{ImagePick, MemDisk, MemEntropy, SilentDisk, SilentEntropy};
+use edge_model::Role;
 use pager::{PageError, Pager, Txn};
 use rollback_journal::recover;
 use std::alloc::Global;
@@ -315,8 +316,8 @@ fn seen_after(rt: &impl Abort, alloc: Global, file: &[u8], calls: u64) -> Result
 #[test]
 fn pages_that_left_their_frames_are_lent_out_of_main_alone(rt: HostRuntime) -> Result<(), Fail> {
     let file = sealed(&rt, rt.alloc(), &[])?;
-    // as many calls as the changes make and, the second time, those that read the pages back
-    for (calls, seen) in [(220u64, 12u32), (268, 60)] {
+    // as many calls as the changes make, which read the pages by 14, and, the second time, those that read the pages back
+    for (calls, seen) in [(174u64, 12u32), (222, 60)] {
         assert!(rt;
             seen_after(&rt, rt.alloc(), &file, calls)? == seen,
             "{seen}"

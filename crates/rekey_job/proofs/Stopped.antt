@@ -1,11 +1,12 @@
 -- What stops a check of the tags, and what its pages are after it.
-use Rattle.std.proofs.Common.{◌≡◌, ◌≢◌, inr, ℕ, Bool, true, false, refl, sym, ap, subst, ◌∙◌}
+use Rattle.std.proofs.Common.{◌≡◌, ◌≢◌, inl, inr, ℕ, ◌+◌, ◌≤◌, Bool, true, false, IsTrue, refl, sym, ap, subst, ◌∙◌, arith}
+use Rattle.std.proofs.lemmas.Bool.{cases_lt}
 use Rattle.btree_model.specs.Parts.{is_database}
 use Rattle.btree_model.specs.Plain.{is_leaf}
 use Rattle.btree_walk.specs.Causes.{IsGivenBy}
 use Rattle.btree_walk.specs.declared.error.WalkError.{WalkError}
 use Rattle.btree_walk.specs.declared.error.WalkError.TheVariants.{Defect as WalkDefect, Source, OutOfMemory as WalkMemory}
-use Rattle.db_format.specs.Pages.{Pages, Test}
+use Rattle.db_format.specs.Pages.{Pages, Test, is_page}
 use Rattle.edge_model.specs.Files.{Files, main_of}
 use Rattle.page_codec.specs.Page.{FileKeys}
 use Rattle.pager.specs.Causes.{MayRefuse}
@@ -31,6 +32,50 @@ read_refusal tells pages n (TagRefused page) num refused = tt
 read_refusal tells pages n DiskFault num refused = tt
 read_refusal tells pages n EntropyFault num refused = refused
 read_refusal tells pages n AllPinned num refused = tt
+
+-- whether a refusal names a page, and which
+is_tag : PageError → Bool
+is_tag OutOfRange = false
+is_tag (TagRefused page) = true
+is_tag DiskFault = false
+is_tag EntropyFault = false
+is_tag AllPinned = false
+
+refused_number : PageError → ℕ
+refused_number OutOfRange = 0
+refused_number (TagRefused page) = page
+refused_number DiskFault = 0
+refused_number EntropyFault = 0
+refused_number AllPinned = 0
+
+-- a page that is refused behind those that were accepted is the first
+pub first_refused : (tells : Bool) (pages : Pages) (passed : Test) (done : ℕ) (error : PageError)
+    → ((m : ℕ) → 1 ≤ m → m ≤ done → passed m ≡ false → pages.accepts m ≡ true) → passed (done + 1) ≡ false
+    → MayRefuse tells pages (done + 1) error → (n : ℕ) → error ≡ TagRefused n → IsTrue tells → IsFirstRefused pages passed n
+unfolding is_tag refused_number
+first_refused tells pages passed done OutOfRange before used refused n is told = let no : false ≡ true = ap is_tag is in cc
+first_refused tells pages passed done (TagRefused page) before used refused n is told =
+    let e : done + 1 ≡ n = sym refused.1 ∙ ap refused_number is in
+    record {
+      range = ap (is_page pages) (sym e) ∙ refused.0;
+      used = ap passed (sym e) ∙ used;
+      refused = ap pages.accepts (sym e) ∙ refused.2 told;
+      first = λ m some less. before m some (omega (arith, less, e));
+    }
+first_refused tells pages passed done DiskFault before used refused n is told = let no : false ≡ true = ap is_tag is in cc
+first_refused tells pages passed done EntropyFault before used refused n is told = absurd refused
+first_refused tells pages passed done AllPinned before used refused n is told = let no : false ≡ true = ap is_tag is in cc
+
+-- one page more is accepted
+pub accepted_more : (pages : Pages) (passed : Test) (done : ℕ) → ((m : ℕ) → 1 ≤ m → m ≤ done → passed m ≡ false → pages.accepts m ≡ true)
+    → (passed (done + 1) ≡ false → pages.accepts (done + 1) ≡ true)
+    → (m : ℕ) → 1 ≤ m → m ≤ done + 1 → passed m ≡ false → pages.accepts m ≡ true
+accepted_more pages passed done before next m some most used = elim (cases_lt m (done + 1)) as (λ _. pages.accepts m ≡ true) [
+  | inl lt ↦ before m some (omega (arith, lt)) used
+  | inr le ↦
+      let e : done + 1 ≡ m = omega (arith, most, le) in
+      ap pages.accepts (sym e) ∙ next (ap passed e ∙ used)
+]
 
 -- a walk that stopped, over pages that keep their count while they are read
 pub given_stop : {T : Type 0} (tells : Bool) (read : T → T → Type 0) (plain : T → Pages) (before : T) (error : WalkError PageError)

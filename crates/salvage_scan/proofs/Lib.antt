@@ -1,3 +1,4 @@
+mod AheadSteps
 mod AnswerSteps
 mod ChainSteps
 mod PageSteps

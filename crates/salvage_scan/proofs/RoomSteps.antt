@@ -8,6 +8,7 @@ use Rattle.salvage_scan.specs.declared.room.PageRoom.{PageRoom}
 use Rattle.salvage_scan.specs.declared.room.Rooms.{Rooms}
 use Rattle.salvage_scan.specs.Room.{AreRooms, IsRoomOpened, IsRoom, room_bytes}
 use Rattle.salvage_scan.specs.Salvage.{file_pages}
+use Rattle.salvage_scan.proofs.AheadSteps.{ahead_stays}
 
 -- a room without a page
 pub empty_room : (tells : Bool) (pages : Pages) (size : ℕ) (room : PageRoom) → length room.bytes.items ≡ size → room.number ≡ 0 → IsRoom tells pages size room
@@ -22,12 +23,13 @@ room_stays tells keys old new size room same is =
       holds = λ told. subst (λ (files : Files). (room.number ≡ 0) ⊎ IsRoomOpened (file_pages keys files) room) (sym (same told)) (is.holds told);
     }
 
-pub rooms_stay : (tells : Bool) (keys : FileKeys) (old new : Files) (size : ℕ) (rooms : Rooms) → (IsTrue tells → new ≡ old)
-    → AreRooms tells (file_pages keys old) size rooms → AreRooms tells (file_pages keys new) size rooms
-rooms_stay tells keys old new size rooms same are =
+pub rooms_stay : (tells : Bool) (keys : FileKeys) (old new : Files) (rooms : Rooms) → (IsTrue tells → new ≡ old)
+    → AreRooms tells keys old rooms → AreRooms tells keys new rooms
+rooms_stay tells keys old new rooms same are =
     record {
-      even = room_stays tells keys old new size rooms.even same are.even;
-      odd = room_stays tells keys old new size rooms.odd same are.odd;
+      even = room_stays tells keys old new keys.profile.page_size rooms.even same are.even;
+      odd = room_stays tells keys old new keys.profile.page_size rooms.odd same are.odd;
+      ahead = ahead_stays tells keys old new rooms.ahead same are.ahead;
     }
 
 -- the page of a room with this number is the page of that number
@@ -48,8 +50,9 @@ long_by : (b : Bool) (even odd : PageRoom) (size : ℕ) → length even.bytes.it
 long_by true even odd size one other = one
 long_by false even odd size one other = other
 
-pub long_at : (tells : Bool) (pages : Pages) (size : ℕ) (rooms : Rooms) (n : ℕ) → AreRooms tells pages size rooms → length (room_bytes rooms n) ≡ size
-long_at tells pages size rooms n are = long_by (n % 2 == 0) rooms.even rooms.odd size are.even.long are.odd.long
+pub long_at : (tells : Bool) (keys : FileKeys) (files : Files) (rooms : Rooms) (n : ℕ) → AreRooms tells keys files rooms
+    → length (room_bytes rooms n) ≡ keys.profile.page_size
+long_at tells keys files rooms n are = long_by (n % 2 == 0) rooms.even rooms.odd keys.profile.page_size are.even.long are.odd.long
 
 -- the bytes of the room that was opened
 pub even_bytes : (rooms : Rooms) (n : ℕ) → n % 2 == 0 ≡ true → room_bytes rooms n ≡ rooms.even.bytes.items

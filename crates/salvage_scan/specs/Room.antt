@@ -1,6 +1,10 @@
 -- Rooms for opened pages, which keep the page that was opened last.
 use Rattle.std.specs.Prelude.{◌≡◌, ◌⊎◌, ◌%◌, ◌==◌, ℕ, Bool, true, List, length, take, IsTrue, if◌then◌else◌}
+use Rattle.edge_model.specs.Files.{Files, main_of}
+use Rattle.page_codec.specs.Page.{FileKeys}
 use Rattle.db_format.specs.Pages.{Pages}
+use Rattle.salvage_scan.specs.Ahead.{AreAhead}
+use Rattle.salvage_scan.specs.Salvage.{file_pages}
 use Rattle.salvage_scan.specs.declared.room.PageRoom.{PageRoom}
 use Rattle.salvage_scan.specs.declared.room.Rooms.{Rooms}
 
@@ -14,9 +18,11 @@ pub record IsRoom (tells : Bool) (pages : Pages) (size : ℕ) (room : PageRoom) 
   pub long : length room.bytes.items ≡ size
   pub holds : IsTrue tells → (room.number ≡ 0) ⊎ IsRoomOpened pages room
 
-pub record AreRooms (tells : Bool) (pages : Pages) (size : ℕ) (rooms : Rooms) : Type 0 where
-  pub even : IsRoom tells pages size rooms.even
-  pub odd : IsRoom tells pages size rooms.odd
+-- both rooms, and the pages that were read before they are asked for
+pub record AreRooms (tells : Bool) (keys : FileKeys) (files : Files) (rooms : Rooms) : Type 0 where
+  pub even : IsRoom tells (file_pages keys files) keys.profile.page_size rooms.even
+  pub odd : IsRoom tells (file_pages keys files) keys.profile.page_size rooms.odd
+  pub ahead : IsTrue tells → AreAhead keys (main_of files) rooms.ahead
 
 -- the bytes of the room for page n
 abbrev pub room_bytes : Rooms → ℕ → List ℕ

@@ -29,12 +29,12 @@ pub(crate) fn put_cell<D: Disk, K: Sink>(
     cell: &Cell<'_>,
 ) -> Result<(), SalvageError>
     requires limit { payload_len (cell_shown cell.now) ≤ max_payload }
-    requires rooms { AreRooms D.tells (file_pages codec.now (D.reads disk.old)) codec.now.profile.page_size scan.old.rooms }
+    requires rooms { AreRooms D.tells codec.now (D.reads disk.old) scan.old.rooms }
     requires pages { IsTrue D.tells → scan.old.pages ≡ (file_pages codec.now (D.reads disk.old)).count }
     ensures on { IsTrue D.tells → IsSalvaged K.tells (cell_lines (file_pages codec.now (D.reads disk.old)) n (cell_shown cell.now))
         (record { taken = K.taken out.old; waits = scan.old.line; counts = counts_shown scan.old.counts })
         (record { taken = K.taken out.new; waits = scan.new.line; counts = counts_shown scan.new.counts }) result }
-    ensures rooms { AreRooms D.tells (file_pages codec.now (D.reads disk.new)) codec.now.profile.page_size scan.new.rooms }
+    ensures rooms { AreRooms D.tells codec.now (D.reads disk.new) scan.new.rooms }
     ensures pages { scan.new.pages ≡ scan.old.pages }
     ensures cause { IfErr result (IsSalvageCause (D.faults disk.old) (D.faults disk.new) (K.faults out.old) (K.faults out.new)) }
     ensures later { D.faults disk.old ≤ D.faults disk.new }
@@ -65,13 +65,13 @@ fn put_row_cell<D: Disk, K: Sink>(
     first: u32,
 ) -> Result<(), SalvageError>
     requires limit { length ≤ max_payload }
-    requires rooms { AreRooms D.tells (file_pages codec.now (D.reads disk.old)) codec.now.profile.page_size scan.old.rooms }
+    requires rooms { AreRooms D.tells codec.now (D.reads disk.old) scan.old.rooms }
     requires pages { IsTrue D.tells → scan.old.pages ≡ (file_pages codec.now (D.reads disk.old)).count }
     ensures on { IsTrue D.tells → IsSalvaged K.tells
         (payload_line (file_pages codec.now (D.reads disk.old)) n rowid (record { size = length; local = local.now; first = first }) ∷ [])
         (record { taken = K.taken out.old; waits = scan.old.line; counts = counts_shown scan.old.counts })
         (record { taken = K.taken out.new; waits = scan.new.line; counts = counts_shown scan.new.counts }) result }
-    ensures rooms { AreRooms D.tells (file_pages codec.now (D.reads disk.new)) codec.now.profile.page_size scan.new.rooms }
+    ensures rooms { AreRooms D.tells codec.now (D.reads disk.new) scan.new.rooms }
     ensures pages { scan.new.pages ≡ scan.old.pages }
     ensures cause { IfErr result (IsSalvageCause (D.faults disk.old) (D.faults disk.new) (K.faults out.old) (K.faults out.new)) }
     ensures later { D.faults disk.old ≤ D.faults disk.new }

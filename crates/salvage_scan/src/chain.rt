@@ -24,11 +24,11 @@ fn read_links<D: Disk>(
     first: u32,
     payload: &mut Vec<u8>,
 ) -> Result<bool, SalvageError>
-    requires rooms { AreRooms D.tells (file_pages codec.now (D.reads disk.old)) codec.now.profile.page_size rooms.old }
+    requires rooms { AreRooms D.tells codec.now (D.reads disk.old) rooms.old }
     requires pages { IsTrue D.tells → pages ≡ (file_pages codec.now (D.reads disk.old)).count }
     ensures on { IfOk result (λ there. IsTrue D.tells
         → IsChainFollowed (file_pages codec.now (D.reads disk.old)) needed first payload.old.items there payload.new.items) }
-    ensures rooms { AreRooms D.tells (file_pages codec.now (D.reads disk.new)) codec.now.profile.page_size rooms.new }
+    ensures rooms { AreRooms D.tells codec.now (D.reads disk.new) rooms.new }
     ensures cause { IfErr result (IsDiskCause (D.faults disk.old) (D.faults disk.new)) }
     ensures later { D.faults disk.old ≤ D.faults disk.new }
     ensures only_read { IsTrue D.tells → OnlyRead D.reads D.images D.moment D.since disk.old disk.new }
@@ -65,12 +65,12 @@ pub(crate) fn read_payload<D: Disk>(
     payload: &mut Vec<u8>,
 ) -> Result<bool, SalvageError>
     requires limit { size ≤ max_payload }
-    requires rooms { AreRooms D.tells (file_pages codec.now (D.reads disk.old)) codec.now.profile.page_size rooms.old }
+    requires rooms { AreRooms D.tells codec.now (D.reads disk.old) rooms.old }
     requires pages { IsTrue D.tells → pages ≡ (file_pages codec.now (D.reads disk.old)).count }
     ensures on { IfOk result (λ whole. IsTrue D.tells → IsPayloadRead (file_pages codec.now (D.reads disk.old))
         (record { size = size; local = payload.old.items; first = first }) whole payload.new.items) }
     ensures limit { IfOk result (λ whole. IsTrue whole → vec_len payload.new ≤ size) }
-    ensures rooms { AreRooms D.tells (file_pages codec.now (D.reads disk.new)) codec.now.profile.page_size rooms.new }
+    ensures rooms { AreRooms D.tells codec.now (D.reads disk.new) rooms.new }
     ensures cause { IfErr result (IsDiskCause (D.faults disk.old) (D.faults disk.new)) }
     ensures later { D.faults disk.old ≤ D.faults disk.new }
     ensures only_read { IsTrue D.tells → OnlyRead D.reads D.images D.moment D.since disk.old disk.new }

@@ -12,6 +12,7 @@
 //! Section numbers are those of SQLite's "Database File Format".
 #![tactic(auto)]
 
+mod ahead;
 mod cell;
 mod chain;
 mod error;

@@ -29,12 +29,12 @@ pub(crate) fn put_page<D: Disk, K: Sink>(
 ) -> Result<(), SalvageError>
     requires low { 1 ≤ n }
     requires high { n ≤ scan.old.pages }
-    requires rooms { AreRooms D.tells (file_pages codec.now (D.reads disk.old)) codec.now.profile.page_size scan.old.rooms }
+    requires rooms { AreRooms D.tells codec.now (D.reads disk.old) scan.old.rooms }
     requires pages { IsTrue D.tells → scan.old.pages ≡ (file_pages codec.now (D.reads disk.old)).count }
     ensures on { IsTrue D.tells → IsSalvaged K.tells (page_lines (file_pages codec.now (D.reads disk.old)) n)
         (record { taken = K.taken out.old; waits = scan.old.line; counts = counts_shown scan.old.counts })
         (record { taken = K.taken out.new; waits = scan.new.line; counts = counts_shown scan.new.counts }) result }
-    ensures rooms { AreRooms D.tells (file_pages codec.now (D.reads disk.new)) codec.now.profile.page_size scan.new.rooms }
+    ensures rooms { AreRooms D.tells codec.now (D.reads disk.new) scan.new.rooms }
     ensures pages { scan.new.pages ≡ scan.old.pages }
     ensures cause { IfErr result (IsSalvageCause (D.faults disk.old) (D.faults disk.new) (K.faults out.old) (K.faults out.new)) }
     ensures later { D.faults disk.old ≤ D.faults disk.new }
@@ -79,12 +79,12 @@ fn put_leaf<D: Disk, K: Sink>(
     bytes: &[u8],
 ) -> Result<(), SalvageError>
     requires usable { IsUsable (length bytes.now) }
-    requires rooms { AreRooms D.tells (file_pages codec.now (D.reads disk.old)) codec.now.profile.page_size scan.old.rooms }
+    requires rooms { AreRooms D.tells codec.now (D.reads disk.old) scan.old.rooms }
     requires pages { IsTrue D.tells → scan.old.pages ≡ (file_pages codec.now (D.reads disk.old)).count }
     ensures on { IsTrue D.tells → IsSalvaged K.tells (leaf_lines (file_pages codec.now (D.reads disk.old)) n bytes.now)
         (record { taken = K.taken out.old; waits = scan.old.line; counts = counts_shown scan.old.counts })
         (record { taken = K.taken out.new; waits = scan.new.line; counts = counts_shown scan.new.counts }) result }
-    ensures rooms { AreRooms D.tells (file_pages codec.now (D.reads disk.new)) codec.now.profile.page_size scan.new.rooms }
+    ensures rooms { AreRooms D.tells codec.now (D.reads disk.new) scan.new.rooms }
     ensures pages { scan.new.pages ≡ scan.old.pages }
     ensures cause { IfErr result (IsSalvageCause (D.faults disk.old) (D.faults disk.new) (K.faults out.old) (K.faults out.new)) }
     ensures later { D.faults disk.old ≤ D.faults disk.new }
@@ -142,12 +142,12 @@ fn put_cells<D: Disk, K: Sink>(
     n: u32,
     page: &PageView<'_>,
 ) -> Result<(), SalvageError>
-    requires rooms { AreRooms D.tells (file_pages codec.now (D.reads disk.old)) codec.now.profile.page_size scan.old.rooms }
+    requires rooms { AreRooms D.tells codec.now (D.reads disk.old) scan.old.rooms }
     requires pages { IsTrue D.tells → scan.old.pages ≡ (file_pages codec.now (D.reads disk.old)).count }
     ensures on { IsTrue D.tells → IsSalvaged K.tells (flat_map (cell_lines (file_pages codec.now (D.reads disk.old)) n) page.now.cells)
         (record { taken = K.taken out.old; waits = scan.old.line; counts = counts_shown scan.old.counts })
         (record { taken = K.taken out.new; waits = scan.new.line; counts = counts_shown scan.new.counts }) result }
-    ensures rooms { AreRooms D.tells (file_pages codec.now (D.reads disk.new)) codec.now.profile.page_size scan.new.rooms }
+    ensures rooms { AreRooms D.tells codec.now (D.reads disk.new) scan.new.rooms }
     ensures pages { scan.new.pages ≡ scan.old.pages }
     ensures cause { IfErr result (IsSalvageCause (D.faults disk.old) (D.faults disk.new) (K.faults out.old) (K.faults out.new)) }
     ensures later { D.faults disk.old ≤ D.faults disk.new }

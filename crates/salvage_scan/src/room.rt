@@ -1,15 +1,17 @@
-// The whole pages of Main, opened one at a time.
+// The whole pages of Main, asked for one at a time.
 ghost use Rattle.std.specs.Prelude.{◌≡◌, ◌≤◌, length, take, IfOk, IsTrue};
 ghost use Rattle.edge_model.specs.Causes.{HasCause};
+ghost use Rattle.edge_model.specs.Files.{main_of};
 ghost use Rattle.edge_model.specs.OnlyRead.{OnlyRead};
 ghost use Rattle.cipher_profile.specs.Profile.{usable};
+ghost use Rattle.salvage_scan.specs.Ahead.{AreAhead};
 ghost use Rattle.salvage_scan.specs.Room.{AreRooms, IsRoom, room_bytes};
 ghost use Rattle.salvage_scan.specs.Salvage.{file_pages};
 
+use crate::ahead::PagesAhead;
 use db_format::OutOfMemory;
 use edge_model::{Disk, Failed};
 use page_codec::Codec;
-use pager::read_page;
 use std::alloc::Global;
 
 /// Room for one page, and the number of the page that was opened there, 0 for none.
@@ -32,14 +34,22 @@ impl PageRoom {
     }
 
     // Opens page n, unless it is here, and answers whether it is accepted.
-    fn open<D: Disk>(&mut self, disk: &mut D, codec: &Codec, n: u32) -> Result<bool, Failed>
+    fn open<D: Disk>(
+        &mut self,
+        ahead: &mut PagesAhead,
+        disk: &mut D,
+        codec: &Codec,
+        n: u32,
+    ) -> Result<bool, Failed>
         requires low { 1 ≤ n }
         requires high { IsTrue D.tells → n ≤ (file_pages codec.now (D.reads disk.old)).count }
         requires room { IsRoom D.tells (file_pages codec.now (D.reads disk.old)) codec.now.profile.page_size self.old }
+        requires ahead { IsTrue D.tells → AreAhead codec.now (main_of (D.reads disk.old)) ahead.old }
         ensures accepted { IfOk result (λ accepted. IsTrue D.tells → accepted ≡ (file_pages codec.now (D.reads disk.old)).accepts n) }
         ensures opened { IfOk result (λ accepted. IsTrue D.tells → IsTrue accepted
             → take (usable codec.now.profile) self.new.bytes.items ≡ (file_pages codec.now (D.reads disk.old)).page n) }
         ensures room { IsRoom D.tells (file_pages codec.now (D.reads disk.new)) codec.now.profile.page_size self.new }
+        ensures ahead { IsTrue D.tells → AreAhead codec.now (main_of (D.reads disk.new)) ahead.new }
         ensures cause { HasCause (D.faults disk.old) (D.faults disk.new) result }
         ensures only_read { IsTrue D.tells → OnlyRead D.reads D.images D.moment D.since disk.old disk.new }
     {
@@ -47,7 +57,7 @@ impl PageRoom {
             return Ok(true);
         }
         self.number = 0;
-        match self.bring(disk, codec, n) {
+        match self.bring(ahead, disk, codec, n) {
             Err(error) => Err(error),
             Ok(false) => Ok(false),
             Ok(true) => {
@@ -57,22 +67,28 @@ impl PageRoom {
         }
     }
 
-    // Brings page n in and opens it, and answers whether it is accepted.
-    fn bring<D: Disk>(&mut self, disk: &mut D, codec: &Codec, n: u32) -> Result<bool, Failed>
+    // Brings page n in, opened, and answers whether it is accepted.
+    fn bring<D: Disk>(
+        &mut self,
+        ahead: &mut PagesAhead,
+        disk: &mut D,
+        codec: &Codec,
+        n: u32,
+    ) -> Result<bool, Failed>
         requires low { 1 ≤ n }
         requires high { IsTrue D.tells → n ≤ (file_pages codec.now (D.reads disk.old)).count }
         requires size { length self.old.bytes.items ≡ codec.now.profile.page_size }
+        requires ahead { IsTrue D.tells → AreAhead codec.now (main_of (D.reads disk.old)) ahead.old }
         ensures accepted { IfOk result (λ accepted. IsTrue D.tells → accepted ≡ (file_pages codec.now (D.reads disk.old)).accepts n) }
         ensures opened { IfOk result (λ accepted. IsTrue D.tells → IsTrue accepted
             → take (usable codec.now.profile) self.new.bytes.items ≡ (file_pages codec.now (D.reads disk.old)).page n) }
         ensures size { length self.new.bytes.items ≡ length self.old.bytes.items }
         ensures number { self.new.number ≡ self.old.number }
+        ensures ahead { IsTrue D.tells → AreAhead codec.now (main_of (D.reads disk.new)) ahead.new }
         ensures cause { HasCause (D.faults disk.old) (D.faults disk.new) result }
         ensures only_read { IsTrue D.tells → OnlyRead D.reads D.images D.moment D.since disk.old disk.new }
     {
-        let _usable = codec.profile().usable();
-        read_page(disk, n, &mut self.bytes)?;
-        Ok(codec.open_in_place(n, &mut self.bytes).is_ok())
+        ahead.open(disk, codec, n, &mut self.bytes)
     }
 
     // The page as it was opened: its first bytes, so many.
@@ -90,17 +106,21 @@ impl PageRoom {
 pub(crate) struct Rooms {
     even: PageRoom,
     odd: PageRoom,
+    ahead: PagesAhead,
 }
 
 impl Rooms {
-    /// Rooms for pages of so many bytes, without a page.
-    pub(crate) fn new(alloc: Global, size: usize) -> Result<Rooms, OutOfMemory>
+    /// Rooms for pages of this size, without a page, of a file of so many.
+    pub(crate) fn new(alloc: Global, size: u32, pages: u32) -> Result<Rooms, OutOfMemory>
+        requires { 1 ≤ size }
         ensures even { IfOk result (λ rooms. (length rooms.even.bytes.items ≡ size) × (rooms.even.number ≡ 0)) }
         ensures odd { IfOk result (λ rooms. (length rooms.odd.bytes.items ≡ size) × (rooms.odd.number ≡ 0)) }
+        ensures ahead { IfOk result (λ rooms. (rooms.ahead.window.count ≡ 0) × (rooms.ahead.last ≡ pages)) }
     {
-        let even = PageRoom::new(alloc, size)?;
-        let odd = PageRoom::new(alloc, size)?;
-        Ok(Rooms { even, odd })
+        let even = PageRoom::new(alloc, size as usize)?;
+        let odd = PageRoom::new(alloc, size as usize)?;
+        let ahead = PagesAhead::new(alloc, size, pages)?;
+        Ok(Rooms { even, odd, ahead })
     }
 
     /// Opens page n, and answers whether it is accepted.
@@ -112,19 +132,19 @@ impl Rooms {
     ) -> Result<bool, Failed>
         requires low { 1 ≤ n }
         requires high { IsTrue D.tells → n ≤ (file_pages codec.now (D.reads disk.old)).count }
-        requires rooms { AreRooms D.tells (file_pages codec.now (D.reads disk.old)) codec.now.profile.page_size self.old }
+        requires rooms { AreRooms D.tells codec.now (D.reads disk.old) self.old }
         ensures accepted { IfOk result (λ accepted. IsTrue D.tells → accepted ≡ (file_pages codec.now (D.reads disk.old)).accepts n) }
         ensures opened { IfOk result (λ accepted. IsTrue D.tells → IsTrue accepted
             → take (usable codec.now.profile) (room_bytes self.new n) ≡ (file_pages codec.now (D.reads disk.old)).page n) }
-        ensures rooms { AreRooms D.tells (file_pages codec.now (D.reads disk.new)) codec.now.profile.page_size self.new }
+        ensures rooms { AreRooms D.tells codec.now (D.reads disk.new) self.new }
         ensures long { length (room_bytes self.new n) ≡ codec.now.profile.page_size }
         ensures cause { HasCause (D.faults disk.old) (D.faults disk.new) result }
         ensures only_read { IsTrue D.tells → OnlyRead D.reads D.images D.moment D.since disk.old disk.new }
     {
         if n % 2 == 0 {
-            self.even.open(disk, codec, n)
+            self.even.open(&mut self.ahead, disk, codec, n)
         } else {
-            self.odd.open(disk, codec, n)
+            self.odd.open(&mut self.ahead, disk, codec, n)
         }
     }
 

@@ -21,7 +21,7 @@ use pager::file_length;
 use std::alloc::Global;
 
 /// Puts a line for each row of Main that can be read, and for each page that is not accepted, and last their counts, which are
-/// answered. Memory is taken for three pages, one payload and 64 KiB of text.
+/// answered. Memory is taken for three pages, for those that are read ahead, at most eight and 64 KiB, for one payload, and for 64 KiB of text.
 pub fn salvage<D: Disk, K: Sink>(
     alloc: Global,
     disk: &mut D,
@@ -87,6 +87,7 @@ fn salvage_pages<D: Disk, K: Sink>(
     ensures only_read { IsTrue D.tells → OnlyRead D.reads D.images D.moment D.since disk.old disk.new }
 {
     let profile = codec.profile();
+    let _usable = profile.usable();
     let mut scan = match Scan::new(alloc, profile.page_size, pages) {
         Err(_) => return Err(SalvageError::OutOfMemory),
         Ok(scan) => scan,
@@ -109,13 +110,13 @@ fn has_accepted<D: Disk>(
     rooms: &mut Rooms,
     pages: u32,
 ) -> Result<bool, SalvageError>
-    requires rooms { AreRooms D.tells (file_pages codec.now (D.reads disk.old)) codec.now.profile.page_size rooms.old }
+    requires rooms { AreRooms D.tells codec.now (D.reads disk.old) rooms.old }
     requires pages { IsTrue D.tells → pages ≡ (file_pages codec.now (D.reads disk.old)).count }
     ensures tagged { IfOk result (λ accepted. accepted ≡ false → 0 < codec.now.profile.tag_len) }
     ensures none { IfOk result (λ accepted. accepted ≡ false → IsTrue D.tells → IsNoneAccepted (file_pages codec.now (D.reads disk.old))) }
     ensures some { IfOk result (λ accepted. IsTrue accepted → IsTrue D.tells → 0 < codec.now.profile.tag_len
         → IsNoneAccepted (file_pages codec.now (D.reads disk.old)) → ⊥) }
-    ensures rooms { AreRooms D.tells (file_pages codec.now (D.reads disk.new)) codec.now.profile.page_size rooms.new }
+    ensures rooms { AreRooms D.tells codec.now (D.reads disk.new) rooms.new }
     ensures cause { IfErr result (IsDiskCause (D.faults disk.old) (D.faults disk.new)) }
     ensures later { D.faults disk.old ≤ D.faults disk.new }
     ensures only_read { IsTrue D.tells → OnlyRead D.reads D.images D.moment D.since disk.old disk.new }
@@ -141,7 +142,7 @@ fn put_pages<D: Disk, K: Sink>(
     scan: &mut Scan,
     out: &mut K,
 ) -> Result<(), SalvageError>
-    requires rooms { AreRooms D.tells (file_pages codec.now (D.reads disk.old)) codec.now.profile.page_size scan.old.rooms }
+    requires rooms { AreRooms D.tells codec.now (D.reads disk.old) scan.old.rooms }
     requires pages { IsTrue D.tells → scan.old.pages ≡ (file_pages codec.now (D.reads disk.old)).count }
     ensures on { IsTrue D.tells → IsSalvaged K.tells (salvage_lines (file_pages codec.now (D.reads disk.old)))
         (record { taken = K.taken out.old; waits = scan.old.line; counts = counts_shown scan.old.counts })

@@ -1,5 +1,5 @@
 // How far a salvage is.
-ghost use Rattle.std.specs.Prelude.{◌≡◌, ◌+◌, [], length, IfOk, OnOk, IfErr};
+ghost use Rattle.std.specs.Prelude.{◌≡◌, ◌≤◌, ◌+◌, [], length, IfOk, OnOk, IfErr};
 ghost use Rattle.salvage_scan.specs.Salvage.{no_counts};
 ghost use Rattle.salvage_scan.specs.Text.{counts_shown};
 
@@ -20,7 +20,7 @@ pub struct Salvaged {
     pub refused: u64,
 }
 
-/// Room for two pages and a payload, the lines that wait, and the counts so far, of a file of so many whole pages.
+/// Room for two pages, for those that are read ahead and for a payload, the lines that wait, and the counts so far, of a file of so many whole pages.
 #[derive(Drop)]
 pub(crate) struct Scan {
     pub pages: u32,
@@ -33,13 +33,15 @@ pub(crate) struct Scan {
 impl Scan {
     /// Nothing is read and nothing put, of a file of so many whole pages of this size.
     pub(crate) fn new(alloc: Global, size: u32, pages: u32) -> Result<Scan, OutOfMemory>
+        requires { 1 ≤ size }
         ensures even { IfOk result (λ scan. (length scan.rooms.even.bytes.items ≡ size) × (scan.rooms.even.number ≡ 0)) }
         ensures odd { IfOk result (λ scan. (length scan.rooms.odd.bytes.items ≡ size) × (scan.rooms.odd.number ≡ 0)) }
+        ensures ahead { IfOk result (λ scan. (scan.rooms.ahead.window.count ≡ 0) × (scan.rooms.ahead.last ≡ pages)) }
         ensures pages { IfOk result (λ scan. scan.pages ≡ pages) }
         ensures nothing { IfOk result (λ scan. scan.line ≡ []) }
         ensures none { IfOk result (λ scan. counts_shown scan.counts ≡ no_counts) }
     {
-        let rooms = Rooms::new(alloc, size as usize)?;
+        let rooms = Rooms::new(alloc, size, pages)?;
         let line = LineOut::new(alloc)?;
         Ok(Scan {
             pages,

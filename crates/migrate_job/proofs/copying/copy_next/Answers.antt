@@ -141,3 +141,21 @@ returns-in-Err-push_entry-clause-few g c told taken given more at order from few
     (c.in-Err-push_entry.ensures.few from (map entry_of given) few) in
     let whole = few_at family size from (c.push_entry.new.fresh.taken + 1 + 1) (entries (walked before taken cursor)) given next.more row (omega arith) rows bound in
     omega arith
+
+pub returns-in-Err-clause-keeps : goal.returns-in-Err-clause-keeps
+returns-in-Err-clause-keeps g c =
+    let read = c.in-Err.ensures.reads in
+    let e = g.E.Entropy in
+    (follows_read e.tells e.drawn read.0 read.1 e.faults c.args.fresh.now).keeps
+
+pub returns-in-Ok-false-clause-keeps : goal.returns-in-Ok-false-clause-keeps
+returns-in-Ok-false-clause-keeps g c =
+    let read = c.in-Ok-false.ensures.reads in
+    let e = g.E.Entropy in
+    (follows_read e.tells e.drawn read.0 read.1 e.faults c.args.fresh.now).keeps
+
+pub returns-in-Ok-false-clause-follows : goal.returns-in-Ok-false-clause-follows
+returns-in-Ok-false-clause-follows g c =
+    let read = c.in-Ok-false.ensures.reads in
+    let e = g.E.Entropy in
+    follows_read e.tells e.drawn read.0 read.1 e.faults c.args.fresh.now

@@ -48,3 +48,6 @@ returns-clause-asked g c limit is told =
     let full : c.args.state.now.limit ≤ c.copy_tree.new.state.taken + 1 = (c.copy_tree.ensures.limit limit is).1 in
     let asked : c.copy_tree.new.state.taken + 1 ≤ c.args.state.now.taken + load_pages (root_family root (before.page root)) size (old_entries before root) = c.copy_tree.ensures.asked limit is told in
     subst (λ n. c.args.state.now.limit ≤ c.args.state.now.taken + n) (most_there before size root some) (omega (arith, full, asked))
+
+pub returns-clause-limit : goal.returns-clause-limit
+returns-clause-limit g c limit is = (c.copy_tree.ensures.limit limit is).0

@@ -10,7 +10,7 @@ numbers-preserved c =
     let out : List ℕ = c.numbers.out in
     let ys : List ℕ = c.copy_from_slice.new.self in
     let value : ℕ → List ℕ = λ j. to_le_bytes w32 (c.args.n + j) in
-    let is : ys ≡ value i = c.copy_from_slice.ensures.after ∙ c.to_le_bytes.ensures in
+    let is : ys ≡ value i = c.copy_from_slice.ensures.after ∙ c.u32_bytes_low_first.ensures in
     let long : length ys ≡ 4 = ap length is in
     let room : 4 * i + 4 ≤ length out = omega (arith, c.numbers.invariant.sized, c.numbers-test.true, c.requires.most) in
     record {

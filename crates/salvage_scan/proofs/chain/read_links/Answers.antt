@@ -86,3 +86,12 @@ returns-clause-on g c told =
     let none : c.args.needed - c.loop-turn.turn ≡ zero = omega arith in
     chain_done pages c.args.needed c.args.first c.args.payload.now.items c.loop-turn.n c.loop-turn.payload.items
     (counted_as pages _ _ _ _ _ none (c.loop-turn.invariant.on told))
+
+pub returns-in-Err-clause-only_read : goal.returns-in-Err-clause-only_read
+returns-in-Err-clause-only_read g c told = then_read (c.loop-turn.invariant.only_read told) (c.in-Err.ensures.only_read told)
+
+pub returns-in-Ok-false-clause-only_read : goal.returns-in-Ok-false-clause-only_read
+returns-in-Ok-false-clause-only_read g c told = then_read (c.loop-turn.invariant.only_read told) (c.in-Ok-false.ensures.only_read told)
+
+pub returns-in-Err-extend_from_slice-clause-only_read : goal.returns-in-Err-extend_from_slice-clause-only_read
+returns-in-Err-extend_from_slice-clause-only_read g c told = then_read (c.loop-turn.invariant.only_read told) (c.in-Ok-true.ensures.only_read told)

@@ -9,7 +9,7 @@ use Rattle.salvage_scan.proofs.chain.read_links.Given as goal
 abbrev pub invariant-loop-turn : goal.invariant-loop-turn
 invariant-loop-turn g l =
     record {
-      rooms : AreRooms g.D.Disk.tells (file_pages l.codec (g.D.Disk.reads l.disk)) l.codec.profile.page_size l.rooms;
+      rooms : AreRooms g.D.Disk.tells l.codec (g.D.Disk.reads l.disk) l.rooms;
       later : g.D.Disk.faults l.initial.disk ≤ g.D.Disk.faults l.disk;
       only_read : IsTrue g.D.Disk.tells → OnlyRead g.D.Disk.reads g.D.Disk.images g.D.Disk.moment g.D.Disk.since l.initial.disk l.disk;
       on : IsTrue g.D.Disk.tells → IsOnPayloadChain (file_pages l.codec (g.D.Disk.reads l.initial.disk)) l.needed l.first (l.needed - l.turn) l.n

@@ -11,7 +11,7 @@ use Rattle.salvage_scan.proofs.salvaging.put_pages.Given as goal
 abbrev pub invariant-loop-done : goal.invariant-loop-done
 invariant-loop-done g l =
     record {
-      rooms : AreRooms g.D.Disk.tells (file_pages l.codec (g.D.Disk.reads l.disk)) l.codec.profile.page_size l.scan.rooms;
+      rooms : AreRooms g.D.Disk.tells l.codec (g.D.Disk.reads l.disk) l.scan.rooms;
       pages : l.scan.pages ≡ l.initial.scan.pages;
       later : g.D.Disk.faults l.initial.disk ≤ g.D.Disk.faults l.disk;
       out_later : g.K.Sink.faults l.initial.out ≤ g.K.Sink.faults l.out;

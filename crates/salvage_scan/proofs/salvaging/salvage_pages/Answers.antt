@@ -75,3 +75,6 @@ pub returns-clause-key : goal.returns-clause-key
 returns-clause-key g c told =
     end_key c.args.codec.now.profile.tag_len (file_pages c.args.codec.now (g.D.Disk.reads c.args.disk.now)) (g.K.Sink.faults c.put_pages.new.out) (g.K.Sink.faults c.put_end.new.out)
     c.put_end.result (c.in-Ok-true.ensures.some c.in-Ok-true.field-0-test told) c.put_end.ensures.cause
+
+pub returns-in-Err-put_pages-clause-only_read : goal.returns-in-Err-put_pages-clause-only_read
+returns-in-Err-put_pages-clause-only_read g c told = then_read (c.in-Ok-true.ensures.only_read told) (c.in-Err-put_pages.ensures.only_read told)

@@ -1,5 +1,4 @@
 use Rattle.std.proofs.Common.{◌≡◌, ◌≤◌, ◌<◌, ◌+◌, ◌-◌, ◌*◌, ℕ, List, length, take, drop, arith, ap, ◌∙◌, subst}
-use Rattle.std.specs.Int.{w32, to_le_bytes}
 use Rattle.std.specs.Str.{bytes_eq}
 use Rattle.std.proofs.lemmas.List.{length-drop, length-take-le, take_all}
 use Rattle.hmac_core.specs.Hmac.{hmac_of_block, key_block}
@@ -32,9 +31,9 @@ slice_bounds-bears-end c =
     )
 
 pub pages-init : goal.pages-init
-pages-init c =
+pages-init c = λ number ends.
     let none : c.args.at ≡ c.args.at + 0 = omega arith in
-    rw (← none) (answered_none c.args.self.now c.args.first c.args.pages.now c.args.at c.args.held.now)
+    rw (← none) (answered_none c.args.self.now number c.args.pages.now c.args.at c.args.held.now)
 
 pub tags-tags-requires-clause-pages : goal.tags-tags-requires-clause-pages
 tags-tags-requires-clause-pages c =
@@ -59,15 +58,15 @@ tags-tags-requires-clause-pages c =
 
 pub pages-preserved : goal.pages-preserved
 unfolding accepts
-pages-preserved c =
+pages-preserved c = λ number known.
     let file = c.args.self.now in
     let pages : List ℕ = c.args.pages.now in
     let size : ℕ = file.profile.page_size in
     let at : ℕ = c.args.at in
     let j : ℕ = c.pages.j in
     let i : ℕ = at + j in
-    let n : ℕ = c.args.first + i in
-    let numbers : List ℕ = c.numbers_from-numbers.result in
+    let n : ℕ = number i in
+    let numbers : List ℕ = c.args.ends.now in
     let tags : List ℕ = c.tags-tags.result in
     let s : ℕ = c.self.inside.profile.page_size in
     let same : c.self.inside.profile ≡ file.profile = ap (λ (f : FileKeys). f.profile) c.self.view_is in
@@ -83,8 +82,6 @@ pages-preserved c =
     let within : usable file.profile + 16 ≤ size = omega (arith, laid_out.room (laid_out.tagged c.requires.tagged)) in
     let count : c.at_once-count.result ≡ at_once file.profile.hash = c.at_once-count.ensures.value ∙ ap (λ (p : Profile). at_once p.hash) same in
     let less : j < at_once file.profile.hash = omega (arith, c.pages-test.true, count) in
-    let place : c.args.first + at + j ≡ n = omega arith in
-    let number : piece numbers 4 4 j ≡ to_le_bytes w32 n = c.numbers_from-numbers.ensures j c.pages-test.true ∙ ap (to_le_bytes w32) place in
     let mac : List ℕ = piece tags 64 64 j in
     let under : MacKey → Type 0 = λ k. (m : ℕ) → m < at_once k.hash → take (digest_len k.hash) (piece tags 64 64 m)
     ≡ hmac_of_block (digest k.hash) k.block
@@ -92,11 +89,11 @@ pages-preserved c =
     let hashed = subst under c.requires.key c.tags-tags.ensures j less in
     let block : List ℕ = key_block (digest file.profile.hash) (block_len file.profile.hash) file.keys.mac in
     let lane : take file.profile.tag_len mac ≡ tag file n (nth_page size rest j) =
-    side_tag file rest numbers mac n j (omega (arith, c.requires.later)) within laid_out.tag number
+    side_tag file rest numbers mac n j (known j less).0 within laid_out.tag (known j less).1
     (hashed ∙ (λ t. hmac_of_block (digest file.profile.hash) block (message (text t) (inner t) (used t + 16) numbers 4 j))) in
     let own = ap (λ (l : List ℕ). take file.profile.tag_len l) (cut_mac tags j) ∙ lane ∙ ap (tag file n) (page_behind size at j pages) in
     let cut = cut_page pages size i (s * i) (s * i + s - s * i) from whole in
     let next : i + 1 ≡ at + (j + 1) = omega arith in
-    rw (← next) (answered_more file c.args.first pages at i c.args.held.now c.pages.held c.bears.result (omega arith)
-    (omega (arith, less, c.requires.within)) c.pages.invariant
+    rw (← next) (answered_more file number pages at i c.args.held.now c.pages.held c.bears.result (omega arith)
+    (omega (arith, less, c.requires.within)) (c.pages.invariant number known)
     (c.bears.ensures ∙ (λ t. bytes_eq (stored_tag file.profile (cut t)) (own t))))

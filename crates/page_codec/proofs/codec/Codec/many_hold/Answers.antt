@@ -2,7 +2,7 @@ use Rattle.std.proofs.Common.{◌≡◌, ◌+◌, ℕ, List, ap, ◌∙◌, arit
 use Rattle.std.specs.Prelude.{Bool}
 use Rattle.page_codec.specs.MacKey.{at_once}
 use Rattle.page_codec.specs.Page.{FileKeys}
-use Rattle.page_codec.specs.Pages.{AreAnswered}
+use Rattle.page_codec.specs.Pages.{AreAnswered, run_from}
 use Rattle.page_codec.proofs.SideBySide.{answered_then}
 use Rattle.page_codec.proofs.codec.Codec.many_hold.Goals as goal
 
@@ -20,7 +20,7 @@ batches-preserved c =
     let next : done + step ≡ done + c.at_once-count.result = omega (arith, count) in
     record {
       within = omega (arith, c.batches-test.true, c.batch_holds.ensures.length_kept, c.batches.invariant.within, c.at_once-count.ensures.some);
-      answered = subst (λ (to : ℕ). AreAnswered file first pages 0 to old new) next
-          (answered_then file first pages 0 done (done + step) old c.batches.held new (omega arith) (omega arith) c.batches.invariant.answered
+      answered = subst (λ (to : ℕ). AreAnswered file (run_from first) pages 0 to old new) next
+          (answered_then file (run_from first) pages 0 done (done + step) old c.batches.held new (omega arith) (omega arith) c.batches.invariant.answered
           c.batch_holds.ensures);
     }

@@ -4,7 +4,7 @@ use Rattle.cipher_profile.specs.Profile.{IsListed, is_plain}
 use Rattle.cipher_profile.proofs.Layouts.{IsListed-laid_out}
 use Rattle.page_codec.specs.Page.{FileKeys}
 use Rattle.page_codec.proofs.Parts.{opened_whole}
-use Rattle.page_codec.proofs.codec.Codec.open_in_place.Goals as goal
+use Rattle.page_codec.proofs.codec.Codec.open_accepted.Goals as goal
 
 pub returns-else-not-is_plain-clause-opened : goal.returns-else-not-is_plain-clause-opened
 returns-else-not-is_plain-clause-opened c =
