@@ -108,10 +108,10 @@ commit_draws layout EntropyFault session now file new before after is drawn plai
 commit_draws layout OutOfMemory session now file new before after is drawn plain memory = memory refl
 
 -- what a commit leaves at each moment, by its answer
-module _ {D : Type 0} (reads : D → Files) (moment : D → ℕ) (since : D → ℕ → Files → Type 0) (session : Session) (old new : D) where
+module _ {D : Type 0} (reads : D → Files) (moment : D → ℕ) (since : D → ℕ → Files → Type 0) (session : Session) (told : Type 0) (before after : List ℕ) (old new : D) where
   pub commit_leaves : (answer : Answer) (now : Session) → CommitsTo session (main_of (reads old)) answer (main_of (reads new)) now
-      → (answer ≡ OutOfMemory → LeavesOnly moment since old new (StandsAsRead (reads old))) → Commitment moment since session (main_of (reads old)) old new
-      → CommitLeaves reads moment since answer session old new
+      → (answer ≡ OutOfMemory → LeavesOnly moment since old new (StandsAsRead (reads old))) → Commitment moment since session (main_of (reads old)) told before after old new
+      → CommitLeaves reads moment since answer session told before after old new
   commit_leaves Done now to stands run = inr (tt, run)
   commit_leaves DiskFault now to stands run = inr (tt, run)
   commit_leaves EntropyFault now to stands run = inr (tt, run)

@@ -26,7 +26,7 @@ use Rattle.atomic_commit.specs.Commit.{IsCommitted, LeavesChanged}
 use Rattle.atomic_commit.specs.Database.{Base, HoldsEither, HoldsOld, stored_page, stored_pages}
 use Rattle.atomic_commit.specs.Draws.{drawn_at}
 use Rattle.session_hall.specs.Commit.{StopsCommit, base_by, put_change, put_over}
-use Rattle.session_hall.specs.Draws.{HasDrawn, OwnDrawsBy}
+use Rattle.session_hall.specs.Draws.{HasDrawn, IsMadeBy, OwnDrawsBy}
 use Rattle.session_hall.specs.Kept.{IsHallSettled, IsSessionSound}
 use Rattle.session_hall.specs.Key.{Access, codec_at, codec_of}
 use Rattle.session_hall.specs.Machine.{HasSessionChanges, committed_page, else_page, is_sealed, unopened_answer, opened_by, counted_pages, seen_page, write_access}
@@ -216,6 +216,28 @@ module _ (x : Session) (file : List ℕ) (listed : IsListed x.access.profile) (w
             ∙ ap (λ (b : Bool). if b then Some (old_plain n) else None) (sound.accepted n num anew)
             ∙ ap (λ (l : List ℕ). Some l) (sym (unchanged_is n num is))
 
+    -- and its pages that were sealed anew have bytes of their own
+    drawn_with : (g : List ℕ) → ((n : ℕ) → is_page_number count n ≡ true → page_stored write g n ≡ page_stored write main n) → take 16 g ≡ take 16 main
+        → IsTrue tells → HasDrawn x g before after
+    drawn_with g same begins told = record {
+      drawn = has.draws;
+      behind = has.since told;
+      own = subst (λ (k : FileKeys). OwnDrawsBy k x g has.draws) (sym codec_is) (record {
+        place = has.own.place;
+        later = has.own.later;
+        within = has.own.within;
+        is_sealed = λ n num.
+            let two = and_true (is_page_number count n) (is_sealed x n) num in
+            let draw = drawn_at write.profile.reserve (has.own.place n) has.draws in
+            subst (λ (l : List ℕ). l ≡ sealed write n (opened write n l) draw) (sym (same n two.0))
+            (subst (λ (l : List ℕ). page_stored write main n ≡ sealed write n l draw) (sym (has.opens n two.0 two.1)) (has.own.is_sealed n num));
+        apart = has.own.apart;
+      });
+    }
+      where
+        codec_is : codec_of (write_access x) g ≡ write
+        codec_is = ap (codec_at (write_access x)) (begins ∙ main_salt)
+
     -- Main itself
     pub main_changes : base.counts (length main) ≡ true → HasSessionChanges x file main
     main_changes is = with_pages main (λ n num. refl) refl is
@@ -223,38 +245,30 @@ module _ (x : Session) (file : List ℕ) (listed : IsListed x.access.profile) (w
     abbrev cut : List ℕ
     cut = take (count * keys.profile.page_size) main
 
-    -- and what Main has without what stands behind its pages
-    pub cut_changes : HasSessionChanges x file cut
-    cut_changes = with_pages cut
-        (λ n num.
+    cut_stored : (n : ℕ) → is_page_number count n ≡ true → page_stored write cut n ≡ page_stored write main n
+    cut_stored n num =
         let within = number_in count n num in
-        subst (λ (s : ℕ). stored_page s n cut ≡ stored_page s n main) (sym size_is.0) (cut_page n count keys.profile.page_size main within.0 within.1 main_long))
-        (take-take 16 (count * keys.profile.page_size) main (omega (arith, large, one_page count keys.profile.page_size some)))
+        subst (λ (s : ℕ). stored_page s n cut ≡ stored_page s n main) (sym size_is.0) (cut_page n count keys.profile.page_size main within.0 within.1 main_long)
+
+    cut_begins : take 16 cut ≡ take 16 main
+    cut_begins = take-take 16 (count * keys.profile.page_size) main (omega (arith, large, one_page count keys.profile.page_size some))
+
+    -- and what Main has without what stands behind its pages
+    cut_changes : HasSessionChanges x file cut
+    cut_changes = with_pages cut cut_stored cut_begins
         (subst (λ (k : ℕ). base.counts k ≡ true) (sym cut_length) (base_begins keys file count opens large some).whole)
       where
         cut_length : length cut ≡ count * keys.profile.page_size
         cut_length = omega (arith, main_long, length-take (count * keys.profile.page_size) main)
 
+    pub cut_made : IsMadeBy x file (IsTrue tells) before after cut
+    cut_made = record { changes = cut_changes; draws = drawn_with cut cut_stored cut_begins }
+
     pub cut_same : stored_pages keys.profile.page_size count main ≡ stored_pages keys.profile.page_size count cut
     cut_same = sym (cut_pages count keys.profile.page_size main main_long)
 
-    -- the pages that were sealed anew have bytes of their own
     pub has_drawn : IsTrue tells → HasDrawn x main before after
-    has_drawn told = record {
-      drawn = has.draws;
-      behind = has.since told;
-      own = subst (λ (k : FileKeys). OwnDrawsBy k x main has.draws) (sym codec_is) (record {
-        place = has.own.place;
-        later = has.own.later;
-        within = has.own.within;
-        is_sealed = λ n num. let two = and_true (is_page_number count n) (is_sealed x n) num in
-            subst (λ (l : List ℕ). page_stored write main n ≡ sealed write n l (drawn_at write.profile.reserve (has.own.place n) has.draws)) (sym (has.opens n two.0 two.1)) (has.own.is_sealed n num);
-        apart = has.own.apart;
-      });
-    }
-      where
-        codec_is : codec_of (write_access x) main ≡ write
-        codec_is = ap (codec_at (write_access x)) main_salt
+    has_drawn = drawn_with main (λ n num. refl) refl
 
   -- where each image has this Main, and no journal
   pub done_changes : (files : Files) (left : Files → Type 0) → left files → HasNew (main_of files) → Each left (IsCommitted base (main_of files)) → HasSessionChanges x file (main_of files)
@@ -263,11 +277,11 @@ module _ (x : Session) (file : List ℕ) (listed : IsListed x.access.profile) (w
   -- at each moment
   pub leaves_changes : {D : Type 0} (moment : D → ℕ) (since : D → ℕ → Files → Type 0) (old_disk new_disk : D)
       → LeavesChanged moment since base HasNew old_disk new_disk
-      → LeavesChanged moment since base (HasSessionChanges x file) old_disk new_disk
+      → LeavesChanged moment since base (IsMadeBy x file (IsTrue tells) before after) old_disk new_disk
   leaves_changes moment since old_disk new_disk (inl run) = inl run
   leaves_changes moment since old_disk new_disk (inr new) = inr (
     take (count * keys.profile.page_size) new.0,
-    cut_changes new.0 new.1,
+    cut_made new.0 new.1,
     subst (λ (db : List (List ℕ)). LeavesOnly moment since old_disk new_disk (HoldsEither base db)) (cut_same new.0 new.1) new.2,
   )
 

@@ -17,7 +17,7 @@ use Rattle.atomic_commit.specs.Commit.{IsCommitted, LeavesChanged}
 use Rattle.atomic_commit.specs.Database.{Base, HoldsOld}
 use Rattle.atomic_commit.specs.Facts.{IsCommitBegun}
 use Rattle.atomic_commit.proofs.Behind.{then_changed}
-use Rattle.session_hall.specs.Commit.{base_by, put_over}
+use Rattle.session_hall.specs.Commit.{Commitment, base_by, put_over}
 use Rattle.session_hall.specs.Draws.{HasDrawn}
 use Rattle.session_hall.specs.Kept.{IsHallSettled, IsSessionSound}
 use Rattle.session_hall.specs.Key.{codec_of}
@@ -136,10 +136,10 @@ module _ {D : Type 0} (reads : D → Files) (images : D → Files → Type 0) (m
         let layout = layout_of main left in
         has_drawn x file listed write_listed plains sound opens pages_some layout draws_told before after main (same_left main left layout) draws
 
-    pub moments : (new : D) → LeavesChanged moment since any HasLeft mid new → LeavesChanged moment since (base_by x file) (HasSessionChanges x file) old new
+    pub moments : (new : D) → LeavesChanged moment since any HasLeft mid new → Commitment moment since x file (IsTrue draws_told) before after old new
     moments new changes = then_changed still_old (by_case (subst (λ (b : Base). LeavesChanged moment since b HasLeft mid new) base_is changes))
       where
-        by_case : LeavesChanged moment since (base_by x file) HasLeft mid new → LeavesChanged moment since (base_by x file) (HasSessionChanges x file) mid new
+        by_case : LeavesChanged moment since (base_by x file) HasLeft mid new → Commitment moment since x file (IsTrue draws_told) before after mid new
         by_case (inl olds) = inl olds
         by_case (inr one) =
             let layout = layout_of one.0 one.1 in

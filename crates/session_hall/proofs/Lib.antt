@@ -2,6 +2,7 @@ pub mod Answers
 pub mod Committed
 pub mod Committing
 pub mod Counting
+pub mod Fresh
 mod Lookups
 pub mod Places
 pub mod PutOver

@@ -7,6 +7,7 @@ use Rattle.atomic_commit.specs.Commit.{LeavesChanged}
 use Rattle.atomic_commit.specs.Database.{Base, HoldsPages, stored_pages}
 use Rattle.pager.specs.Base.{base_of}
 use Rattle.pager.specs.Changed.{with_bytes}
+use Rattle.session_hall.specs.Draws.{IsMadeBy}
 use Rattle.session_hall.specs.Key.{codec_of}
 use Rattle.session_hall.specs.Kept.{StandsAsRead}
 use Rattle.session_hall.specs.Machine.{HasSessionChanges, committed}
@@ -37,9 +38,9 @@ abbrev pub HoldsSessionPages : Session → List ℕ → List ℕ → Files → T
 HoldsSessionPages session file main image =
     HoldsPages (base_by session file) (stored_pages (base_by session file).size session.pages main) image
 
--- At each moment each image has the pages of before, or there is one committed file, and it has those or that file's.
-abbrev pub Commitment : {D : Type 0} → (D → ℕ) → (D → ℕ → Files → Type 0) → Session → List ℕ → D → D → Type 0
-Commitment moment since session file old new = LeavesChanged moment since (base_by session file) (HasSessionChanges session file) old new
+-- At each moment each image has the pages of before, or there is one file that the commit makes, and it has those or that file's.
+abbrev pub Commitment : {D : Type 0} → (D → ℕ) → (D → ℕ → Files → Type 0) → Session → List ℕ → Type 0 → List ℕ → List ℕ → D → D → Type 0
+Commitment moment since session file told before after old new = LeavesChanged moment since (base_by session file) (IsMadeBy session file told before after) old new
 
 -- the hall is not down after it
 abbrev pub IsUp : Answer → Type 0
@@ -83,12 +84,12 @@ MayHaveWritten EntropyFault = Unit {0}
 MayHaveWritten OutOfMemory = ⊥
 
 -- nothing is written, or the session's commit is under way, which is answered so
-abbrev pub CommitLeaves : {D : Type 0} → (D → Files) → (D → ℕ) → (D → ℕ → Files → Type 0) → Answer → Session → D → D → Type 0
-CommitLeaves reads moment since answer session old new =
-    LeavesOnly moment since old new (StandsAsRead (reads old)) ⊎ (MayHaveWritten answer × Commitment moment since session (main_of (reads old)) old new)
+abbrev pub CommitLeaves : {D : Type 0} → (D → Files) → (D → ℕ) → (D → ℕ → Files → Type 0) → Answer → Session → Type 0 → List ℕ → List ℕ → D → D → Type 0
+CommitLeaves reads moment since answer session told before after old new =
+    LeavesOnly moment since old new (StandsAsRead (reads old)) ⊎ (MayHaveWritten answer × Commitment moment since session (main_of (reads old)) told before after old new)
 
 -- At each moment of a step each image has Main and Journal as they read at its start; but for a commit, of this session, by its answer.
-abbrev pub StepLeaves : {D : Type 0} → (D → Files) → (D → ℕ) → (D → ℕ → Files → Type 0) → Step → Answer → Session → D → D → Type 0
-StepLeaves reads moment since step answer session old new =
+abbrev pub StepLeaves : {D : Type 0} → (D → Files) → (D → ℕ) → (D → ℕ → Files → Type 0) → Step → Answer → Session → Type 0 → List ℕ → List ℕ → D → D → Type 0
+StepLeaves reads moment since step answer session told before after old new =
     LeavesOnly moment since old new (StandsAsRead (reads old))
-    ⊎ ((step ≡ Commit) × MayHaveWritten answer × Commitment moment since session (main_of (reads old)) old new)
+    ⊎ ((step ≡ Commit) × MayHaveWritten answer × Commitment moment since session (main_of (reads old)) told before after old new)

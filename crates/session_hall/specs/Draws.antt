@@ -1,5 +1,5 @@
 -- The bytes that a step draws.
-use Rattle.std.specs.Prelude.{◌≡◌, ◌++◌, ◌&&◌, ℕ, true, false, List}
+use Rattle.std.specs.Prelude.{◌≡◌, ◌++◌, ◌&&◌, ℕ, Bool, true, false, List, IsTrue}
 use Rattle.atomic_commit.specs.Draws.{OwnDraws}
 use Rattle.cipher_profile.specs.Profile.{is_plain}
 use Rattle.cipher_profile.specs.declared.profile.Profile.{Profile}
@@ -7,7 +7,7 @@ use Rattle.page_codec.specs.Page.{FileKeys, opened, sealed}
 use Rattle.pager.specs.File.{page_stored}
 use Rattle.pager.specs.Pages.{is_page_number}
 use Rattle.session_hall.specs.Key.{codec_of}
-use Rattle.session_hall.specs.Machine.{is_sealed, write_access}
+use Rattle.session_hall.specs.Machine.{HasSessionChanges, is_sealed, write_access}
 use Rattle.session_hall.specs.Session.{Session}
 use Rattle.session_hall.specs.declared.step.Answer.{Answer}
 use Rattle.session_hall.specs.declared.step.Answer.TheVariants.{Done, Page, Busy, Refused, TagRefused, Misuse, Down, DiskFault, EntropyFault, OutOfMemory}
@@ -25,7 +25,16 @@ pub record HasDrawn (session : Session) (file before after : List ℕ) : Type 0 
   pub behind : after ≡ before ++ drawn
   pub own : OwnDrawsBy (codec_of (write_access session) file) session file drawn
 
--- what a commit drew: nothing where it was not begun, in a hall of plain files, or without memory; where it failed, that is not said
+-- The session's commit makes this file of the one before. Where the bytes that are drawn for it are told, its pages have their own of them.
+pub record IsMadeBy (session : Session) (file : List ℕ) (told : Type 0) (before after made : List ℕ) : Type 0 where
+  pub changes : HasSessionChanges session file made
+  pub draws : told → HasDrawn session made before after
+
+-- the bytes that are drawn for a commit are told: the entropy tells them, and the file is not plain
+abbrev pub TellsDraws : Bool → Profile → Type 0
+TellsDraws tells layout = IsTrue tells × (is_plain layout ≡ false)
+
+-- what a commit drew: nothing where it was not begun, in a hall of plain files, or without memory; where it failed, what it left says it
 abbrev pub CommitDraws : Profile → Answer → Session → List ℕ → List ℕ → List ℕ → Type 0
 CommitDraws layout Done session file before after = (is_plain layout ≡ true → after ≡ before) × (is_plain layout ≡ false → HasDrawn session file before after)
 CommitDraws layout Page session file before after = after ≡ before

@@ -2,11 +2,12 @@
 ghost use Rattle.std.specs.Prelude.{◌≡◌, ◌≢◌, ◌≤◌, ◌<◌, length, true, false, Ok, Err, Some, None, IfOk, IfErr, OnOk, IsTrue};
 ghost use Rattle.edge_model.specs.Causes.{HasCause, Rose};
 ghost use Rattle.edge_model.specs.Files.{main_of};
-ghost use Rattle.edge_model.specs.Images.{LeavesOnly};
+ghost use Rattle.atomic_commit.specs.Facts.{SameFresh};
+ghost use Rattle.edge_model.specs.Images.{From, LeavesOnly};
 ghost use Rattle.edge_model.specs.OnlyRead.{OnlyRead};
 ghost use Rattle.cipher_profile.specs.Profile.{IsListed, is_plain};
 ghost use Rattle.session_hall.specs.Commit.{Commitment, CommitsTo, HoldsSessionPages, IsUp, StopsCommit};
-ghost use Rattle.session_hall.specs.Draws.{HasDrawn};
+ghost use Rattle.session_hall.specs.Draws.{HasDrawn, TellsDraws};
 ghost use Rattle.session_hall.specs.Kept.{IsHallSettled, IsSessionSound};
 ghost use Rattle.session_hall.specs.Key.{codec_of};
 ghost use Rattle.session_hall.specs.Locks.{is_holding};
@@ -41,7 +42,9 @@ pub fn commit_session<D: Disk, E: Entropy>(
     ensures told { IsTrue D.tells → CommitsTo session.old (main_of (D.reads disk.old)) result (main_of (D.reads disk.new)) session.new }
     ensures awake { result ≢ Answer.Down }
     ensures settled { IsTrue D.tells → IsUp result → IsHallSettled (D.reads disk.new) (D.images disk.new) }
-    ensures any_moment { IsTrue D.tells → Commitment D.moment D.since session.old (main_of (D.reads disk.old)) disk.old disk.new }
+    ensures any_moment { IsTrue D.tells → Commitment D.moment D.since session.old (main_of (D.reads disk.old))
+        (TellsDraws E.tells layout.now) (E.drawn entropy.old) (E.drawn entropy.new) disk.old disk.new }
+    ensures fresh { IsTrue D.tells → LeavesOnly D.moment D.since disk.old disk.new (From SameFresh (D.images disk.old)) }
     ensures only_old { result ≡ Answer.EntropyFault → IsTrue D.tells → LeavesOnly D.moment D.since disk.old disk.new
         (HoldsSessionPages session.old (main_of (D.reads disk.old)) (main_of (D.reads disk.old))) }
     ensures drawn { is_plain layout.now ≡ false → result ≡ Answer.Done → IsTrue D.tells → IsTrue E.tells
@@ -74,7 +77,9 @@ fn commit_drawing<D: Disk, E: Entropy>(
     ensures drawn { result ≡ Answer.Done → IsTrue D.tells → IsTrue E.tells
         → HasDrawn session.old (main_of (D.reads disk.new)) (E.drawn entropy.old) (E.drawn entropy.new) }
     ensures no_memory { result ≡ Answer.OutOfMemory → IsTrue D.tells → (entropy.new ≡ entropy.old) × OnlyRead D.reads D.images D.moment D.since disk.old disk.new }
-    ensures any_moment { IsTrue D.tells → Commitment D.moment D.since session.old (main_of (D.reads disk.old)) disk.old disk.new }
+    ensures any_moment { IsTrue D.tells → Commitment D.moment D.since session.old (main_of (D.reads disk.old))
+        (IsTrue E.tells) (E.drawn entropy.old) (E.drawn entropy.new) disk.old disk.new }
+    ensures fresh { IsTrue D.tells → LeavesOnly D.moment D.since disk.old disk.new (From SameFresh (D.images disk.old)) }
     ensures only_old { result ≡ Answer.EntropyFault → IsTrue D.tells → LeavesOnly D.moment D.since disk.old disk.new
         (HoldsSessionPages session.old (main_of (D.reads disk.old)) (main_of (D.reads disk.old))) }
     ensures disk_fault { result ≡ Answer.DiskFault → Rose (D.faults disk.old) (D.faults disk.new) }
@@ -107,7 +112,9 @@ fn write_pages<D: Disk, E: Entropy>(
     ensures settled { OnOk result (IsTrue D.tells → IsHallSettled (D.reads disk.new) (D.images disk.new)) }
     ensures stopped { IfErr result (λ answer. IsTrue D.tells → StopsCommit D.reads D.images D.moment D.since disk.old disk.new answer) }
     ensures awake { IfErr result (λ answer. (answer ≢ Answer.Down) × (answer ≢ Answer.Done)) }
-    ensures any_moment { IsTrue D.tells → Commitment D.moment D.since session.old (main_of (D.reads disk.old)) disk.old disk.new }
+    ensures any_moment { IsTrue D.tells → Commitment D.moment D.since session.old (main_of (D.reads disk.old))
+        (IsTrue E.tells) (E.drawn entropy.old) (E.drawn entropy.new) disk.old disk.new }
+    ensures fresh { IsTrue D.tells → LeavesOnly D.moment D.since disk.old disk.new (From SameFresh (D.images disk.old)) }
     ensures only_old { result ≡ Err Answer.EntropyFault → IsTrue D.tells → LeavesOnly D.moment D.since disk.old disk.new
         (HoldsSessionPages session.old (main_of (D.reads disk.old)) (main_of (D.reads disk.old))) }
     ensures same { session.new ≡ session.old }

@@ -1,13 +1,14 @@
 // A hall of sessions.
 ghost use Rattle.std.specs.Prelude.{◌≡◌, ◌≢◌, ◌↔◌, ◌≤◌, ◌<◌, ◌||◌, length, true, false, IsTrue};
 ghost use Rattle.edge_model.specs.Causes.{Rose};
-ghost use Rattle.edge_model.specs.Images.{LeavesOnly};
+ghost use Rattle.atomic_commit.specs.Facts.{SameFresh};
+ghost use Rattle.edge_model.specs.Images.{From, LeavesOnly};
 ghost use Rattle.cipher_profile.specs.Profile.{IsListed, is_plain};
 ghost use Rattle.edge_model.specs.Files.{main_of};
 ghost use Rattle.pager.specs.Opening.{IsRefusedBy};
 ghost use Rattle.pager.specs.Reads.{DiskRead, Untouched};
 ghost use Rattle.session_hall.specs.Commit.{CommitLeaves, HoldsSessionPages, IsUp, StepLeaves};
-ghost use Rattle.session_hall.specs.Draws.{CommitDraws, StepDraws};
+ghost use Rattle.session_hall.specs.Draws.{CommitDraws, StepDraws, TellsDraws};
 ghost use Rattle.session_hall.specs.Faults.{is_fault_answer};
 ghost use Rattle.session_hall.specs.Kept.{IsHallKept, IsHallSettled};
 ghost use Rattle.session_hall.specs.Machine.{ChangesByte, Commits, IsListedStep, Opens, Reads, Rekeys, Releases, Reserves, Shares, Steps, Stops, is_content, may_be_under, may_change, may_commit, may_open, may_read, may_rekey, unopened_answer, state, unseen_answer};
@@ -123,7 +124,9 @@ impl<'d, D: Disk, E: Entropy> Hall<'d, D, E> {
         ensures kept { IsTrue D.tells → self.new.is_down ≡ false → IsHallKept (D.reads self.new.disk.now) (D.images self.new.disk.now) self.new.sessions.items }
         // what a stop leaves at each moment
         ensures any_moment { IsTrue D.tells → self.old.is_down ≡ false
-            → StepLeaves D.reads D.moment D.since step result (session_at self.old.sessions.items session) self.old.disk.now self.new.disk.now }
+            → StepLeaves D.reads D.moment D.since step result (session_at self.old.sessions.items session)
+            (TellsDraws E.tells self.old.layout) (E.drawn self.old.entropy.now) (E.drawn self.new.entropy.now) self.old.disk.now self.new.disk.now }
+        ensures fresh { IsTrue D.tells → LeavesOnly D.moment D.since self.old.disk.now self.new.disk.now (From SameFresh (D.images self.old.disk.now)) }
         ensures only_old { result ≡ Answer.EntropyFault → IsTrue D.tells → self.old.is_down ≡ false → LeavesOnly D.moment D.since self.old.disk.now self.new.disk.now
             (HoldsSessionPages (session_at self.old.sessions.items session) (main_of (D.reads self.old.disk.now)) (main_of (D.reads self.old.disk.now))) }
         // a commit alone draws, and each page that it seals anew has bytes of its own of those
@@ -157,7 +160,9 @@ impl<'d, D: Disk, E: Entropy> Hall<'d, D, E> {
         ensures up_before { result ≢ Answer.Down }
         ensures settled { IsTrue D.tells → IsUp result → IsHallSettled (D.reads self.new.disk.now) (D.images self.new.disk.now) }
         ensures any_moment { IsTrue D.tells
-            → StepLeaves D.reads D.moment D.since step result (session_at self.old.sessions.items i) self.old.disk.now self.new.disk.now }
+            → StepLeaves D.reads D.moment D.since step result (session_at self.old.sessions.items i)
+            (TellsDraws E.tells self.old.layout) (E.drawn self.old.entropy.now) (E.drawn self.new.entropy.now) self.old.disk.now self.new.disk.now }
+        ensures fresh { IsTrue D.tells → LeavesOnly D.moment D.since self.old.disk.now self.new.disk.now (From SameFresh (D.images self.old.disk.now)) }
         ensures only_old { result ≡ Answer.EntropyFault → IsTrue D.tells → LeavesOnly D.moment D.since self.old.disk.now self.new.disk.now
             (HoldsSessionPages (session_at self.old.sessions.items i) (main_of (D.reads self.old.disk.now)) (main_of (D.reads self.old.disk.now))) }
         ensures drawn { IsTrue D.tells → IsTrue E.tells → StepDraws self.old.layout step result (session_at self.old.sessions.items i)
@@ -373,7 +378,9 @@ impl<'d, D: Disk, E: Entropy> Hall<'d, D, E> {
             (state (D.reads self.new.disk.now) self.new.layout self.new.sessions.items self.new.page) }
         ensures settled { IsTrue D.tells → IsUp result → IsHallSettled (D.reads self.new.disk.now) (D.images self.new.disk.now) }
         ensures awake { result ≢ Answer.Down }
-        ensures any_moment { IsTrue D.tells → CommitLeaves D.reads D.moment D.since result (session_at self.old.sessions.items i) self.old.disk.now self.new.disk.now }
+        ensures any_moment { IsTrue D.tells → CommitLeaves D.reads D.moment D.since result (session_at self.old.sessions.items i)
+            (TellsDraws E.tells self.old.layout) (E.drawn self.old.entropy.now) (E.drawn self.new.entropy.now) self.old.disk.now self.new.disk.now }
+        ensures fresh { IsTrue D.tells → LeavesOnly D.moment D.since self.old.disk.now self.new.disk.now (From SameFresh (D.images self.old.disk.now)) }
         ensures only_old { result ≡ Answer.EntropyFault → IsTrue D.tells → LeavesOnly D.moment D.since self.old.disk.now self.new.disk.now
             (HoldsSessionPages (session_at self.old.sessions.items i) (main_of (D.reads self.old.disk.now)) (main_of (D.reads self.old.disk.now))) }
         ensures drawn { IsTrue D.tells → IsTrue E.tells → CommitDraws self.old.layout result (session_at self.old.sessions.items i)

@@ -1,6 +1,9 @@
 // A hall is opened.
-ghost use Rattle.std.specs.Prelude.{[], ◌≡◌, ◌≢◌, ◌≤◌, length, false, IfOk, IfErr, IsTrue};
+ghost use Rattle.std.specs.Prelude.{[], ◌≡◌, ◌≢◌, ◌⊎◌, ◌≤◌, length, false, Err, IfOk, IfErr, IsTrue};
 ghost use Rattle.edge_model.specs.Causes.{Rose};
+ghost use Rattle.edge_model.specs.Files.{bytes_of};
+ghost use Rattle.edge_model.specs.Images.{Each, From, LeavesOnly};
+ghost use Rattle.rollback_journal.specs.Recovery.{HasByte, IsPlaybackDone, KeepsRecovered, answer_to, changes_nothing};
 ghost use Rattle.cipher_profile.specs.Profile.{IsListed};
 ghost use Rattle.session_hall.specs.Kept.{AreAllClosed, IsHallSettled, IsHallKept};
 
@@ -60,6 +63,15 @@ impl<'d, D: Disk, E: Entropy> Hall<'d, D, E> {
         ensures names { IfOk result (λ hall. (hall.disk.ghost_name ≡ disk.entry.ghost_name) × (hall.entropy.ghost_name ≡ entropy.entry.ghost_name)) }
         ensures entropy { IfOk result (λ hall. hall.entropy.now ≡ entropy.old) }
         ensures later { IfOk result (λ hall. D.faults disk.old ≤ D.faults hall.disk.now) }
+        // Main is what is recovered of the files, and stays where nothing is; on the way each image recovers to what one at the start recovers to
+        ensures recovered { IfOk result (λ hall. IsTrue D.tells → HasByte (bytes_of (D.reads disk.old).main)
+            → Each (D.images hall.disk.now) (IsPlaybackDone profile.now.page_size (bytes_of (D.reads disk.old).main) (bytes_of (D.reads disk.old).journal))) }
+        ensures idle { IfOk result (λ hall. IsTrue D.tells → IsTrue (changes_nothing (answer_to profile.now.page_size (D.reads disk.old))) → D.reads hall.disk.now ≡ D.reads disk.old) }
+        ensures any_moment { IfOk result (λ hall. IsTrue D.tells
+            → LeavesOnly D.moment D.since disk.old hall.disk.now (From (KeepsRecovered profile.now.page_size) (D.images disk.old))) }
+        // a refusal is that of the recovery
+        ensures refused { IfErr result (λ error. IsTrue D.tells → (Err error ≡ answer_to profile.now.page_size (D.reads disk.old))
+            ⊎ (error ≡ RecoverError.DiskFault) ⊎ (error ≡ RecoverError.OutOfMemory)) }
     {
         let Ok(seats) = Seats::new(alloc, profile) else {
             return Err(RecoverError::OutOfMemory);

@@ -2,12 +2,12 @@
 ghost use Rattle.std.specs.Prelude.{◌≡◌, ◌≢◌, ◌⊎◌, ◌≤◌, ◌<◌, ◌+◌, ◌-◌, ◌==◌, ◌||◌, ℕ, [], length, true, false, Ok, Err, IfErr, OnOk, IsTrue, if◌then◌else◌};
 ghost use Rattle.atomic_commit.specs.Commit.{IsCommitted, LeavesChanged};
 ghost use Rattle.atomic_commit.specs.Database.{HoldsOld};
-ghost use Rattle.atomic_commit.specs.Facts.{IsBase, IsCommitBegun};
+ghost use Rattle.atomic_commit.specs.Facts.{IsBase, IsCommitBegun, SameFresh};
 ghost use Rattle.atomic_commit.specs.Marks.{marked_count};
 ghost use Rattle.cipher_profile.specs.Profile.{usable};
 ghost use Rattle.edge_model.specs.Causes.{Rose};
 ghost use Rattle.edge_model.specs.Files.{main_of};
-ghost use Rattle.edge_model.specs.Images.{Each, LeavesOnly};
+ghost use Rattle.edge_model.specs.Images.{Each, From, LeavesOnly};
 ghost use Rattle.edge_model.specs.OnlyRead.{OnlyRead};
 ghost use Rattle.page_codec.specs.Page.{accepts};
 ghost use Rattle.pager.specs.File.{page_stored};
@@ -63,6 +63,7 @@ pub fn write_changes<'d, D: Disk, E: Entropy>(
     ensures any_moment { IsTrue D.tells → LeavesChanged D.moment D.since start.base (HasWritten start pager.entry.codec write session.now
         (λ n. put_over session.now n ((opened_pages pager.entry.codec (main_of (D.reads pager.entry.disk.now)) pager.entry.count).page n)) E.tells (E.drawn result.1.now)) pager.entry.disk.now result.0.now }
     ensures only_old { result.2 ≡ Err Answer.EntropyFault → IsTrue D.tells → LeavesOnly D.moment D.since pager.entry.disk.now result.0.now (HoldsOld start.base) }
+    ensures fresh { IsTrue D.tells → LeavesOnly D.moment D.since pager.entry.disk.now result.0.now (From SameFresh (D.images pager.entry.disk.now)) }
     ensures unwritten { result.2 ≡ Err Answer.OutOfMemory → IsTrue D.tells → (result.0.now ≡ pager.entry.disk.now) × (result.1.now ≡ pager.entry.entropy.now) }
     ensures stopped { IfErr result.2 (λ answer. IsTrue D.tells → IsChangeAnswer answer) }
     ensures awake { IfErr result.2 (λ answer. (answer ≢ Answer.Down) × (answer ≢ Answer.Done)) }
@@ -128,6 +129,7 @@ fn write_all<'d, D: Disk, E: Entropy>(
         (λ n. put_over session.now n ((seen_pages txn.entry.read txn.entry.write (main_of (D.reads txn.entry.disk.now)) txn.entry.count txn.entry.written txn.entry.changed.held).page n))
         E.tells (E.drawn result.1.now)) txn.entry.disk.now result.0.now }
     ensures only_old { result.2 ≡ Err Answer.EntropyFault → IsTrue D.tells → LeavesOnly D.moment D.since txn.entry.disk.now result.0.now (HoldsOld start.base) }
+    ensures fresh { IsTrue D.tells → LeavesOnly D.moment D.since txn.entry.disk.now result.0.now (From SameFresh (D.images txn.entry.disk.now)) }
     ensures failed { IfErr result.2 (λ answer. IsTrue D.tells → is_unwritten_answer answer ≡ false) }
     ensures awake { IfErr result.2 (λ answer. (answer ≢ Answer.Down) × (answer ≢ Answer.Done)) }
     ensures disk_fault { result.2 ≡ Err Answer.DiskFault → Rose (D.faults txn.entry.disk.now) (D.faults result.0.now) }
@@ -162,6 +164,7 @@ fn finish<'d, D: Disk, E: Entropy>(txn: Txn<'d, D, E>) -> (&'d mut D, &'d mut E,
         (λ n. (seen_pages txn.entry.read txn.entry.write (main_of (D.reads txn.entry.disk.now)) txn.entry.count txn.entry.written txn.entry.changed.held).page n)
         E.tells (E.drawn result.1.now)) txn.entry.disk.now result.0.now }
     ensures only_old { result.2 ≡ Err Answer.EntropyFault → IsTrue D.tells → LeavesOnly D.moment D.since txn.entry.disk.now result.0.now (HoldsOld start.base) }
+    ensures fresh { IsTrue D.tells → LeavesOnly D.moment D.since txn.entry.disk.now result.0.now (From SameFresh (D.images txn.entry.disk.now)) }
     ensures failed { IfErr result.2 (λ answer. is_unwritten_answer answer ≡ false) }
     ensures awake { IfErr result.2 (λ answer. (answer ≢ Answer.Down) × (answer ≢ Answer.Done)) }
     ensures disk_fault { result.2 ≡ Err Answer.DiskFault → Rose (D.faults txn.entry.disk.now) (D.faults result.0.now) }
@@ -257,6 +260,7 @@ fn put_pages<D: Disk, E: Entropy>(
     ensures disk_fault { result ≡ Err PageError.DiskFault → Rose (D.faults txn.old.disk.now) (D.faults txn.new.disk.now) }
     ensures entropy_fault { result ≡ Err PageError.EntropyFault → Rose (E.faults txn.old.entropy.now) (E.faults txn.new.entropy.now) }
     ensures any_moment { IsTrue D.tells → LeavesOnly D.moment D.since txn.old.disk.now txn.new.disk.now (HoldsOld start.base) }
+    ensures fresh { IsTrue D.tells → LeavesOnly D.moment D.since txn.old.disk.now txn.new.disk.now (From SameFresh (D.images txn.old.disk.now)) }
     // while no page has a record, the disk was only read
     ensures unrecorded { OnOk result (marked_count txn.new.recorded ≡ 0 → IsTrue D.tells → OnlyRead D.reads D.images D.moment D.since txn.old.disk.now txn.new.disk.now) }
     ensures names { (txn.new.disk.ghost_name ≡ txn.old.disk.ghost_name) × (txn.new.entropy.ghost_name ≡ txn.old.entropy.ghost_name) }
@@ -308,6 +312,7 @@ fn put_next<D: Disk, E: Entropy>(
     ensures disk_fault { result ≡ Err PageError.DiskFault → Rose (D.faults txn.old.disk.now) (D.faults txn.new.disk.now) }
     ensures entropy_fault { result ≡ Err PageError.EntropyFault → Rose (E.faults txn.old.entropy.now) (E.faults txn.new.entropy.now) }
     ensures any_moment { IsTrue D.tells → LeavesOnly D.moment D.since txn.old.disk.now txn.new.disk.now (HoldsOld start.base) }
+    ensures fresh { IsTrue D.tells → LeavesOnly D.moment D.since txn.old.disk.now txn.new.disk.now (From SameFresh (D.images txn.old.disk.now)) }
     // while no page has a record, the disk was only read
     ensures unrecorded { OnOk result (marked_count txn.new.recorded ≡ 0 → (marked_count txn.old.recorded ≡ 0)
         × (IsTrue D.tells → OnlyRead D.reads D.images D.moment D.since txn.old.disk.now txn.new.disk.now)) }
@@ -346,6 +351,7 @@ fn keep_segment<D: Disk, E: Entropy>(
         (D.images txn.new.disk.now) E.tells (E.drawn txn.new.entropy.now)) }
     ensures fault { IfErr result (λ e. (e ≡ PageError.DiskFault) × Rose (D.faults txn.old.disk.now) (D.faults txn.new.disk.now)) }
     ensures any_moment { IsTrue D.tells → LeavesOnly D.moment D.since txn.old.disk.now txn.new.disk.now (HoldsOld start.base) }
+    ensures fresh { IsTrue D.tells → LeavesOnly D.moment D.since txn.old.disk.now txn.new.disk.now (From SameFresh (D.images txn.old.disk.now)) }
     // while no page has a record, the disk was only read
     ensures unrecorded { OnOk result (marked_count txn.new.recorded ≡ 0 → (marked_count txn.old.recorded ≡ 0)
         × (IsTrue D.tells → OnlyRead D.reads D.images D.moment D.since txn.old.disk.now txn.new.disk.now)) }
@@ -421,6 +427,7 @@ fn put_page<D: Disk, E: Entropy>(
     ensures disk_fault { result ≡ Err PageError.DiskFault → Rose (D.faults txn.old.disk.now) (D.faults txn.new.disk.now) }
     ensures entropy_fault { result ≡ Err PageError.EntropyFault → Rose (E.faults txn.old.entropy.now) (E.faults txn.new.entropy.now) }
     ensures any_moment { IsTrue D.tells → LeavesOnly D.moment D.since txn.old.disk.now txn.new.disk.now (HoldsOld start.base) }
+    ensures fresh { IsTrue D.tells → LeavesOnly D.moment D.since txn.old.disk.now txn.new.disk.now (From SameFresh (D.images txn.old.disk.now)) }
     // while no page has a record, the disk was only read
     ensures unrecorded { OnOk result (marked_count txn.new.recorded ≡ 0 → (marked_count txn.old.recorded ≡ 0)
         × (IsTrue D.tells → OnlyRead D.reads D.images D.moment D.since txn.old.disk.now txn.new.disk.now)) }
@@ -474,6 +481,7 @@ fn replace<D: Disk, E: Entropy>(
     ensures disk_fault { result ≡ Err PageError.DiskFault → Rose (D.faults txn.old.disk.now) (D.faults txn.new.disk.now) }
     ensures entropy_fault { result ≡ Err PageError.EntropyFault → Rose (E.faults txn.old.entropy.now) (E.faults txn.new.entropy.now) }
     ensures any_moment { IsTrue D.tells → LeavesOnly D.moment D.since txn.old.disk.now txn.new.disk.now (HoldsOld start.base) }
+    ensures fresh { IsTrue D.tells → LeavesOnly D.moment D.since txn.old.disk.now txn.new.disk.now (From SameFresh (D.images txn.old.disk.now)) }
     // while no page has a record, the disk was only read
     ensures unrecorded { OnOk result (marked_count txn.new.recorded ≡ 0 → (marked_count txn.old.recorded ≡ 0)
         × (IsTrue D.tells → OnlyRead D.reads D.images D.moment D.since txn.old.disk.now txn.new.disk.now)) }

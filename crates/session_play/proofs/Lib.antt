@@ -3,3 +3,4 @@ pub mod Words
 pub mod Progress
 pub mod Stopping
 pub mod RunSteps
+pub mod InOrder

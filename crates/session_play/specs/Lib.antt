@@ -6,3 +6,4 @@ pub mod Moments
 pub mod Draws
 pub mod Play
 pub mod Runs
+pub mod Order

@@ -2,13 +2,14 @@
 use Rattle.std.specs.Prelude.{◌≡◌, ◌≢◌, ◌+◌, ◌<◌, ◌≤◌, ℕ, Bool, List, [], ◌∷◌, ◌++◌, length, map, slice_index, All, Option, Some, None, Result, Ok, Err, IsTrue}
 use Rattle.std.specs.List.{flat_map}
 use Rattle.edge_model.specs.Files.{Files}
+use Rattle.edge_model.specs.Images.{LeavesOnly}
 use Rattle.cipher_profile.specs.declared.profile.Profile.{Profile}
 use Rattle.session_hall.specs.Machine.{HallState, Steps}
 use Rattle.session_hall.specs.declared.step.Answer.{Answer}
 use Rattle.session_hall.specs.declared.step.Answer.TheVariants.{Done, Page, Busy, Refused, TagRefused, Misuse, Down, DiskFault as DiskFails, EntropyFault as EntropyFails, OutOfMemory as MemoryEnds}
 use Rattle.session_play.specs.AnswerText.{answer_line}
 use Rattle.session_play.specs.Draws.{AreDrawn, ReplyDraws}
-use Rattle.session_play.specs.Moments.{IsInStep, IsOnWay, state_behind}
+use Rattle.session_play.specs.Moments.{DiskTold, IsInStep, IsOnWay, StandsAs, state_behind}
 use Rattle.session_play.specs.Reply.{Reply}
 use Rattle.session_play.specs.Script.{script_lines, step_of}
 use Rattle.session_play.specs.declared.playing.PlayError.{PlayError}
@@ -126,13 +127,25 @@ abbrev pub AreSteps : Profile → HallState → List Reply → HallState → Typ
 AreSteps layout old [] new = new ≡ old
 AreSteps layout old (reply ∷ replies) new = TakesStep (step_of layout reply.line) old reply × AreSteps layout reply.after replies new
 
+-- ---- the disk between the steps
+
+-- From one disk to the other, step by step. Behind each step stands a disk of the run: from the disk of the step before to this one each image is
+-- within the step; and where its answer is printed, Main reads as the machine has it, and no crash leaves anything else.
+abbrev pub GoesThrough : {D : Type 0} → DiskTold D → Profile → HallState → List Reply → D → D → Type 0
+GoesThrough told layout old [] from to = to ≡ from
+GoesThrough {D} told layout old (reply ∷ replies) from to =
+    (next : D)
+    × LeavesOnly told.moment told.since from next (IsInStep (step_of layout reply.line) reply.answer reply.made old)
+    × (IsPrinted reply → StandsAs reply.after.file (told.reads next) (told.images next))
+    × GoesThrough told layout reply.after replies next to
+
 -- ---- all of it
 
 -- The lines of a script are carried out one after another, each whole before the next is read, until the script ends, is refused, or
 -- something fails. The four flags say of the source, the sink, the disk and the entropy whether they tell of their bytes; `leaves` says that each
--- image at each moment has a property, and `have` that each image at the end has it.
-pub record PlaysLines {T : Type 0} (layout : Profile) (result : Result T PlayError) (source sink disk entropy : Bool) (leaves have : (Files → Type 0) → Type 0)
-    (left rest before after drawn drawn_after : List ℕ) (old new : HallState) : Type 0 where
+-- image at each moment has a property, and `have` that each image at the end has it. The disk goes from one to the other, and tells so.
+pub record PlaysLines {T D : Type 0} (layout : Profile) (result : Result T PlayError) (source sink disk entropy : Bool) (leaves have : (Files → Type 0) → Type 0)
+    (told : DiskTold D) (from to : D) (left rest before after drawn drawn_after : List ℕ) (old new : HallState) : Type 0 where
   pub replies : List Reply
   pub behind : List (List ℕ)
   pub few : length replies ≤ most_lines
@@ -144,6 +157,7 @@ pub record PlaysLines {T : Type 0} (layout : Profile) (result : Result T PlayErr
   pub run : IsTrue disk → AreSteps layout old replies new
   pub draws : IsTrue disk → IsTrue entropy → AreDrawn layout old replies drawn drawn_after
   pub moments : IsTrue disk → leaves (IsOnWay layout old replies)
+  pub order : IsTrue disk → GoesThrough told layout old replies from to
 
 -- ---- one line
 

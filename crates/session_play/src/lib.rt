@@ -10,6 +10,6 @@ mod script;
 #[cfg(test)]
 mod tests;
 
-pub use laws::script_is_a_run_law;
+pub use laws::{script_is_a_run_law, script_order_law};
 pub use playing::{MAX_LINES, PlayError, play};
 pub use script::{ScriptStep, step_of};

@@ -1,10 +1,12 @@
 // A script is played.
 ghost use Rattle.std.specs.Prelude.{◌≡◌, ◌≢◌, ◌≤◌, ℕ, false, true, drop, slice_index, Err, IsTrue};
 ghost use Rattle.edge_model.specs.Causes.{Rose};
-ghost use Rattle.edge_model.specs.Images.{Each, LeavesOnly};
+ghost use Rattle.atomic_commit.specs.Facts.{SameFresh};
+ghost use Rattle.edge_model.specs.Images.{Each, From, LeavesOnly};
 ghost use Rattle.cipher_profile.specs.Profile.{IsListed, is_plain};
 ghost use Rattle.session_hall.specs.Kept.{IsHallKept};
 ghost use Rattle.session_hall.specs.Machine.{state};
+ghost use Rattle.session_play.specs.Moments.{disk_told};
 ghost use Rattle.session_play.specs.Play.{Carries, StaysUp, PlaysLines};
 
 use crate::answer::answer_line;
@@ -48,12 +50,14 @@ pub fn play<K: Source, S: Sink, D: Disk, E: Entropy>(
     requires listed { IsListed layout.now }
     requires up { hall.old.is_down ≡ false }
     requires kept { IsTrue D.tells → IsHallKept (D.reads hall.old.disk.now) (D.images hall.old.disk.now) hall.old.sessions.items }
-    // which lines are carried out, their answers and what is printed, that they are a run of the machine, what they draw, and what a stop leaves at
-    // each moment
+    // which lines are carried out, their answers and what is printed, that they are a run of the machine, what they draw, what a stop leaves at each
+    // moment, and that the moments come in the order of the lines
     ensures played { PlaysLines layout.now result K.tells S.tells D.tells E.tells
         (LeavesOnly D.moment D.since hall.old.disk.now hall.new.disk.now) (Each (D.images hall.new.disk.now))
+        (disk_told D.reads D.images D.moment D.since) hall.old.disk.now hall.new.disk.now
         (K.left input.old) (K.left input.new) (S.taken out.old) (S.taken out.new) (E.drawn hall.old.entropy.now) (E.drawn hall.new.entropy.now)
         (state (D.reads hall.old.disk.now) hall.old.layout hall.old.sessions.items hall.old.page) (state (D.reads hall.new.disk.now) hall.new.layout hall.new.sessions.items hall.new.page) }
+    ensures fresh { IsTrue D.tells → LeavesOnly D.moment D.since hall.old.disk.now hall.new.disk.now (From SameFresh (D.images hall.old.disk.now)) }
     // where no step failed, each image is as the disk reads
     ensures up { StaysUp result → hall.new.is_down ≡ false }
     ensures kept { IsTrue D.tells → hall.new.is_down ≡ false → IsHallKept (D.reads hall.new.disk.now) (D.images hall.new.disk.now) hall.new.sessions.items }
@@ -105,6 +109,7 @@ fn play_line<S: Sink, D: Disk, E: Entropy>(
     ensures carried { Carries layout.now number line.now S.tells D.tells E.tells (LeavesOnly D.moment D.since hall.old.disk.now hall.new.disk.now) result
         (S.taken out.old) (S.taken out.new) (E.drawn hall.old.entropy.now) (E.drawn hall.new.entropy.now)
         (state (D.reads hall.old.disk.now) hall.old.layout hall.old.sessions.items hall.old.page) (state (D.reads hall.new.disk.now) hall.new.layout hall.new.sessions.items hall.new.page) }
+    ensures fresh { IsTrue D.tells → LeavesOnly D.moment D.since hall.old.disk.now hall.new.disk.now (From SameFresh (D.images hall.old.disk.now)) }
     ensures unmoved { (n : ℕ) → result ≡ Err (PlayError.ScriptLine n) → hall.new.disk.now ≡ hall.old.disk.now }
     ensures up { StaysUp result → hall.new.is_down ≡ false }
     ensures kept { IsTrue D.tells → hall.new.is_down ≡ false → IsHallKept (D.reads hall.new.disk.now) (D.images hall.new.disk.now) hall.new.sessions.items }

@@ -1,5 +1,5 @@
 -- Behind a recovery the disk was only read, as the status says.
-use Rattle.std.proofs.Common.{◌≡◌, ◌⊎◌, ⊎_elim, ℕ, Bool, true, false, List, Option, Some, None, Result, Ok, Err, if◌then◌else◌, refl, sym, ap, subst, ◌∙◌}
+use Rattle.std.proofs.Common.{◌≡◌, ◌⊎◌, inl, inr, ⊎_elim, ℕ, Bool, true, false, List, Option, Some, None, Result, Ok, Err, if◌then◌else◌, refl, sym, ap, subst, ◌∙◌}
 use Rattle.std.specs.Prelude.{◌≢◌, IfErr, OnOk}
 use Rattle.cipher_profile.specs.declared.key_line.KeyError.{KeyError}
 use Rattle.cipher_profile.specs.declared.key_line.KeyError.TheVariants.{KeyMissing, KeyEmpty, KeyTooLong, KeyForm, SourceFault}
@@ -21,6 +21,7 @@ use Rattle.sqlcipher_tool.specs.Due.{key_answer, word_refusal}
 use Rattle.sqlcipher_tool.specs.Holding.{DiskRun}
 use Rattle.sqlcipher_tool.specs.Migrate.{migrate_error}
 use Rattle.sqlcipher_tool.specs.Stop.{outcome_answer}
+use Rattle.sqlcipher_tool.specs.Untouched.{IsUnwritten}
 use Rattle.sqlcipher_tool.specs.Words.{lacks_tags, layouts_differ}
 use Rattle.sqlcipher_tool.specs.declared.command.Command.{Command}
 use Rattle.sqlcipher_tool.specs.declared.opening.ChangeError.{ChangeError}
@@ -127,9 +128,25 @@ word_last drawing command refusal last is refused has = early_last drawing refus
     early false false is = cc
 
 -- then nothing is said
-pub unread : (status : Status) (drawing : Bool) (profile : Option Profile) (run : DiskRun) → (HasOnlyRead drawing status → ⊥) → LeavesRecovered status drawing profile run
-unread status drawing None run never = tt
-unread status drawing (Some profile) run never = λ has. absurd (never has)
+pub unread : (status : Status) (alters : Bool) (profile : Option Profile) (run : DiskRun) → (HasOnlyRead alters status → ⊥) → IsUnwritten run → LeavesRecovered status alters profile run
+unread status alters None run never still = tt
+unread status alters (Some profile) run never still = (λ has. absurd (never has), λ reads no_fault. inr still)
+
+-- a command that changes the file is not one that only reads
+pub no_reading : {P : Type 0} → true ≡ false → P
+no_reading is = absurd (differ is)
+  where
+    differ : true ≡ false → ⊥
+    differ e = cc
+
+-- a report on the recovery, which was done, or was stopped before a write
+pub outcome_left : {P Q Told : Type 0} (outcome : Result (List ℕ) Stop) (last : Status) → OnOk outcome (Told → P) → IfErr outcome (λ stop. Told → stop ≢ StopDisk → Q)
+    → (outcome ≡ Err StopDisk → last ≡ DiskFault) → Told → last ≢ DiskFault → P ⊎ Q
+outcome_left (Ok report) last done stopped failed told no_fault = inl (done told)
+outcome_left (Err (StopRefused refusal)) last done stopped failed told no_fault = inr (stopped told (λ is. cc))
+outcome_left (Err StopKey) last done stopped failed told no_fault = inr (stopped told (λ is. cc))
+outcome_left (Err StopDisk) last done stopped failed told no_fault = absurd (no_fault (failed refl))
+outcome_left (Err StopMemory) last done stopped failed told no_fault = inr (stopped told (λ is. cc))
 
 -- ---- the changes
 

@@ -6,12 +6,14 @@ use Rattle.std.proofs.lemmas.Slice.Eq.{bytes_eq-Decides}
 use Rattle.cipher_profile.specs.Profile.{is_plain, profile_named}
 use Rattle.cipher_profile.specs.declared.profile.Profile.{Profile}
 use Rattle.edge_model.specs.Causes.{Rose}
+use Rattle.atomic_commit.specs.Facts.{SameFresh}
 use Rattle.edge_model.specs.Files.{Files}
+use Rattle.edge_model.specs.Images.{From}
 use Rattle.rollback_journal.specs.Recovery.{KeepsRecovered}
 use Rattle.rollback_journal.specs.declared.recovery.Recovery.{Recovery}
 use Rattle.rollback_journal.specs.declared.recovery.RecoverError.{RecoverError}
 use Rattle.session_hall.specs.Machine.{HallState}
-use Rattle.session_play.specs.Moments.{IsOnWay}
+use Rattle.session_play.specs.Moments.{DiskTold, IsOnWay}
 use Rattle.session_play.specs.Play.{IsBehind, PlaysLines, line_of_reply, most_lines}
 use Rattle.session_play.specs.Reply.{Reply}
 use Rattle.session_play.specs.Script.{script_lines, step_of}
@@ -79,11 +81,15 @@ draws_or_plain {A} profile plain other = by (is_plain profile) refl
 pub keeps_itself : (size : ℕ) (image : Files) → KeepsRecovered size image image
 keeps_itself size image = record { no_other = λ file is. is; still = λ file is. (file, is); fresh = refl }
 
+-- a recovery keeps Fresh
+pub keeps_fresh : (size : ℕ) (start : Files → Type 0) (image : Files) → From (KeepsRecovered size) start image → From SameFresh start image
+keeps_fresh size start image from = (from.0, from.1, from.2.fresh)
+
 -- a script whose moments leave more
-plays_more : {T : Type 0} (layout : Profile) (played : Result T PlayError) (source sink disk entropy : Bool) {leaves more have : (Files → Type 0) → Type 0}
-    {left rest before after drawn drawn_after : List ℕ} {old new : HallState} → (IsTrue disk → (P : Files → Type 0) → leaves P → more P)
-    → PlaysLines layout played source sink disk entropy leaves have left rest before after drawn drawn_after old new
-    → PlaysLines layout played source sink disk entropy more have left rest before after drawn drawn_after old new
+plays_more : {T D : Type 0} (layout : Profile) (played : Result T PlayError) (source sink disk entropy : Bool) {leaves more have : (Files → Type 0) → Type 0}
+    {told : DiskTold D} {from to : D} {left rest before after drawn drawn_after : List ℕ} {old new : HallState} → (IsTrue disk → (P : Files → Type 0) → leaves P → more P)
+    → PlaysLines layout played source sink disk entropy leaves have told from to left rest before after drawn drawn_after old new
+    → PlaysLines layout played source sink disk entropy more have told from to left rest before after drawn drawn_after old new
 plays_more layout played source sink disk entropy {old = old} gives script = record {
   replies = script.replies;
   behind = script.behind;
@@ -96,12 +102,13 @@ plays_more layout played source sink disk entropy {old = old} gives script = rec
   run = script.run;
   draws = script.draws;
   moments = λ told. gives told (IsOnWay layout old script.replies) (script.moments told);
+  order = script.order;
 }
 
-pub played_more : {T : Type 0} (layout : Profile) (played : Result T PlayError) (source sink disk entropy : Bool) {leaves more : (Files → Type 0) → Type 0}
-    {now : Files} {images : Files → Type 0} {left rest before after drawn drawn_after : List ℕ} {hall : HallState} → (IsTrue disk → (P : Files → Type 0) → leaves P → more P)
-    → IsScriptPlayedIn layout played source sink disk entropy leaves now images left rest before after drawn drawn_after hall
-    → IsScriptPlayedIn layout played source sink disk entropy more now images left rest before after drawn drawn_after hall
+pub played_more : {T D : Type 0} (layout : Profile) (played : Result T PlayError) (source sink disk entropy : Bool) {leaves more : (Files → Type 0) → Type 0}
+    {told : DiskTold D} {from to : D} {now : Files} {images : Files → Type 0} {left rest before after drawn drawn_after : List ℕ} {hall : HallState} → (IsTrue disk → (P : Files → Type 0) → leaves P → more P)
+    → IsScriptPlayedIn layout played source sink disk entropy leaves told from to now images left rest before after drawn drawn_after hall
+    → IsScriptPlayedIn layout played source sink disk entropy more told from to now images left rest before after drawn drawn_after hall
 played_more layout played source sink disk entropy gives script = record {
   last = script.last;
   is_main = script.is_main;
@@ -111,11 +118,11 @@ played_more layout played source sink disk entropy gives script = record {
 }
 
 -- it was played on the recovered file
-pub played_recovered : (layout : Profile) (status : Status) (source sink disk entropy : Bool) {leaves more : (Files → Type 0) → Type 0}
-    {now : Files} {images : Files → Type 0} {left rest before after drawn drawn_after file main : List ℕ} → (IsTrue disk → main ≡ file)
+pub played_recovered : {D : Type 0} (layout : Profile) (status : Status) (source sink disk entropy : Bool) {leaves more : (Files → Type 0) → Type 0}
+    {told : DiskTold D} {from to : D} {now : Files} {images : Files → Type 0} {left rest before after drawn drawn_after file main : List ℕ} → (IsTrue disk → main ≡ file)
     → (IsTrue disk → (P : Files → Type 0) → leaves P → more P)
-    → IsScriptPlayedOn layout main status source sink disk entropy leaves now images left rest before after drawn drawn_after
-    → IsScriptPlayedOn layout file status source sink disk entropy more now images left rest before after drawn drawn_after
+    → IsScriptPlayedOn layout main status source sink disk entropy leaves told from to now images left rest before after drawn drawn_after
+    → IsScriptPlayedOn layout file status source sink disk entropy more told from to now images left rest before after drawn drawn_after
 played_recovered layout status source sink disk entropy same gives script = record {
   played = script.played;
   shown = script.shown;

@@ -1,5 +1,5 @@
 -- What a command that recovers Main first leaves, where behind the recovery it only read.
-use Rattle.std.specs.Prelude.{◌≡◌, ◌<◌, Bool, false, length, Option, Some, None}
+use Rattle.std.specs.Prelude.{◌≡◌, ◌≢◌, ◌⊎◌, ◌<◌, Bool, false, length, Option, Some, None}
 use Rattle.cipher_profile.specs.declared.profile.Profile.{Profile}
 use Rattle.edge_model.specs.Files.{bytes_of, main_of}
 use Rattle.edge_model.specs.Images.{Each}
@@ -7,6 +7,7 @@ use Rattle.rollback_journal.specs.Recovery.{IsPlaybackDone}
 use Rattle.sqlcipher_tool.specs.Answer.{is_early_refusal}
 use Rattle.sqlcipher_tool.specs.Holding.{DiskRun}
 use Rattle.sqlcipher_tool.specs.Promises.{IsUnrecovered}
+use Rattle.sqlcipher_tool.specs.Untouched.{IsUnwritten}
 use Rattle.sqlcipher_tool.specs.declared.opening.ChangeError.{ChangeError}
 use Rattle.sqlcipher_tool.specs.declared.opening.ChangeError.TheVariants.{Stopped, EntropyFault as EntropyFails}
 use Rattle.sqlcipher_tool.specs.declared.opening.Stop.{Stop}
@@ -32,10 +33,16 @@ abbrev pub IsRecovered : Profile → DiskRun → Type 0
 IsRecovered profile run =
     0 < length (main_of run.before) → Each run.at_exit (IsPlaybackDone profile.page_size (bytes_of run.before.main) (bytes_of run.before.journal))
 
--- so it is left by a command that recovers by this profile
+-- the recovery was done, and behind it the disk was only read; or nothing was written
+abbrev pub IsReadOrUnwritten : Profile → DiskRun → Type 0
+IsReadOrUnwritten profile run = IsRecovered profile run ⊎ IsUnwritten run
+
+-- So it is left by a command that recovers by this profile. One that changes nothing leaves the one or the other after every status but a disk
+-- fault: no journal is of its own making.
 abbrev pub LeavesRecovered : Status → Bool → Option Profile → DiskRun → Type 0
 LeavesRecovered status alters None run = Unit {0}
-LeavesRecovered status alters (Some profile) run = HasOnlyRead alters status → IsRecovered profile run
+LeavesRecovered status alters (Some profile) run =
+    (HasOnlyRead alters status → IsRecovered profile run) × (alters ≡ false → status ≢ DiskFault → IsReadOrUnwritten profile run)
 
 -- how a recovery stops a command
 abbrev pub IsOfRecovery : Stop → Type 0

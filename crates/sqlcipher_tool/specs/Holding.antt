@@ -4,6 +4,7 @@ use Rattle.edge_model.specs.Files.{Files}
 use Rattle.page_codec.specs.Page.{FileKeys}
 use Rattle.rollback_journal.specs.Recovery.{Recovers}
 use Rattle.pager.specs.Database.{Stored, database}
+use Rattle.session_play.specs.Moments.{DiskTold, disk_told}
 
 -- a database, and the keys under which it is one
 pub record Held : Type 0 where
@@ -37,7 +38,21 @@ pub record DiskRun : Type 1 where
   pub at_start : Files → Type 0
   pub at_exit : Files → Type 0
   pub ever : Files → Type 0
+  -- the disk itself, from its first value to its last, and what it tells
+  pub device : Type 0
+  pub told : DiskTold device
+  pub from : device
+  pub to : device
 
 abbrev pub disk_run : {D : Type 0} → (D → Files) → (D → Files → Type 0) → (D → ℕ) → (D → ℕ → Files → Type 0) → D → D → DiskRun
-disk_run reads images moment since old new =
-    record { before = reads old; after = reads new; at_start = images old; at_exit = images new; ever = since new (moment old) }
+disk_run {D} reads images moment since old new = record {
+  before = reads old;
+  after = reads new;
+  at_start = images old;
+  at_exit = images new;
+  ever = since new (moment old);
+  device = D;
+  told = disk_told reads images moment since;
+  from = old;
+  to = new;
+}

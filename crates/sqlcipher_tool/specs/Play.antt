@@ -4,10 +4,11 @@ use Rattle.std.specs.Prelude.{◌≡◌, ◌⊎◌, ◌<◌, ◌≤◌, ℕ, Boo
 use Rattle.cipher_profile.specs.Profile.{is_plain}
 use Rattle.cipher_profile.specs.declared.profile.Profile.{Profile}
 use Rattle.edge_model.specs.Files.{Files, main_of}
-use Rattle.edge_model.specs.Images.{Each, From}
+use Rattle.edge_model.specs.Images.{Each, From, LeavesOnly}
 use Rattle.rollback_journal.specs.Recovery.{KeepsRecovered}
 use Rattle.session_hall.specs.Kept.{AreAllClosed, IsHallSettled}
 use Rattle.session_hall.specs.Machine.{HallState}
+use Rattle.session_play.specs.Moments.{DiskTold, StandsAs}
 use Rattle.session_play.specs.Play.{StaysUp, PlaysLines, longest_line, most_lines}
 use Rattle.session_play.specs.Script.{script_lines, step_of}
 use Rattle.session_play.specs.declared.playing.PlayError.{PlayError}
@@ -93,32 +94,40 @@ pub record IsOpenedHall (layout : Profile) (file : List ℕ) (hall : HallState) 
 
 -- The script was played in this hall, which ends as this one. Where no step failed, each image at the end is as the disk reads, with no
 -- journal beside a Main with a byte; what it may be after one that failed is said with the replies.
-pub record IsScriptPlayedIn {T : Type 0} (layout : Profile) (played : Result T PlayError) (source sink disk entropy : Bool) (leaves : (Files → Type 0) → Type 0)
-    (now : Files) (images : Files → Type 0) (left rest before after drawn drawn_after : List ℕ) (hall : HallState) : Type 0 where
+pub record IsScriptPlayedIn {T D : Type 0} (layout : Profile) (played : Result T PlayError) (source sink disk entropy : Bool) (leaves : (Files → Type 0) → Type 0)
+    (told : DiskTold D) (from to : D) (now : Files) (images : Files → Type 0) (left rest before after drawn drawn_after : List ℕ) (hall : HallState) : Type 0 where
   pub last : HallState
   pub is_main : IsTrue disk → last.file ≡ main_of now
-  pub plays : PlaysLines layout played source sink disk entropy leaves (Each images) left rest before after drawn drawn_after hall last
+  pub plays : PlaysLines layout played source sink disk entropy leaves (Each images) told from to left rest before after drawn drawn_after hall last
   pub settled : StaysUp played → IsTrue disk → IsHallSettled now images
   pub taken : IsTrue source → (n : ℕ) × (rest ≡ drop n left)
 
 -- A script was played on this file, and so it ended.
-pub record IsScriptPlayedOn (layout : Profile) (file : List ℕ) (status : Status) (source sink disk entropy : Bool) (leaves : (Files → Type 0) → Type 0)
-    (now : Files) (images : Files → Type 0) (left rest before after drawn drawn_after : List ℕ) : Type 0 where
+pub record IsScriptPlayedOn {D : Type 0} (layout : Profile) (file : List ℕ) (status : Status) (source sink disk entropy : Bool) (leaves : (Files → Type 0) → Type 0)
+    (told : DiskTold D) (from to : D) (now : Files) (images : Files → Type 0) (left rest before after drawn drawn_after : List ℕ) : Type 0 where
   pub played : Result (Unit {0}) PlayError
   pub shown : List ℕ
   pub hall : HallState
   pub opened : IsTrue disk → IsOpenedHall layout file hall
-  pub script : IsScriptPlayedIn layout played source sink disk entropy leaves now images left rest before shown drawn drawn_after hall
+  pub script : IsScriptPlayedIn layout played source sink disk entropy leaves told from to now images left rest before shown drawn drawn_after hall
   pub ends : EndsScript played status sink shown after
 
 -- At each moment an image recovers to what one at the start recovers to, or has this.
 abbrev pub LeavesOldOr : ℕ → DiskRun → (Files → Type 0) → Type 0
 LeavesOldOr size run P = Each run.ever (λ image. From (KeepsRecovered size) run.at_start image ⊎ P image)
 
--- Main was recovered, and a script was played on it.
+-- Main was recovered: up to this disk of the run each image recovers to what one at the start recovers to, and here Main is the recovered file, and
+-- no crash leaves anything else.
+pub record IsRecoveredTo (profile : Profile) (run : DiskRun) (disk : run.device) : Type 0 where
+  pub recovers : IsOk (recovery_of profile run.before)
+  pub keeps : LeavesOnly run.told.moment run.told.since run.from disk (From (KeepsRecovered profile.page_size) run.at_start)
+  pub stands : StandsAs (recovered_main profile run.before) (run.told.reads disk) (run.told.images disk)
+
+-- Main was recovered, and from there on a script was played on it.
 pub record IsScriptPlayed (profile : Profile) (status : Status) (source sink disk entropy : Bool) (run : DiskRun) (left rest before after drawn drawn_after : List ℕ) : Type 0 where
-  pub recovers : IsTrue disk → IsOk (recovery_of profile run.before)
-  pub script : IsScriptPlayedOn profile (recovered_main profile run.before) status source sink disk entropy (LeavesOldOr profile.page_size run) run.after run.at_exit
+  pub begun : run.device
+  pub recovered : IsTrue disk → IsRecoveredTo profile run begun
+  pub script : IsScriptPlayedOn profile (recovered_main profile run.before) status source sink disk entropy (LeavesOldOr profile.page_size run) run.told begun run.to run.after run.at_exit
       left rest before after drawn drawn_after
 
 -- A run of `play`. The four flags say of the source, the sink, the disk and the entropy whether they tell of their bytes.

@@ -1,15 +1,20 @@
 // `play`: a script of sessions on the recovered file.
-ghost use Rattle.std.specs.Prelude.{◌≡◌, ◌≢◌, ◌⊎◌, ◌≤◌, true, false, Err, IsTrue};
+ghost use Rattle.std.specs.Prelude.{◌≡◌, ◌≢◌, ◌⊎◌, ◌≤◌, true, false, Err, IsErr, IsTrue};
 ghost use Rattle.cipher_profile.specs.Profile.{IsListed, is_plain};
 ghost use Rattle.edge_model.specs.Causes.{Rose};
 ghost use Rattle.edge_model.specs.Files.{main_of};
-ghost use Rattle.edge_model.specs.Images.{LeavesOnly};
+ghost use Rattle.edge_model.specs.Images.{From, LeavesOnly};
+ghost use Rattle.atomic_commit.specs.Facts.{SameFresh};
 ghost use Rattle.session_hall.specs.Kept.{IsHallSettled, IsHallKept};
 ghost use Rattle.session_hall.specs.Machine.{state};
+ghost use Rattle.session_play.specs.Moments.{disk_told};
 ghost use Rattle.sqlcipher_tool.specs.Answer.{IsEarly};
+ghost use Rattle.sqlcipher_tool.specs.Crash.{KeepsFresh};
 ghost use Rattle.sqlcipher_tool.specs.Holding.{disk_run};
 ghost use Rattle.sqlcipher_tool.specs.Play.{EndsScript, IsScriptPlayedIn, IsScriptPlayedOn, PlaysScript};
 ghost use Rattle.sqlcipher_tool.specs.Promises.{IsUnrecovered};
+ghost use Rattle.sqlcipher_tool.specs.Recovered.{recovery_of};
+ghost use Rattle.sqlcipher_tool.specs.Untouched.{IsUnwritten};
 
 use crate::conclusion::{conclude_refusal, conclude_stop};
 use crate::recovery::recover_main;
@@ -34,6 +39,8 @@ pub fn play_file<K: Source, S: Sink, E: Entropy, D: Disk>(
     ensures plays { PlaysScript profile result K.tells S.tells D.tells E.tells (disk_run D.reads D.images D.moment D.since disk.old disk.new)
         (K.left input.old) (K.left input.new) (S.taken out.old) (S.taken out.new) (E.drawn entropy.old) (E.drawn entropy.new) }
     ensures undrawn { is_plain profile ≡ true → (entropy.new ≡ entropy.old) × (result ≢ Status.EntropyFault) }
+    ensures fresh { IsTrue D.tells → KeepsFresh (disk_run D.reads D.images D.moment D.since disk.old disk.new) }
+    ensures unwritten { IsTrue D.tells → IsErr (recovery_of profile (D.reads disk.old)) → IsUnwritten (disk_run D.reads D.images D.moment D.since disk.old disk.new) }
     ensures unrecovered { IsTrue D.tells → IsUnrecovered result → D.reads disk.new ≡ D.reads disk.old }
     ensures late { IsEarly result → ⊥ }
     ensures input_fault { result ≡ Status.InputFault → Rose (K.faults input.old) (K.faults input.new) }
@@ -67,7 +74,8 @@ fn play_recovered<K: Source, S: Sink, E: Entropy, D: Disk>(
     requires layout { seats.layout ≡ profile }
     requires settled { IsTrue D.tells → IsHallSettled (D.reads disk.old) (D.images disk.old) }
     ensures played { IsScriptPlayedOn profile (main_of (D.reads disk.old)) result K.tells S.tells D.tells E.tells (LeavesOnly D.moment D.since disk.old disk.new)
-        (D.reads disk.new) (D.images disk.new) (K.left input.old) (K.left input.new) (S.taken out.old) (S.taken out.new) (E.drawn entropy.old) (E.drawn entropy.new) }
+        (disk_told D.reads D.images D.moment D.since) disk.old disk.new (D.reads disk.new) (D.images disk.new) (K.left input.old) (K.left input.new) (S.taken out.old) (S.taken out.new) (E.drawn entropy.old) (E.drawn entropy.new) }
+    ensures fresh { IsTrue D.tells → LeavesOnly D.moment D.since disk.old disk.new (From SameFresh (D.images disk.old)) }
     ensures undrawn { is_plain profile ≡ true → (entropy.new ≡ entropy.old) × (result ≢ Status.EntropyFault) }
     ensures recovered { IsUnrecovered result → ⊥ }
     ensures late { IsEarly result → ⊥ }
@@ -102,8 +110,10 @@ fn play_in<'d, K: Source, S: Sink, D: Disk, E: Entropy>(
     ensures disk { result.0.ghost_name ≡ hall.entry.disk.ghost_name }
     ensures entropy { result.1.ghost_name ≡ hall.entry.entropy.ghost_name }
     ensures played { IsScriptPlayedIn profile.now result.2 K.tells S.tells D.tells E.tells (LeavesOnly D.moment D.since hall.entry.disk.now result.0.now)
+        (disk_told D.reads D.images D.moment D.since) hall.entry.disk.now result.0.now
         (D.reads result.0.now) (D.images result.0.now) (K.left input.old) (K.left input.new) (S.taken out.old) (S.taken out.new) (E.drawn hall.entry.entropy.now) (E.drawn result.1.now)
         (state (D.reads hall.entry.disk.now) hall.entry.layout hall.entry.sessions.items hall.entry.page) }
+    ensures fresh { IsTrue D.tells → LeavesOnly D.moment D.since hall.entry.disk.now result.0.now (From SameFresh (D.images hall.entry.disk.now)) }
     ensures undrawn { is_plain hall.entry.layout ≡ true → (result.1.now ≡ hall.entry.entropy.now) × (result.2 ≢ Err PlayError.EntropyFault) }
     ensures input_fault { result.2 ≡ Err PlayError.InputFault → Rose (K.faults input.old) (K.faults input.new) }
     ensures output_fault { result.2 ≡ Err PlayError.OutputFault → Rose (S.faults out.old) (S.faults out.new) }

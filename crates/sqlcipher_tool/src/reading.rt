@@ -1,5 +1,5 @@
 // The commands that only read: the file is recovered, and read.
-ghost use Rattle.std.specs.Prelude.{◌≡◌, ◌≤◌, Ok, true, false, IsTrue};
+ghost use Rattle.std.specs.Prelude.{◌≡◌, ◌≢◌, ◌≤◌, Ok, true, false, IsTrue};
 ghost use Rattle.edge_model.specs.Images.{From, LeavesOnly};
 ghost use Rattle.edge_model.specs.OnlyRead.{OnlyRead};
 ghost use Rattle.cipher_profile.specs.Profile.{IsListed};
@@ -11,7 +11,7 @@ ghost use Rattle.pager.specs.Opening.{file_opened};
 ghost use Rattle.pager.specs.Pages.{opened_pages};
 ghost use Rattle.pager.specs.Reads.{DiskRead, Untouched};
 ghost use Rattle.rollback_journal.specs.Recovery.{KeepsRecovered};
-ghost use Rattle.sqlcipher_tool.specs.Behind.{HasOnlyRead, IsRecovered};
+ghost use Rattle.sqlcipher_tool.specs.Behind.{HasOnlyRead, IsReadOrUnwritten, IsRecovered};
 ghost use Rattle.sqlcipher_tool.specs.Answer.{HasCauses, PutsLine, is_defect_status};
 ghost use Rattle.sqlcipher_tool.specs.Holding.{disk_run};
 ghost use Rattle.sqlcipher_tool.specs.Opening.{AreRecovered};
@@ -101,6 +101,7 @@ pub fn read_file<S: Sink, E: Entropy, D: Disk>(
     ensures draws { entropy.new ≡ entropy.old }
     ensures unrecovered { IsTrue D.tells → IsUnrecovered result → D.reads disk.new ≡ D.reads disk.old }
     ensures recovered { IsTrue D.tells → HasOnlyRead false result → IsRecovered profile (disk_run D.reads D.images D.moment D.since disk.old disk.new) }
+    ensures left { IsTrue D.tells → result ≢ Status.DiskFault → IsReadOrUnwritten profile (disk_run D.reads D.images D.moment D.since disk.old disk.new) }
     ensures untouched { IsTrue D.tells → HasNoFile profile (D.reads disk.old) → IsUnwritten (disk_run D.reads D.images D.moment D.since disk.old disk.new) }
 {
     match recover_main(alloc, disk, profile) {

@@ -6,7 +6,7 @@ ghost use Rattle.edge_model.specs.Images.{Each, From, LeavesOnly};
 ghost use Rattle.cipher_profile.specs.Profile.{IsListed};
 ghost use Rattle.rollback_journal.specs.Recovery.{IsPlaybackDone, KeepsRecovered};
 ghost use Rattle.session_hall.specs.Kept.{IsHallSettled};
-ghost use Rattle.sqlcipher_tool.specs.Behind.{HasOnlyRead, IsOfRecovery, IsRecovered};
+ghost use Rattle.sqlcipher_tool.specs.Behind.{HasOnlyRead, IsOfRecovery, IsReadOrUnwritten, IsRecovered};
 ghost use Rattle.sqlcipher_tool.specs.Answer.{IsAnswered, HasCauses, Puts, PutsLine};
 ghost use Rattle.sqlcipher_tool.specs.Promises.{IsUnrecovered};
 ghost use Rattle.sqlcipher_tool.specs.Recovered.{recovered_main, recovery_answer, recovery_of, refused_answer};
@@ -39,6 +39,7 @@ pub fn report_recovery<S: Sink, D: Disk>(
     ensures memory_text { result ≡ Status.OutOfMemory → out.new ≡ out.old }
     ensures causes { HasCauses result (D.faults disk.old) (D.faults disk.new) (S.faults out.old) (S.faults out.new) }
     ensures recovered { IsTrue D.tells → HasOnlyRead false result → IsRecovered profile (disk_run D.reads D.images D.moment D.since disk.old disk.new) }
+    ensures left { IsTrue D.tells → result ≢ Status.DiskFault → IsReadOrUnwritten profile (disk_run D.reads D.images D.moment D.since disk.old disk.new) }
     ensures keeps { IsTrue D.tells → LeavesOnly D.moment D.since disk.old disk.new (From (KeepsRecovered profile.page_size) (D.images disk.old)) }
     ensures unrecovered { IsTrue D.tells → IsUnrecovered result → D.reads disk.new ≡ D.reads disk.old }
     ensures untouched { IsTrue D.tells → HasNoFile profile (D.reads disk.old) → IsUnwritten (disk_run D.reads D.images D.moment D.since disk.old disk.new) }

@@ -31,6 +31,7 @@ use crate::text::stamped_report;
 use cipher_profile::{Profile, Secret};
 use db_format::{APPLICATION_ID_AT, CHANGE_AT, SIZE_AT, USER_VERSION_AT, VALID_FOR_AT};
 use edge_model::{Disk, Entropy};
+use number_fields::u32_bytes;
 use page_codec::Codec;
 use pager::{BeginError, CommitFault, OpenedFile, PageError, PageSource, Pager, Txn};
 use std::alloc::Global;
@@ -241,6 +242,6 @@ fn write_number<D: Disk, E: Entropy>(
     ensures later { (D.faults txn.old.disk.now ≤ D.faults txn.new.disk.now) × (E.faults txn.old.entropy.now ≤ E.faults txn.new.entropy.now) }
     ensures file { (txn.new.read ≡ txn.old.read) × (txn.new.write ≡ txn.old.write) × (txn.new.count ≡ txn.old.count) }
 {
-    txn.write(1, at, &number.to_be_bytes())?;
+    txn.write(1, at, &u32_bytes(number))?;
     Ok(())
 }

@@ -6,7 +6,7 @@ ghost use Rattle.edge_model.specs.Causes.{Rose};
 ghost use Rattle.edge_model.specs.Files.{main_of};
 ghost use Rattle.sqlcipher_tool.specs.Answer.{IsEarly, Puts, PutsLine, HasDrawnCauses, is_defect_status};
 ghost use Rattle.sqlcipher_tool.specs.Behind.{LeavesRecovered};
-ghost use Rattle.sqlcipher_tool.specs.Crash.{Keeps, ChangesBy, GaveKeys, DrewOwn};
+ghost use Rattle.sqlcipher_tool.specs.Crash.{Keeps, KeepsFresh, ChangesBy, GaveKeys, DrewOwn};
 ghost use Rattle.sqlcipher_tool.specs.Due.{due, key_answer, key_lines, word_refusal, asked_answers, secret_answers};
 ghost use Rattle.sqlcipher_tool.specs.Holding.{disk_run};
 ghost use Rattle.cipher_profile.specs.declared.profile.Profile.{Profile as Played};
@@ -14,7 +14,8 @@ ghost use Rattle.sqlcipher_tool.specs.Play.{AreNoWords, CanBePlayed, DrawsBytes,
 ghost use Rattle.sqlcipher_tool.specs.Promises.{AnswersOne, AreWordsThat, ComesLate, IsAnsweredEarly, IsUnrecovered, TakesLines, TellsKeys, is_in_the_way, WhereTaken, secrets_of, takes_keys};
 ghost use Rattle.sqlcipher_tool.specs.Servable.{CanBeServed, IsDoneOrStarved, NoneRose};
 ghost use Rattle.sqlcipher_tool.specs.Text.{usage_line};
-ghost use Rattle.sqlcipher_tool.specs.Untouched.{LeavesAlone};
+ghost use Rattle.sqlcipher_tool.specs.Recovered.{recovery_of};
+ghost use Rattle.sqlcipher_tool.specs.Untouched.{IsUnwritten, LeavesAlone};
 ghost use Rattle.sqlcipher_tool.specs.declared.command.Command.{Command as Asked};
 ghost use Rattle.sqlcipher_tool.specs.declared.status.Refusal.{Refusal as Refused};
 ghost use Rattle.sqlcipher_tool.specs.Words.{alters, draws, finds, form, play_form, texts, asked_keys, recovers_by, takes_memory, writes_beside, IsServed};
@@ -107,6 +108,9 @@ pub fn run<K: Source, S: Sink, E: Entropy, D: Disk>(
     ensures plays { (profile : Played) → play_form (texts words.now) ≡ Some profile
         → PlaysScript profile result K.tells S.tells D.tells E.tells (disk_run D.reads D.images D.moment D.since disk.old disk.new)
         (K.left input.old) (K.left input.new) (S.taken out.old) (S.taken out.new) (E.drawn entropy.old) (E.drawn entropy.new) }
+    ensures refused_play { IsTrue D.tells → (profile : Played) → play_form (texts words.now) ≡ Some profile → IsErr (recovery_of profile (D.reads disk.old))
+        → IsUnwritten (disk_run D.reads D.images D.moment D.since disk.old disk.new) }
+    ensures fresh_play { IsTrue D.tells → IsPlay (texts words.now) → KeepsFresh (disk_run D.reads D.images D.moment D.since disk.old disk.new) }
     ensures complete_play { IsTrue K.tells → IsTrue D.tells → CanBePlayed (texts words.now) (K.left input.old) (D.reads disk.old)
         → NoneRose ((K.faults input.old, K.faults input.new) ∷ (S.faults out.old, S.faults out.new)
         ∷ (E.faults entropy.old, E.faults entropy.new) ∷ (D.faults disk.old, D.faults disk.new) ∷ []) → IsDoneOrStarved result }

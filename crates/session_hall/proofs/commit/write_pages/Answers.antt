@@ -2,18 +2,19 @@ use Rattle.std.proofs.Common.{◌≡◌, ◌∙◌, ◌≤◌, inl, ⊎_elim, �
 use Rattle.std.proofs.lemmas.Result.{on_ok_weaker}
 use Rattle.atomic_commit.specs.Commit.{LeavesChanged}
 use Rattle.atomic_commit.specs.Database.{HoldsOld}
+use Rattle.atomic_commit.specs.Facts.{SameFresh}
 use Rattle.cipher_profile.proofs.Layouts.{IsListed-laid_out}
 use Rattle.cipher_profile.specs.Profile.{IsListed, usable}
 use Rattle.cipher_profile.specs.declared.profile.Profile.{Profile}
 use Rattle.edge_model.specs.Files.{Files, main_of}
-use Rattle.edge_model.specs.Images.{LeavesOnly}
+use Rattle.edge_model.specs.Images.{From, LeavesOnly}
 use Rattle.edge_model.specs.OnlyRead.{OnlyRead}
 use Rattle.page_codec.specs.Page.{FileKeys, accepts}
 use Rattle.pager.specs.File.{page_stored}
 use Rattle.pager.specs.Pages.{is_page_number, opened_pages}
 use Rattle.pager.specs.Opening.{IsRefusedBy, file_opened}
 use Rattle.pager.specs.Reads.{then_read}
-use Rattle.session_hall.specs.Commit.{StopsCommit, base_by, put_over}
+use Rattle.session_hall.specs.Commit.{Commitment, StopsCommit, base_by, put_over}
 use Rattle.session_hall.specs.Draws.{HasDrawn}
 use Rattle.session_hall.specs.Kept.{IsHallSettled}
 use Rattle.session_hall.specs.Key.{codec_of}
@@ -24,6 +25,7 @@ use Rattle.session_hall.specs.declared.step.Answer.{Answer}
 use Rattle.session_hall.proofs.Committed.{change_stops, old_read, refused_stops}
 use Rattle.session_hall.proofs.Committing.{all_old, begun, done, done_draws, moments, still_accepted}
 use Rattle.session_hall.proofs.Counting.{counted_open, open_long}
+use Rattle.session_hall.proofs.Fresh.{read_fresh, then_fresh}
 use Rattle.session_hall.proofs.Sound.{read_settled}
 use Rattle.pager.proofs.Bases.{any_base, base_sizes, is_base}
 use Rattle.session_hall.proofs.Standing.{base_begins, each_settled, settled_bare}
@@ -200,12 +202,38 @@ returns-clause-any_moment g c = λ told.
     let w = c.write_changes-disk in
     let end = w.result.0.now in
     let last : c.disk-1.given.0 ≡ end = search rules in
-    subst (λ (y : _). LeavesChanged d.moment d.since (base_by x file) (HasSessionChanges x file) old y) (sym last)
+    let bytes : c.entropy-1.given.0 ≡ w.result.1.now = search rules in
+    subst (λ (y : _). Commitment d.moment d.since x file (IsTrue g.E.Entropy.tells) (g.E.Entropy.drawn c.args.entropy.now) (g.E.Entropy.drawn c.entropy-1.given.0) old y) (sym last)
+    (subst (λ (b : _). Commitment d.moment d.since x file (IsTrue g.E.Entropy.tells) (g.E.Entropy.drawn c.args.entropy.now) (g.E.Entropy.drawn b) old end) (sym bytes)
+    (subst (λ (b : _). Commitment d.moment d.since x file (IsTrue g.E.Entropy.tells) (g.E.Entropy.drawn b) (g.E.Entropy.drawn w.result.1.now) old end) e.entropy.1
     (moments d.reads d.images d.moment d.since g.met.D.Disk.counts_now g.met.D.Disk.only_now d.tells told x old p.disk.now (c.requires.settled told) (c.requires.sound told) c.requires.holds
     c.sizes.ensures listed write_listed p.codec c.in-Ok.write p.count e.some (λ l. codec_is ∙ c.in-Ok.ensures.read told l) (λ l. c.in-Ok.ensures.write told l) (counts told) (run told) g.E.Entropy.tells (g.E.Entropy.drawn p.entropy.now) (g.E.Entropy.drawn w.result.1.now)
     end (subst (λ (s : Session). LeavesChanged d.moment d.since (any_base d.tells p.codec (main_of (d.reads p.disk.now)) p.count)
     (λ main. HasWritten (record { base = any_base d.tells p.codec (main_of (d.reads p.disk.now)) p.count; drawn = g.E.Entropy.drawn p.entropy.now }) p.codec c.in-Ok.write s
-    (λ n. put_over s n ((opened_pages p.codec (main_of (d.reads p.disk.now)) p.count).page n)) g.E.Entropy.tells (g.E.Entropy.drawn w.result.1.now) main) p.disk.now end) c.codecs.ensures.same (w.ensures.any_moment told)))
+    (λ n. put_over s n ((opened_pages p.codec (main_of (d.reads p.disk.now)) p.count).page n)) g.E.Entropy.tells (g.E.Entropy.drawn w.result.1.now) main) p.disk.now end) c.codecs.ensures.same (w.ensures.any_moment told)))))
+
+pub returns-in-Err-clause-fresh : goal.returns-in-Err-clause-fresh
+returns-in-Err-clause-fresh g c = λ told.
+    let d = g.D.Disk in
+    read_fresh d.images d.moment d.since g.met.D.Disk.counts_now g.met.D.Disk.only_now (then_read (c.codecs.ensures.only_read told) (c.read.ensures.only_read told))
+
+pub returns-in_default-clause-fresh : goal.returns-in_default-clause-fresh
+returns-in_default-clause-fresh g c = λ told.
+    let d = g.D.Disk in
+    read_fresh d.images d.moment d.since g.met.D.Disk.counts_now g.met.D.Disk.only_now (c.codecs.ensures.only_read told)
+
+pub returns-clause-fresh : goal.returns-clause-fresh
+returns-clause-fresh g c = λ told.
+    let d = g.D.Disk in
+    let old = c.args.disk.now in
+    let p = c.into_pager-pager.result in
+    let e = c.into_pager-pager.ensures in
+    let run : OnlyRead d.reads d.images d.moment d.since old p.disk.now =
+    subst (λ (y : _). OnlyRead d.reads d.images d.moment d.since old y) (sym e.disk.1) (then_read (c.codecs.ensures.only_read told) (c.read.ensures.only_read told)) in
+    let w = c.write_changes-disk in
+    let last : c.disk-1.given.0 ≡ w.result.0.now = search rules in
+    subst (λ (y : _). LeavesOnly d.moment d.since old y (From SameFresh (d.images old))) (sym last)
+    (then_fresh g.met.D.Disk.counts_now (read_fresh d.images d.moment d.since g.met.D.Disk.counts_now g.met.D.Disk.only_now run) (w.ensures.fresh told))
 
 pub returns-clause-only_old : goal.returns-clause-only_old
 returns-clause-only_old g c = λ is told.

@@ -7,6 +7,7 @@ use Rattle.pager.specs.Reads.{then_read}
 use Rattle.pager.specs.UnderWay.{is_touched, seen_pages}
 use Rattle.session_hall.specs.Commit.{put_over}
 use Rattle.session_hall.specs.Machine.{is_sealed}
+use Rattle.session_hall.proofs.Fresh.{then_fresh}
 use Rattle.session_hall.proofs.writing.put_next.Goals as goal
 
 pub returns-in_err-put_page-2-clause-any_moment : goal.returns-in_err-put_page-2-clause-any_moment
@@ -45,3 +46,9 @@ returns-clause-unrecorded g c = λ none.
     let step = c.in_ok-put_page-2.ensures.unrecorded none in
     let kept = c.in_ok-last.ensures.unrecorded step.0 in
     (kept.0, λ told. then_read (kept.1 told) (step.1 told))
+
+pub returns-in_err-put_page-2-clause-fresh : goal.returns-in_err-put_page-2-clause-fresh
+returns-in_err-put_page-2-clause-fresh g c = λ told. then_fresh g.met.D.Disk.counts_now (c.keep_segment.ensures.fresh told) (c.put_page-2.ensures.fresh told)
+
+pub returns-clause-fresh : goal.returns-clause-fresh
+returns-clause-fresh g c = λ told. then_fresh g.met.D.Disk.counts_now (c.keep_segment.ensures.fresh told) (c.put_page-2.ensures.fresh told)

@@ -1,6 +1,6 @@
 use Rattle.std.proofs.Common.{◌≡◌, ◌∙◌, ◌<◌, ◌||◌, ℕ, true, false, List, None, Result, Err, refl, sym, ap, subst, arith, rules}
 use Rattle.edge_model.specs.Files.{main_of}
-use Rattle.edge_model.specs.Moments.{and_then, started}
+use Rattle.edge_model.specs.Moments.{and_then, started, started_from}
 use Rattle.cipher_profile.specs.Profile.{usable}
 use Rattle.page_codec.specs.Page.{FileKeys, accepts}
 use Rattle.pager.specs.File.{page_stored}
@@ -11,11 +11,13 @@ use Rattle.pager.specs.declared.fill.PageError.{PageError}
 use Rattle.pager.specs.declared.fill.PageError.TheVariants.{DiskFault, EntropyFault}
 use Rattle.pager.proofs.BatchLemmas.{number_in, number_is}
 use Rattle.atomic_commit.specs.Database.{HoldsOld}
+use Rattle.atomic_commit.specs.Facts.{SameFresh}
 use Rattle.atomic_commit.proofs.Batched.{batches_hold_old}
 use Rattle.session_hall.specs.Commit.{put_over}
 use Rattle.session_hall.specs.Machine.{is_sealed}
 use Rattle.session_hall.proofs.SoFar.{all_now, none_yet, one_more}
 use Rattle.session_hall.proofs.Written.{or_nothing, unsealed_same}
+use Rattle.session_hall.proofs.Fresh.{then_fresh}
 use Rattle.session_hall.proofs.writing.put_pages.Goals as goal
 
 -- the error of a page, as that of all of them
@@ -38,6 +40,7 @@ loop-n-init g c =
       under_way = r.1.1.1.1.0;
       unrecorded = λ none told. not_read t.disk.now;
       any_moment = λ told. started g.met.D.Disk.only_now t.disk.now (HoldsOld g.start.base) (λ d here. batches_hold_old g.start.base _ _ _ _ _ _ _ (r.1.1.1.1.0 told).batches d here);
+      fresh = λ told. started_from g.met.D.Disk.only_now t.disk.now SameFresh (λ d. refl);
       names = (refl, refl);
       later = (omega arith, omega arith);
       file = (refl, refl, refl);
@@ -67,6 +70,7 @@ loop-n-preserved g c =
       under_way = ok.under_way;
       unrecorded = λ none told. let step = ok.unrecorded none in then_read (inv.unrecorded step.0 told) (step.1 told);
       any_moment = λ told. and_then (inv.any_moment told) (c.put_next.ensures.any_moment told);
+      fresh = λ told. then_fresh g.met.D.Disk.counts_now (inv.fresh told) (c.put_next.ensures.fresh told);
       names = (c.put_next.ensures.names.0 ∙ inv.names.0, c.put_next.ensures.names.1 ∙ inv.names.1);
       later = (omega (arith, inv.later.0, c.put_next.ensures.later.0), omega (arith, inv.later.1, c.put_next.ensures.later.1));
       file = (c.put_next.ensures.file.0 ∙ inv.file.0, c.put_next.ensures.file.1 ∙ inv.file.1, c.put_next.ensures.file.2 ∙ inv.file.2);
@@ -172,3 +176,9 @@ returns-clause-file g c = c.loop-n.invariant.file
 
 pub returns-clause-unrecorded : goal.returns-clause-unrecorded
 returns-clause-unrecorded g c = c.loop-n.invariant.unrecorded
+
+pub returns-in-Err-clause-fresh : goal.returns-in-Err-clause-fresh
+returns-in-Err-clause-fresh g c told = then_fresh g.met.D.Disk.counts_now (c.loop-n.invariant.fresh told) (c.put_next.ensures.fresh told)
+
+pub returns-clause-fresh : goal.returns-clause-fresh
+returns-clause-fresh g c = c.loop-n.invariant.fresh

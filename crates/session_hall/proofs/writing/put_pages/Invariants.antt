@@ -1,10 +1,11 @@
 use Rattle.std.proofs.Common.{◌≡◌, ◌≤◌, ◌-◌, ℕ, true, false, IsTrue}
 use Rattle.edge_model.specs.Files.{main_of}
-use Rattle.edge_model.specs.Images.{LeavesOnly}
+use Rattle.edge_model.specs.Images.{From, LeavesOnly}
 use Rattle.edge_model.specs.OnlyRead.{OnlyRead}
 use Rattle.pager.specs.Pages.{is_page_number}
 use Rattle.pager.specs.UnderWay.{IsReadyFor, IsUnderWay, is_touched, seen_pages}
 use Rattle.atomic_commit.specs.Database.{HoldsOld}
+use Rattle.atomic_commit.specs.Facts.{SameFresh}
 use Rattle.atomic_commit.specs.Marks.{marked_count}
 use Rattle.session_hall.specs.Commit.{put_over}
 use Rattle.session_hall.specs.Machine.{is_sealed}
@@ -32,6 +33,7 @@ invariant-loop-n g l = record {
       (g.D.Disk.images l.txn.disk.now) g.E.Entropy.tells (g.E.Entropy.drawn l.txn.entropy.now);
   unrecorded : marked_count l.txn.recorded ≡ 0 → IsTrue g.D.Disk.tells → OnlyRead g.D.Disk.reads g.D.Disk.images g.D.Disk.moment g.D.Disk.since l.initial.txn.disk.now l.txn.disk.now;
   any_moment : IsTrue g.D.Disk.tells → LeavesOnly g.D.Disk.moment g.D.Disk.since l.initial.txn.disk.now l.txn.disk.now (HoldsOld g.start.base);
+  fresh : IsTrue g.D.Disk.tells → LeavesOnly g.D.Disk.moment g.D.Disk.since l.initial.txn.disk.now l.txn.disk.now (From SameFresh (g.D.Disk.images l.initial.txn.disk.now));
   names : (l.txn.disk.ghost_name ≡ l.initial.txn.disk.ghost_name) × (l.txn.entropy.ghost_name ≡ l.initial.txn.entropy.ghost_name);
   later : (g.D.Disk.faults l.initial.txn.disk.now ≤ g.D.Disk.faults l.txn.disk.now) × (g.E.Entropy.faults l.initial.txn.entropy.now ≤ g.E.Entropy.faults l.txn.entropy.now);
   file : (l.txn.read ≡ l.initial.txn.read) × (l.txn.write ≡ l.initial.txn.write) × (l.txn.count ≡ l.initial.txn.count);

@@ -11,6 +11,7 @@ use Rattle.pager.specs.Pages.{is_page_number}
 use Rattle.pager.specs.Reads.{then_read}
 use Rattle.pager.specs.UnderWay.{IsReadyFor, is_touched, seen_pages}
 use Rattle.session_hall.proofs.Written.{err_both, never_refused, over_zeros, replaced, still_accepted, touched_twice}
+use Rattle.session_hall.proofs.Fresh.{then_fresh}
 use Rattle.session_hall.proofs.writing.replace.Goals as goal
 
 -- the conditions, by their places: number, other, whole, sizes, ready, under_way, accepted
@@ -61,3 +62,6 @@ returns-clause-unrecorded g c =
     let still = step none in
     let first = c.in_ok-page_zero.ensures.unrecorded (ap marked_count (sym still.0) ∙ none) in
     (ap marked_count (sym first.0) ∙ (ap marked_count (sym still.0) ∙ none), λ told. then_read (first.1.only_read told) (still.1.only_read told))) c.write.ensures.unrecorded
+
+pub returns-clause-fresh : goal.returns-clause-fresh
+returns-clause-fresh g c = λ told. then_fresh g.met.D.Disk.counts_now (c.page_zero.ensures.fresh told) (c.write.ensures.fresh told)

@@ -13,6 +13,7 @@ use Rattle.session_hall.specs.Commit.{put_over}
 use Rattle.session_hall.specs.Machine.{is_sealed}
 use Rattle.session_hall.specs.Writing.{is_unwritten_answer, page_answer}
 use Rattle.session_hall.proofs.Written.{err_map, err_told, new_as, page_failed}
+use Rattle.session_hall.proofs.Fresh.{then_fresh}
 use Rattle.session_hall.proofs.writing.write_all.Goals as goal
 
 -- the conditions, by their places: sizes, base_is, usable, untouched, ready, under_way, accepted
@@ -74,3 +75,6 @@ returns-in-Ok-clause-settled g c =
     on_ok_weaker c.finish.result.2 (λ settled told. ⊎_elim
     (λ still. inl (subst (λ (y : _). OnlyRead d.reads d.images d.moment d.since c.args.txn.disk.now y) (sym still.2) (c.in-Ok.ensures.unrecorded still.1 told)))
     (λ each. inr each) (settled told)) c.finish.ensures.settled
+
+pub returns-in-Ok-clause-fresh : goal.returns-in-Ok-clause-fresh
+returns-in-Ok-clause-fresh g c told = then_fresh g.met.D.Disk.counts_now (c.put_pages.ensures.fresh told) (c.finish.ensures.fresh told)

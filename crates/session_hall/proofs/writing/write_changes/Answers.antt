@@ -13,6 +13,7 @@ use Rattle.pager.specs.UnderWay.{IsUnderWay}
 use Rattle.atomic_commit.specs.Database.{HoldsOld}
 use Rattle.atomic_commit.proofs.Behind.{changed_weaker}
 use Rattle.session_hall.proofs.Written.{begun_layout, from_begun, usable_same}
+use Rattle.session_hall.proofs.Fresh.{still_fresh}
 use Rattle.session_hall.proofs.writing.write_changes.Goals as goal
 
 -- the conditions, by their places: sizes, drawn, base_is, begun, usable, accepted
@@ -88,3 +89,9 @@ returns-in-Ok-clause-settled g c =
     let end = c.write_all.result.0.now in
     on_ok_weaker c.write_all.result.2 (λ settled told. ⊎_elim
     (λ read. inl (subst (λ (x : _). OnlyRead d.reads d.images d.moment d.since x end) c.in-Ok.ensures.disk.1 read)) (λ each. inr each) (settled told)) c.write_all.ensures.settled
+
+pub returns-in-Err-clause-fresh : goal.returns-in-Err-clause-fresh
+returns-in-Err-clause-fresh g c = λ told.
+    let d = g.D.Disk in
+    still_fresh d.images d.moment d.since g.met.D.Disk.counts_now g.met.D.Disk.only_now c.args.pager.disk.now c.into_parts-disk.result.0.now
+    (c.into_parts-disk.ensures.disk.1 ∙ c.in-Err.ensures.back.1)

@@ -7,7 +7,7 @@ use Rattle.session_hall.specs.declared.step.Answer.TheVariants.{DiskFault as Dis
 use Rattle.session_play.specs.AnswerText.{answer_line}
 use Rattle.session_play.specs.declared.playing.PlayError.TheVariants.{DiskFault, EntropyFault, OutOfMemory}
 use Rattle.session_play.proofs.Progress.{failed, printed_answer, printed_fault, put}
-use Rattle.session_play.proofs.Stopping.{made_file, made_leaves}
+use Rattle.session_play.proofs.Stopping.{made_draws, made_file, made_leaves}
 use Rattle.text_lines.specs.Text.{PutsPart}
 use Rattle.session_play.proofs.playing.play_line.Goals as goal
 
@@ -19,8 +19,8 @@ returns-in-DiskFault-clause-carried g c =
     let entry = c.in-Some.entry in (
       failed c.args.layout.now c.args.line.now d.tells g.E.Entropy.tells (LeavesOnly d.moment d.since old.disk.now new.disk.now)
           (g.E.Entropy.drawn old.entropy.now) (g.E.Entropy.drawn new.entropy.now) (state (d.reads old.disk.now) old.layout old.sessions.items old.page) (state (d.reads new.disk.now) new.layout new.sessions.items new.page)
-          entry DiskFails (made_file d.reads d.images d.moment d.since old.disk.now new.disk.now old.layout old.sessions.items old.page entry DiskFails d.tells (λ told. c.in-DiskFault.ensures.any_moment told c.requires.up)) DiskFault (sym c.in-Some.ensures.value) (λ tells. c.in-DiskFault.ensures.told tells c.requires.up) (λ tells draws. c.in-DiskFault.ensures.drawn tells draws c.requires.up)
-          (λ tells. made_leaves d.reads d.images d.moment d.since old.disk.now new.disk.now old.layout old.sessions.items old.page entry DiskFails d.tells (λ told. c.in-DiskFault.ensures.any_moment told c.requires.up) tells (c.requires.kept tells).settled (λ failed. c.in-DiskFault.ensures.only_old failed tells c.requires.up))
+          entry DiskFails (made_file d.reads d.images d.moment d.since old.disk.now new.disk.now old.layout old.sessions.items old.page entry DiskFails g.E.Entropy.tells (g.E.Entropy.drawn old.entropy.now) (g.E.Entropy.drawn new.entropy.now) d.tells (λ told. c.in-DiskFault.ensures.any_moment told c.requires.up)) DiskFault (sym c.in-Some.ensures.value) (λ tells. c.in-DiskFault.ensures.told tells c.requires.up) (λ tells draws. (c.in-DiskFault.ensures.drawn tells draws c.requires.up, made_draws d.reads d.images d.moment d.since old.disk.now new.disk.now old.layout old.sessions.items old.page entry DiskFails g.E.Entropy.tells (g.E.Entropy.drawn old.entropy.now) (g.E.Entropy.drawn new.entropy.now) d.tells (λ told. c.in-DiskFault.ensures.any_moment told c.requires.up) draws))
+          (λ tells. made_leaves d.reads d.images d.moment d.since old.disk.now new.disk.now old.layout old.sessions.items old.page entry DiskFails g.E.Entropy.tells (g.E.Entropy.drawn old.entropy.now) (g.E.Entropy.drawn new.entropy.now) d.tells (λ told. c.in-DiskFault.ensures.any_moment told c.requires.up) tells (c.requires.kept tells).settled (λ failed. c.in-DiskFault.ensures.only_old failed tells c.requires.up))
           refl,
       λ tells. refl,
     )
@@ -33,8 +33,8 @@ returns-in-EntropyFault-clause-carried g c =
     let entry = c.in-Some.entry in (
       failed c.args.layout.now c.args.line.now d.tells g.E.Entropy.tells (LeavesOnly d.moment d.since old.disk.now new.disk.now)
           (g.E.Entropy.drawn old.entropy.now) (g.E.Entropy.drawn new.entropy.now) (state (d.reads old.disk.now) old.layout old.sessions.items old.page) (state (d.reads new.disk.now) new.layout new.sessions.items new.page)
-          entry EntropyFails (made_file d.reads d.images d.moment d.since old.disk.now new.disk.now old.layout old.sessions.items old.page entry EntropyFails d.tells (λ told. c.in-EntropyFault.ensures.any_moment told c.requires.up)) EntropyFault (sym c.in-Some.ensures.value) (λ tells. c.in-EntropyFault.ensures.told tells c.requires.up) (λ tells draws. c.in-EntropyFault.ensures.drawn tells draws c.requires.up)
-          (λ tells. made_leaves d.reads d.images d.moment d.since old.disk.now new.disk.now old.layout old.sessions.items old.page entry EntropyFails d.tells (λ told. c.in-EntropyFault.ensures.any_moment told c.requires.up) tells (c.requires.kept tells).settled (λ failed. c.in-EntropyFault.ensures.only_old failed tells c.requires.up))
+          entry EntropyFails (made_file d.reads d.images d.moment d.since old.disk.now new.disk.now old.layout old.sessions.items old.page entry EntropyFails g.E.Entropy.tells (g.E.Entropy.drawn old.entropy.now) (g.E.Entropy.drawn new.entropy.now) d.tells (λ told. c.in-EntropyFault.ensures.any_moment told c.requires.up)) EntropyFault (sym c.in-Some.ensures.value) (λ tells. c.in-EntropyFault.ensures.told tells c.requires.up) (λ tells draws. (c.in-EntropyFault.ensures.drawn tells draws c.requires.up, made_draws d.reads d.images d.moment d.since old.disk.now new.disk.now old.layout old.sessions.items old.page entry EntropyFails g.E.Entropy.tells (g.E.Entropy.drawn old.entropy.now) (g.E.Entropy.drawn new.entropy.now) d.tells (λ told. c.in-EntropyFault.ensures.any_moment told c.requires.up) draws))
+          (λ tells. made_leaves d.reads d.images d.moment d.since old.disk.now new.disk.now old.layout old.sessions.items old.page entry EntropyFails g.E.Entropy.tells (g.E.Entropy.drawn old.entropy.now) (g.E.Entropy.drawn new.entropy.now) d.tells (λ told. c.in-EntropyFault.ensures.any_moment told c.requires.up) tells (c.requires.kept tells).settled (λ failed. c.in-EntropyFault.ensures.only_old failed tells c.requires.up))
           refl,
       λ tells. refl,
     )
@@ -47,8 +47,8 @@ returns-in-OutOfMemory-clause-carried g c =
     let entry = c.in-Some.entry in (
       failed c.args.layout.now c.args.line.now d.tells g.E.Entropy.tells (LeavesOnly d.moment d.since old.disk.now new.disk.now)
           (g.E.Entropy.drawn old.entropy.now) (g.E.Entropy.drawn new.entropy.now) (state (d.reads old.disk.now) old.layout old.sessions.items old.page) (state (d.reads new.disk.now) new.layout new.sessions.items new.page)
-          entry MemoryEnds (made_file d.reads d.images d.moment d.since old.disk.now new.disk.now old.layout old.sessions.items old.page entry MemoryEnds d.tells (λ told. c.in-OutOfMemory.ensures.any_moment told c.requires.up)) OutOfMemory (sym c.in-Some.ensures.value) (λ tells. c.in-OutOfMemory.ensures.told tells c.requires.up) (λ tells draws. c.in-OutOfMemory.ensures.drawn tells draws c.requires.up)
-          (λ tells. made_leaves d.reads d.images d.moment d.since old.disk.now new.disk.now old.layout old.sessions.items old.page entry MemoryEnds d.tells (λ told. c.in-OutOfMemory.ensures.any_moment told c.requires.up) tells (c.requires.kept tells).settled (λ failed. c.in-OutOfMemory.ensures.only_old failed tells c.requires.up))
+          entry MemoryEnds (made_file d.reads d.images d.moment d.since old.disk.now new.disk.now old.layout old.sessions.items old.page entry MemoryEnds g.E.Entropy.tells (g.E.Entropy.drawn old.entropy.now) (g.E.Entropy.drawn new.entropy.now) d.tells (λ told. c.in-OutOfMemory.ensures.any_moment told c.requires.up)) OutOfMemory (sym c.in-Some.ensures.value) (λ tells. c.in-OutOfMemory.ensures.told tells c.requires.up) (λ tells draws. (c.in-OutOfMemory.ensures.drawn tells draws c.requires.up, made_draws d.reads d.images d.moment d.since old.disk.now new.disk.now old.layout old.sessions.items old.page entry MemoryEnds g.E.Entropy.tells (g.E.Entropy.drawn old.entropy.now) (g.E.Entropy.drawn new.entropy.now) d.tells (λ told. c.in-OutOfMemory.ensures.any_moment told c.requires.up) draws))
+          (λ tells. made_leaves d.reads d.images d.moment d.since old.disk.now new.disk.now old.layout old.sessions.items old.page entry MemoryEnds g.E.Entropy.tells (g.E.Entropy.drawn old.entropy.now) (g.E.Entropy.drawn new.entropy.now) d.tells (λ told. c.in-OutOfMemory.ensures.any_moment told c.requires.up) tells (c.requires.kept tells).settled (λ failed. c.in-OutOfMemory.ensures.only_old failed tells c.requires.up))
           refl,
       λ tells. refl,
     )
@@ -65,9 +65,9 @@ returns-in-Ok-clause-carried g c =
     c.answer_line.ensures ∙ ap (λ (b : ℕ). answer_line b answer) (c.byte_at-byte.ensures ∙ ap (λ (p : List ℕ). slice_index p entry.at) c.last.ensures) in
     put c.args.layout.now c.args.line.now d.tells g.E.Entropy.tells (LeavesOnly d.moment d.since old.disk.now new.disk.now)
     (g.E.Entropy.drawn old.entropy.now) (g.E.Entropy.drawn new.entropy.now) (state (d.reads old.disk.now) old.layout old.sessions.items old.page) (state (d.reads new.disk.now) new.layout new.sessions.items new.page)
-    entry answer (made_file d.reads d.images d.moment d.since old.disk.now new.disk.now old.layout old.sessions.items old.page entry answer d.tells (λ told. c.step-answer.ensures.any_moment told c.requires.up)) (λ text. IsTrue g.S.Sink.tells → g.S.Sink.taken c.put.new.out ≡ g.S.Sink.taken c.args.out.now ++ text)
-    (sym c.in-Some.ensures.value) (λ tells. c.step-answer.ensures.told tells c.requires.up) (λ tells draws. c.step-answer.ensures.drawn tells draws c.requires.up)
-    (λ tells. made_leaves d.reads d.images d.moment d.since old.disk.now new.disk.now old.layout old.sessions.items old.page entry answer d.tells (λ told. c.step-answer.ensures.any_moment told c.requires.up) tells (c.requires.kept tells).settled (λ failed. c.step-answer.ensures.only_old failed tells c.requires.up))
+    entry answer (made_file d.reads d.images d.moment d.since old.disk.now new.disk.now old.layout old.sessions.items old.page entry answer g.E.Entropy.tells (g.E.Entropy.drawn old.entropy.now) (g.E.Entropy.drawn new.entropy.now) d.tells (λ told. c.step-answer.ensures.any_moment told c.requires.up)) (λ text. IsTrue g.S.Sink.tells → g.S.Sink.taken c.put.new.out ≡ g.S.Sink.taken c.args.out.now ++ text)
+    (sym c.in-Some.ensures.value) (λ tells. c.step-answer.ensures.told tells c.requires.up) (λ tells draws. (c.step-answer.ensures.drawn tells draws c.requires.up, made_draws d.reads d.images d.moment d.since old.disk.now new.disk.now old.layout old.sessions.items old.page entry answer g.E.Entropy.tells (g.E.Entropy.drawn old.entropy.now) (g.E.Entropy.drawn new.entropy.now) d.tells (λ told. c.step-answer.ensures.any_moment told c.requires.up) draws))
+    (λ tells. made_leaves d.reads d.images d.moment d.since old.disk.now new.disk.now old.layout old.sessions.items old.page entry answer g.E.Entropy.tells (g.E.Entropy.drawn old.entropy.now) (g.E.Entropy.drawn new.entropy.now) d.tells (λ told. c.step-answer.ensures.any_moment told c.requires.up) tells (c.requires.kept tells).settled (λ failed. c.step-answer.ensures.only_old failed tells c.requires.up))
     (printed_answer answer others.not-DiskFault others.not-EntropyFault others.not-OutOfMemory others.not-Down)
     (λ tells. c.in-Ok.ensures.done tells ∙ ap (λ (t : List ℕ). g.S.Sink.taken c.args.out.now ++ t) text)
 
@@ -90,9 +90,9 @@ returns-in-Err-clause-carried g c =
     c.answer_line.ensures ∙ ap (λ (b : ℕ). answer_line b answer) (c.byte_at-byte.ensures ∙ ap (λ (p : List ℕ). slice_index p entry.at) c.last.ensures) in
     put c.args.layout.now c.args.line.now d.tells g.E.Entropy.tells (LeavesOnly d.moment d.since old.disk.now new.disk.now)
     (g.E.Entropy.drawn old.entropy.now) (g.E.Entropy.drawn new.entropy.now) (state (d.reads old.disk.now) old.layout old.sessions.items old.page) (state (d.reads new.disk.now) new.layout new.sessions.items new.page)
-    entry answer (made_file d.reads d.images d.moment d.since old.disk.now new.disk.now old.layout old.sessions.items old.page entry answer d.tells (λ told. c.step-answer.ensures.any_moment told c.requires.up)) (λ text. IsTrue g.S.Sink.tells → PutsPart text (g.S.Sink.taken c.args.out.now) (g.S.Sink.taken c.put.new.out))
-    (sym c.in-Some.ensures.value) (λ tells. c.step-answer.ensures.told tells c.requires.up) (λ tells draws. c.step-answer.ensures.drawn tells draws c.requires.up)
-    (λ tells. made_leaves d.reads d.images d.moment d.since old.disk.now new.disk.now old.layout old.sessions.items old.page entry answer d.tells (λ told. c.step-answer.ensures.any_moment told c.requires.up) tells (c.requires.kept tells).settled (λ failed. c.step-answer.ensures.only_old failed tells c.requires.up))
+    entry answer (made_file d.reads d.images d.moment d.since old.disk.now new.disk.now old.layout old.sessions.items old.page entry answer g.E.Entropy.tells (g.E.Entropy.drawn old.entropy.now) (g.E.Entropy.drawn new.entropy.now) d.tells (λ told. c.step-answer.ensures.any_moment told c.requires.up)) (λ text. IsTrue g.S.Sink.tells → PutsPart text (g.S.Sink.taken c.args.out.now) (g.S.Sink.taken c.put.new.out))
+    (sym c.in-Some.ensures.value) (λ tells. c.step-answer.ensures.told tells c.requires.up) (λ tells draws. (c.step-answer.ensures.drawn tells draws c.requires.up, made_draws d.reads d.images d.moment d.since old.disk.now new.disk.now old.layout old.sessions.items old.page entry answer g.E.Entropy.tells (g.E.Entropy.drawn old.entropy.now) (g.E.Entropy.drawn new.entropy.now) d.tells (λ told. c.step-answer.ensures.any_moment told c.requires.up) draws))
+    (λ tells. made_leaves d.reads d.images d.moment d.since old.disk.now new.disk.now old.layout old.sessions.items old.page entry answer g.E.Entropy.tells (g.E.Entropy.drawn old.entropy.now) (g.E.Entropy.drawn new.entropy.now) d.tells (λ told. c.step-answer.ensures.any_moment told c.requires.up) tells (c.requires.kept tells).settled (λ failed. c.step-answer.ensures.only_old failed tells c.requires.up))
     (printed_answer answer others.not-DiskFault others.not-EntropyFault others.not-OutOfMemory others.not-Down)
     (λ tells. subst (λ (t : List ℕ). PutsPart t (g.S.Sink.taken c.args.out.now) (g.S.Sink.taken c.put.new.out)) text (c.in-Err.ensures.part tells))
 

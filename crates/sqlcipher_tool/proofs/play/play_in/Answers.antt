@@ -1,4 +1,6 @@
-use Rattle.std.proofs.Common.{◌≡◌, refl}
+use Rattle.std.proofs.Common.{◌≡◌, refl, sym, subst}
+use Rattle.atomic_commit.specs.Facts.{SameFresh}
+use Rattle.edge_model.specs.Images.{From, LeavesOnly}
 use Rattle.session_hall.specs.Machine.{state}
 use Rattle.sqlcipher_tool.proofs.play.play_in.Goals as goal
 
@@ -15,3 +17,8 @@ returns-clause-played g c =
       settled = λ goes told. (c.play-played.ensures.kept told (c.play-played.ensures.up goes)).settled;
       taken = c.play-played.ensures.taken;
     })
+
+pub returns-clause-fresh : goal.returns-clause-fresh
+returns-clause-fresh g c = λ told.
+    let d = g.D.Disk in
+    subst (λ (y : _). LeavesOnly d.moment d.since c.args.hall.disk.now y (From SameFresh (d.images c.args.hall.disk.now))) (sym c.close-disk.ensures.disk.1) (c.play-played.ensures.fresh told)

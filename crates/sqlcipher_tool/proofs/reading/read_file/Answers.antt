@@ -1,4 +1,4 @@
-use Rattle.std.proofs.Common.{ap, false}
+use Rattle.std.proofs.Common.{inl, inr, ap, false}
 use Rattle.edge_model.specs.Files.{main_of}
 use Rattle.sqlcipher_tool.specs.Reading.{reading_answers}
 use Rattle.sqlcipher_tool.specs.Recovered.{recovered_main, recovery_of}
@@ -47,3 +47,9 @@ returns-in-Err-clause-recovered g c = λ told has.
     absurd (recovery_last false c.in-Err.stop c.conclude_stop.result c.in-Err.ensures.of_recovery
     (stop_last c.in-Err.stop c.conclude_stop.result c.conclude_stop.ensures.status
     (λ same. (c.conclude_stop.ensures.disk same).0) (λ same. (c.conclude_stop.ensures.memory same).0)) has)
+
+pub returns-in-Ok-clause-left : goal.returns-in-Ok-clause-left
+returns-in-Ok-clause-left g c = λ told no_fault. inl (λ byte image now. c.in-Ok.ensures.done told byte image ((c.read_recovered.ensures.only_read told).same_images.no_more image now))
+
+pub returns-in-Err-clause-left : goal.returns-in-Err-clause-left
+returns-in-Err-clause-left g c = λ told no_fault. inr (c.in-Err.ensures.unwritten told (λ is. no_fault (c.conclude_stop.ensures.disk is).0))

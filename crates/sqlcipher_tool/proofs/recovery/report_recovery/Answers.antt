@@ -1,6 +1,6 @@
 use Rattle.std.proofs.Common.{ap}
 use Rattle.sqlcipher_tool.specs.Recovered.{recovery_answer, recovery_of}
-use Rattle.sqlcipher_tool.proofs.Behind.{outcome_done}
+use Rattle.sqlcipher_tool.proofs.Behind.{outcome_done, outcome_left}
 use Rattle.sqlcipher_tool.proofs.Conclusions.{outcome_text}
 use Rattle.sqlcipher_tool.proofs.recovery.report_recovery.Goals as goal
 
@@ -19,3 +19,8 @@ returns-clause-recovered g c = λ told has byte.
     outcome_done c.describe_recovery-outcome.result c.conclude_outcome.result c.describe_recovery-outcome.ensures.of_recovery c.conclude_outcome.ensures.status
     (λ is. (c.conclude_outcome.ensures.disk is).0) (λ is. (c.conclude_outcome.ensures.memory is).0)
     c.describe_recovery-outcome.ensures.done has told byte
+
+pub returns-clause-left : goal.returns-clause-left
+returns-clause-left g c = λ told no_fault.
+    outcome_left c.describe_recovery-outcome.result c.conclude_outcome.result c.describe_recovery-outcome.ensures.done c.describe_recovery-outcome.ensures.unwritten
+    (λ is. (c.conclude_outcome.ensures.disk is).0) told no_fault

@@ -17,6 +17,7 @@ use Rattle.sqlcipher_tool.proofs.Answered.{answers_one, keeps_held}
 use Rattle.sqlcipher_tool.proofs.Asked.{causes_as, change_keeps, changes_as, draws_as, no_draws, none_beside, none_refused, not_in_place, undrawn}
 use Rattle.sqlcipher_tool.proofs.Conclusions.{no_part}
 use Rattle.sqlcipher_tool.proofs.Making.{read_stays}
+use Rattle.sqlcipher_tool.proofs.Behind.{no_reading}
 use Rattle.sqlcipher_tool.proofs.top.carry_out.Goals as goal
 
 -- ---- probe
@@ -104,7 +105,7 @@ returns-in-Recover-clause-fresh_gone g c = λ told done beside. absurd (none_bes
 pub returns-in-Recover-clause-recovered : goal.returns-in-Recover-clause-recovered
 returns-in-Recover-clause-recovered g c = λ told.
     let run = disk_run g.D.Disk.reads g.D.Disk.images g.D.Disk.moment g.D.Disk.since c.args.disk.now c.report_recovery.new.disk in
-    subst (λ (command : Asked). LeavesRecovered c.report_recovery.result (alters command) (recovers_by command) run) (sym c.in-Recover.is) (c.report_recovery.ensures.recovered told)
+    subst (λ (command : Asked). LeavesRecovered c.report_recovery.result (alters command) (recovers_by command) run) (sym c.in-Recover.is) (c.report_recovery.ensures.recovered told, λ reads. c.report_recovery.ensures.left told)
 
 -- ---- a reading
 
@@ -148,7 +149,7 @@ returns-in-Read-clause-fresh_gone g c = λ told done beside. absurd (none_beside
 pub returns-in-Read-clause-recovered : goal.returns-in-Read-clause-recovered
 returns-in-Read-clause-recovered g c = λ told.
     let run = disk_run g.D.Disk.reads g.D.Disk.images g.D.Disk.moment g.D.Disk.since c.args.disk.now c.read_file.new.disk in
-    subst (λ (command : Asked). LeavesRecovered c.read_file.result (alters command) (recovers_by command) run) (sym c.in-Read.is) (c.read_file.ensures.recovered told)
+    subst (λ (command : Asked). LeavesRecovered c.read_file.result (alters command) (recovers_by command) run) (sym c.in-Read.is) (c.read_file.ensures.recovered told, λ reads. c.read_file.ensures.left told)
 
 -- ---- a change
 
@@ -192,7 +193,7 @@ returns-in-Change-clause-untouched g c = λ told.
 pub returns-in-Change-clause-recovered : goal.returns-in-Change-clause-recovered
 returns-in-Change-clause-recovered g c = λ told.
     let run = disk_run g.D.Disk.reads g.D.Disk.images g.D.Disk.moment g.D.Disk.since c.args.disk.now c.change_file.new.disk in
-    subst (λ (command : Asked). LeavesRecovered c.change_file.result (alters command) (recovers_by command) run) (sym c.in-Change.is) (c.change_file.ensures.recovered told)
+    subst (λ (command : Asked). LeavesRecovered c.change_file.result (alters command) (recovers_by command) run) (sym c.in-Change.is) (c.change_file.ensures.recovered told, λ reads. no_reading reads)
 
 pub returns-in-Change-clause-fresh_gone : goal.returns-in-Change-clause-fresh_gone
 returns-in-Change-clause-fresh_gone g c = λ told done beside.

@@ -6,6 +6,8 @@ use Rattle.sqlcipher_tool.specs.Due.{asked_answers, command_answers, word_refusa
 use Rattle.sqlcipher_tool.specs.Holding.{disk_run}
 use Rattle.sqlcipher_tool.specs.Play.{PlaysScript}
 use Rattle.sqlcipher_tool.specs.Promises.{AnswersOne, takes_keys}
+use Rattle.std.specs.Prelude.{IsErr}
+use Rattle.sqlcipher_tool.specs.Recovered.{recovery_of}
 use Rattle.sqlcipher_tool.specs.Servable.{IsDoneAlone}
 use Rattle.sqlcipher_tool.specs.Words.{draws, play_form, texts}
 use Rattle.sqlcipher_tool.specs.declared.command.Command.{Command as Asked}
@@ -208,6 +210,16 @@ returns-in-Some-clause-plays g c =
     (g.K.Source.left c.args.input.now) (g.K.Source.left c.play_file.new.input) (g.S.Sink.taken c.args.out.now) (g.S.Sink.taken c.play_file.new.out) (g.E.Entropy.drawn c.args.entropy.now) (g.E.Entropy.drawn c.play_file.new.entropy))
     (one_profile words c.in-Some.played profile played is) c.play_file.ensures.plays
 
+pub returns-in-Some-clause-refused_play : goal.returns-in-Some-clause-refused_play
+returns-in-Some-clause-refused_play g c =
+    let words = texts c.args.words.now in
+    let played : play_form words ≡ Some c.in-Some.played = sym c.played_profile.ensures.form ∙ c.in-Some.is in
+    λ told profile is err.
+    c.play_file.ensures.unwritten told (subst (λ (p : Profile). IsErr (recovery_of p (g.D.Disk.reads c.args.disk.now))) (one_profile words profile c.in-Some.played is played) err)
+
+pub returns-in-Some-clause-fresh_play : goal.returns-in-Some-clause-fresh_play
+returns-in-Some-clause-fresh_play g c = λ told play. c.play_file.ensures.fresh told
+
 pub returns-in-Some-clause-complete_play : goal.returns-in-Some-clause-complete_play
 returns-in-Some-clause-complete_play g c =
     let words = texts c.args.words.now in
@@ -249,6 +261,18 @@ returns-in-None-clause-plays g c =
     let words = texts c.args.words.now in
     let unplayed : play_form words ≡ None = sym c.played_profile.ensures.form ∙ none_by c.played_profile.result c.in_default.not-Some in
     λ profile is. absurd (not_none words profile is unplayed)
+
+pub returns-in-None-clause-refused_play : goal.returns-in-None-clause-refused_play
+returns-in-None-clause-refused_play g c =
+    let words = texts c.args.words.now in
+    let unplayed : play_form words ≡ None = sym c.played_profile.ensures.form ∙ none_by c.played_profile.result c.in_default.not-Some in
+    λ told profile is. absurd (not_none words profile is unplayed)
+
+pub returns-in-None-clause-fresh_play : goal.returns-in-None-clause-fresh_play
+returns-in-None-clause-fresh_play g c =
+    let words = texts c.args.words.now in
+    let unplayed : play_form words ≡ None = sym c.played_profile.ensures.form ∙ none_by c.played_profile.result c.in_default.not-Some in
+    λ told play. absurd (not_none words play.0 play.1 unplayed)
 
 pub returns-in-None-clause-complete_play : goal.returns-in-None-clause-complete_play
 returns-in-None-clause-complete_play g c =
@@ -392,6 +416,20 @@ returns-in-Some-parse_words-clause-plays g c =
     let command = c.in-Some-parse_words.command in
     let formed = sym c.parse_words.ensures.form ∙ c.in-Some-parse_words.is in
     λ profile is. absurd (not_none words profile is unplayed)
+
+pub returns-in-Some-parse_words-clause-refused_play : goal.returns-in-Some-parse_words-clause-refused_play
+returns-in-Some-parse_words-clause-refused_play g c =
+    let words = texts c.args.words.now in
+    let unplayed : play_form words ≡ None = sym c.played_profile.ensures.form ∙ none_by c.played_profile.result c.in_default.not-Some in
+    let command = c.in-Some-parse_words.command in
+    let formed = sym c.parse_words.ensures.form ∙ c.in-Some-parse_words.is in
+    λ told profile is. absurd (not_none words profile is unplayed)
+
+pub returns-in-Some-parse_words-clause-fresh_play : goal.returns-in-Some-parse_words-clause-fresh_play
+returns-in-Some-parse_words-clause-fresh_play g c =
+    let words = texts c.args.words.now in
+    let unplayed : play_form words ≡ None = sym c.played_profile.ensures.form ∙ none_by c.played_profile.result c.in_default.not-Some in
+    λ told play. absurd (not_none words play.0 play.1 unplayed)
 
 pub returns-in-Some-parse_words-clause-complete_play : goal.returns-in-Some-parse_words-clause-complete_play
 returns-in-Some-parse_words-clause-complete_play g c =

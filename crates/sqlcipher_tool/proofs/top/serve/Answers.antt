@@ -59,6 +59,7 @@ returns-in-Some-clause-recovered g c = λ told.
     let is : word_refusal c.args.command ≡ Some c.in-Some.refusal = search rules in
     unread c.conclude_refusal.result (alters c.args.command) (recovers_by c.args.command) _
     (word_last (alters c.args.command) c.args.command c.in-Some.refusal c.conclude_refusal.result is c.conclude_refusal.ensures.status)
+    (unmoved g.D.Disk.reads g.D.Disk.images g.D.Disk.moment g.D.Disk.since g.met.D.Disk.only_now c.args.disk.now)
 
 -- ---- it has its secrets
 
@@ -191,3 +192,4 @@ pub returns-in-Err-clause-recovered : goal.returns-in-Err-clause-recovered
 returns-in-Err-clause-recovered g c = λ told.
     unread c.conclude_key.result (alters c.args.command) (recovers_by c.args.command) _
     (key_last (alters c.args.command) c.in-Err.error c.conclude_key.result c.conclude_key.ensures.refused (λ failed. (c.conclude_key.ensures.failed failed).0))
+    (unmoved g.D.Disk.reads g.D.Disk.images g.D.Disk.moment g.D.Disk.since g.met.D.Disk.only_now c.args.disk.now)

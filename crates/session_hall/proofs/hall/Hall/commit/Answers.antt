@@ -2,7 +2,7 @@ use Rattle.std.proofs.Common.{◌≡◌, ◌∙◌, ◌<◌, true, length, inl, 
 use Rattle.edge_model.specs.Moments.{started}
 use Rattle.edge_model.specs.Files.{main_of}
 use Rattle.session_hall.specs.Commit.{Commitment, CommitsTo}
-use Rattle.session_hall.specs.Draws.{CommitDraws}
+use Rattle.session_hall.specs.Draws.{CommitDraws, TellsDraws}
 use Rattle.session_hall.specs.Kept.{IsSessionSound, StandsAsRead}
 use Rattle.session_hall.specs.Locks.{is_holding}
 use Rattle.session_hall.specs.Machine.{state}
@@ -63,11 +63,11 @@ returns-clause-any_moment g c = λ told.
     let i = c.args.i in
     let small : i < length xs = omega (arith, c.requires.number, s.many) in
     let done = c.commit_session-answer in
-    commit_leaves d.reads d.moment d.since (session_at xs i) s.disk.now done.new.disk done.result done.new.session
+    commit_leaves d.reads d.moment d.since (session_at xs i) (TellsDraws g.E.Entropy.tells s.layout) (g.E.Entropy.drawn s.entropy.now) (g.E.Entropy.drawn done.new.entropy) s.disk.now done.new.disk done.result done.new.session
     (subst (λ (x : Session). CommitsTo x (main_of (d.reads s.disk.now)) done.result (main_of (d.reads done.new.disk)) done.new.session)
     (at_place xs i c.index_mut-2.result.now small c.index_mut-2.ensures.value) (done.ensures.told told))
     (λ is. read_leaves d.reads d.images d.moment d.since g.met.D.Disk.counts_now g.met.D.Disk.only_now s.disk.now done.new.disk (c.requires.kept told).settled (done.ensures.no_memory is told).1)
-    (subst (λ (x : Session). Commitment d.moment d.since x (main_of (d.reads s.disk.now)) s.disk.now done.new.disk)
+    (subst (λ (x : Session). Commitment d.moment d.since x (main_of (d.reads s.disk.now)) (TellsDraws g.E.Entropy.tells s.layout) (g.E.Entropy.drawn s.entropy.now) (g.E.Entropy.drawn done.new.entropy) s.disk.now done.new.disk)
     (at_place xs i c.index_mut-2.result.now small c.index_mut-2.ensures.value) (done.ensures.any_moment told))
 
 pub returns-clause-drawn : goal.returns-clause-drawn
