@@ -1,11 +1,15 @@
 //! Runs of the whole tool over files in memory, which are tests alone: the rows of each command, and several commands on one file, where
-//! what one command leaves is looked at with the others.
+//! what one command leaves is looked at with the others; the lines that it prints; and the adapters over a real folder.
 #![tactic(auto)]
 
 #[cfg(test)]
 mod exports;
 #[cfg(test)]
 mod finds;
+#[cfg(test)]
+mod key_lines;
+#[cfg(test)]
+mod lines;
 #[cfg(test)]
 mod moved_pages;
 #[cfg(test)]
@@ -16,6 +20,8 @@ mod pages;
 mod plain_files;
 #[cfg(test)]
 mod plays;
+#[cfg(test)]
+mod real_folder;
 #[cfg(test)]
 mod renewal;
 #[cfg(test)]

@@ -1,7 +1,7 @@
 // The names that are near that of `find`, on a made file of a hundred rows.
 use crate::served::{KEY, OTHER_KEY, disk_with, made};
 use cipher_profile::read_key;
-use edge_model::{MemEntropy, MemSource, SilentDisk};
+use edge_memory::{MemEntropy, MemSource, SilentDisk};
 use schema_names::{NearName, SchemaKind};
 use sqlcipher_tool::near_names;
 use std::alloc::{AllocError, Global};

@@ -3,7 +3,7 @@ ghost use Rattle.cipher_profile.specs.Profile.{usable};
 ghost use Rattle.std.specs.Prelude.{◌≡◌, length};
 
 use cipher_profile::{Profile, derive, profile_of, read_key};
-use edge_model::MemSource;
+use edge_memory::MemSource;
 use page_codec::Codec;
 use std::alloc::Global;
 use std::process::Abort;

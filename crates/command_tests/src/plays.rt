@@ -2,7 +2,8 @@
 // table, an index and a table without rowids. What the forms of a line are is tried in `session_play`, and stops of a script in `stops`.
 use crate::pages::turn;
 use crate::served::{AMPLE, Given, KEY, OTHER_KEY, disk_with, file_in, made, serve, serve_failing};
-use edge_model::{MemDisk, Role};
+use edge_memory::MemDisk;
+use edge_model::Role;
 use sqlcipher_tool::Status;
 use std::alloc::{AllocError, Global};
 use std::process::Abort;

@@ -1,7 +1,8 @@
 // Several commands on one disk: what one command leaves is looked at with the others, whose own rows compare with values from outside.
 use crate::pages::{Change, sealed};
 use crate::served::{AMPLE, KEY, OTHER_KEY, Step, disk_with, file_in, serve_all};
-use edge_model::{MemDisk, Role};
+use edge_memory::MemDisk;
+use edge_model::Role;
 use std::test::Fail;
 
 const HELD: &str = "tags hold: 4 pages\n";

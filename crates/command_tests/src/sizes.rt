@@ -1,6 +1,7 @@
 // Version 4 with pages of other sizes: what is made in one is found, read and written anew by its word alone.
 use crate::served::{AMPLE, KEY, OTHER_KEY, Step, disk_with, file_in, made, serve_all, told};
-use edge_model::{MemDisk, Role};
+use edge_memory::MemDisk;
+use edge_model::Role;
 use std::test::Fail;
 
 const REFUSED: &str = "key refused\n";

@@ -3,7 +3,8 @@
 use crate::pages::sealed;
 use crate::plays::REKEYED;
 use crate::served::{Given, KEY, OTHER_KEY, disk_with, file_in, made, recovered, serve, told};
-use edge_model::{ImagePick, MemDisk, Role};
+use edge_memory::{ImagePick, MemDisk};
+use edge_model::Role;
 use sqlcipher_tool::Status;
 use std::alloc::{AllocError, Global};
 use std::process::Abort;
@@ -118,30 +119,80 @@ fn disturbed(
     Ok((status, olds, news))
 }
 
-// Each such run leaves one of the two, where each eleventh call is tried, or each one. Answers the first number of calls that is no less
-// than the run's, and how many images had the new file before.
-fn each_leaves_one(
+// Such a run leaves one of the two, and where it is done, the new one. Answers how it ends, and how many images have the new file.
+fn leaves_one(
+    rt: &impl Abort,
+    alloc: Global,
+    trial: &Trial,
+    calls: u64,
+    alone: bool,
+) -> Result<(Status, usize), Fail> {
+    let (status, olds, news) = disturbed(alloc, trial, calls, alone)?;
+    assert_eq!(rt; olds.saturating_add(news), 3, "{calls}");
+    if status == Status::Done {
+        assert_eq!(rt; news, 3, "{calls}");
+    } else {
+        assert_eq!(rt; status, Status::DiskFault, "{calls}");
+    }
+    Ok((status, news))
+}
+
+// Each run that is stopped leaves one of the two, where each such call from this one on is tried. Answers the first number of calls that
+// is no less than the run's, and how many images had the new file before.
+fn each_stop_leaves_one(
     rt: &impl Abort,
     alloc: Global,
     trial: &Trial,
     from: u64,
     step: u64,
-    alone: bool,
 ) -> Result<(u64, usize), Fail> {
     let mut renewed = 0usize;
     let mut calls = from;
     for _ in 0..MOST_CALLS {
-        let (status, olds, news) = disturbed(alloc, trial, calls, alone)?;
-        assert_eq!(rt; olds.saturating_add(news), 3, "{calls}");
+        let (status, news) = leaves_one(rt, alloc, trial, calls, false)?;
         if status == Status::Done {
-            assert_eq!(rt; news, 3, "{calls}");
             return Ok((calls, renewed));
         }
-        assert_eq!(rt; status, Status::DiskFault, "{calls}");
         renewed = renewed.saturating_add(news);
         calls = calls.saturating_add(step);
     }
     panic!(rt; "the run is longer than so many calls");
+}
+
+// Each run of which one call alone fails leaves one of the two, where each such call of these is tried. Answers how many runs ended in a
+// fault, and how many images of them had the new file. A read ahead that fails is no fault: its pages are read once more, one by one.
+fn each_failure_leaves_one(
+    rt: &impl Abort,
+    alloc: Global,
+    trial: &Trial,
+    from: u64,
+    end: u64,
+    step: u64,
+) -> Result<(u64, usize), Fail> {
+    let mut faults = 0u64;
+    let mut renewed = 0usize;
+    let mut calls = from;
+    for _ in 0..MOST_CALLS {
+        if calls >= end {
+            break;
+        }
+        let (status, news) = leaves_one(rt, alloc, trial, calls, true)?;
+        if status == Status::DiskFault {
+            faults = faults.saturating_add(1);
+            renewed = renewed.saturating_add(news);
+        }
+        calls = calls.saturating_add(step);
+    }
+    Ok((faults, renewed))
+}
+
+// Each call of the run is tried, by a stop and by a failure of it alone.
+fn each_call_leaves_one(rt: &impl Abort, alloc: Global, trial: &Trial) -> Result<(), Fail> {
+    let (end, renewed) = each_stop_leaves_one(rt, alloc, trial, 0, 1)?;
+    assert!(rt; end > 15 && renewed > 0, "{end}");
+    let (faults, renewed) = each_failure_leaves_one(rt, alloc, trial, 0, end, 1)?;
+    assert!(rt; faults > 15 && renewed > 0, "{faults}");
+    Ok(())
 }
 
 #[test]
@@ -149,34 +200,43 @@ fn a_stamp_leaves_the_old_file_or_the_stamped_one(rt: HostRuntime) -> Result<(),
     let alloc = rt.alloc();
     let old = sealed(&rt, alloc, "4", KEY, 4, &[])?;
     let stamp = trial_on(alloc, STAMP, "4", old)?;
-    for alone in [false, true] {
-        let (end, renewed) = each_leaves_one(&rt, alloc, &stamp, 0, 1, alone)?;
-        assert!(rt; end > 20 && renewed > 0, "{end}");
-    }
-    Ok(())
+    each_call_leaves_one(&rt, alloc, &stamp)
 }
 
-// A file of more pages than stand in memory, so that its pages are sealed in two batches. Only each eleventh call is tried, and each of
-// the last ones, with which the second batch is committed.
-fn a_rekey_leaves_one(rt: &impl Abort, alloc: Global, alone: bool) -> Result<(), Fail> {
+// The rekey of a file of more pages than stand in memory, so that its pages are sealed in two batches. Of its calls each eleventh is
+// tried, and each of the last ones, with which the second batch is committed.
+fn long_rekey(rt: &impl Abort, alloc: Global) -> Result<Trial, Fail> {
     let rekey = trial_on(alloc, REKEY, "3", made(alloc, "3", "30")?)?;
     assert!(rt; rekey.old.len() / SIZE > FRAMES);
-    let (end, _) = each_leaves_one(rt, alloc, &rekey, 0, 11, alone)?;
+    Ok(rekey)
+}
+
+// So many calls are the last ones.
+const LAST_CALLS: u64 = 30;
+
+#[test]
+fn a_stop_of_a_rekey_leaves_the_old_file_or_the_new_one(rt: HostRuntime) -> Result<(), Fail> {
+    let alloc = rt.alloc();
+    let rekey = long_rekey(&rt, alloc)?;
+    let (end, _) = each_stop_leaves_one(&rt, alloc, &rekey, 0, 11)?;
     assert!(rt; end > 300, "{end}");
-    let from = end.saturating_sub(30);
-    let (last, renewed) = each_leaves_one(rt, alloc, &rekey, from, 1, alone)?;
+    let from = end.saturating_sub(LAST_CALLS);
+    let (last, renewed) = each_stop_leaves_one(&rt, alloc, &rekey, from, 1)?;
     assert!(rt; last <= end && renewed > 0, "{last}");
     Ok(())
 }
 
 #[test]
-fn a_stop_of_a_rekey_leaves_the_old_file_or_the_new_one(rt: HostRuntime) -> Result<(), Fail> {
-    a_rekey_leaves_one(&rt, rt.alloc(), false)
-}
-
-#[test]
 fn a_call_of_a_rekey_that_fails_alone_leaves_one_of_the_two(rt: HostRuntime) -> Result<(), Fail> {
-    a_rekey_leaves_one(&rt, rt.alloc(), true)
+    let alloc = rt.alloc();
+    let rekey = long_rekey(&rt, alloc)?;
+    let (end, _) = each_stop_leaves_one(&rt, alloc, &rekey, 300, 1)?;
+    let (faults, _) = each_failure_leaves_one(&rt, alloc, &rekey, 0, end, 11)?;
+    assert!(rt; faults > 15, "{faults}");
+    let from = end.saturating_sub(LAST_CALLS);
+    let (_, renewed) = each_failure_leaves_one(&rt, alloc, &rekey, from, end, 1)?;
+    assert!(rt; renewed > 0, "{renewed}");
+    Ok(())
 }
 
 // What the first stop behind a write to the file leaves of a rekey: a file whose pages are no longer all of the old key, some of them
@@ -205,8 +265,8 @@ fn a_stop_of_a_migration_leaves_the_old_file_or_the_new_one(rt: HostRuntime) -> 
             disk_with(alloc, old.as_slice())?
         };
         let migrate = trial_from(alloc, MIGRATE, start, "3", old.to_vec(alloc)?)?;
-        let (end, renewed) = each_leaves_one(&rt, alloc, &migrate, 0, 1, false)?;
-        assert!(rt; end > 40 && renewed > 0, "{end}");
+        let (end, renewed) = each_stop_leaves_one(&rt, alloc, &migrate, 0, 1)?;
+        assert!(rt; end > 30 && renewed > 0, "{end}");
     }
     Ok(())
 }
@@ -219,8 +279,8 @@ fn a_plain_migration_leaves_one(
     profile: &'static str,
 ) -> Result<(), Fail> {
     let migrate = trial_on(alloc, given, profile, made(alloc, profile, "7")?)?;
-    let (end, renewed) = each_leaves_one(rt, alloc, &migrate, 0, 1, false)?;
-    assert!(rt; end > 40 && renewed > 0, "{end}");
+    let (end, renewed) = each_stop_leaves_one(rt, alloc, &migrate, 0, 1)?;
+    assert!(rt; end > 30 && renewed > 0, "{end}");
     Ok(())
 }
 
@@ -249,11 +309,7 @@ fn a_stop_of_a_script_leaves_the_old_file_or_the_committed_one(
         let said = told(alloc, &["verify", "4"], key, file.as_slice())?;
         assert!(rt; said.starts_with(b"ok: 4 trees, 4 entries, "));
     }
-    for alone in [false, true] {
-        let (end, renewed) = each_leaves_one(&rt, alloc, &play, 0, 1, alone)?;
-        assert!(rt; end > 20 && renewed > 0, "{end}");
-    }
-    Ok(())
+    each_call_leaves_one(&rt, alloc, &play)
 }
 
 // A script recovers the file first, also where its first line is no step.

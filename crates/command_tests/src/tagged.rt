@@ -4,7 +4,8 @@
 // the bytes 0 to 31.
 use crate::pages::turn;
 use crate::served::{Given, KEY, Step, disk_with, serve_all, serve_failing};
-use edge_model::{MemDisk, Role};
+use edge_memory::MemDisk;
+use edge_model::Role;
 use sqlcipher_tool::Status;
 use std::alloc::Global;
 use std::test::Fail;

@@ -3,7 +3,8 @@ use crate::hex_text::is_hex_of;
 use cipher_profile::{
     HashKind, KeyError, Secret, derive, derive_beside, probed_profiles, profile_of, read_key,
 };
-use edge_model::{MemSource, SilentSource, Source};
+use edge_memory::{MemSource, SilentSource};
+use edge_model::Source;
 use std::alloc::Global;
 use std::test::Fail;
 

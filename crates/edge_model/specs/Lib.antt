@@ -1,15 +1,7 @@
 pub mod Bytes
 pub mod Causes
 pub mod Files
-pub mod Gate
-pub mod Image
 pub mod Images
-pub mod Log
-pub mod LogLaws
-pub mod MemDisk
-pub mod Memory
 pub mod Moments
 pub mod OnlyRead
-pub mod Picks
-pub mod Replay
 pub mod Silent

@@ -4,7 +4,8 @@ ghost use Rattle.db_format.specs.Source.{no_pins};
 
 use crate::sealed::{Piece, lay};
 use db_format::{Header, MemPages, PageSource, RecordView, Value, read_header, write_value_text};
-use edge_model::{MemSink, Sink};
+use edge_memory::MemSink;
+use edge_model::Sink;
 use export_rows::{ExportError, export, put_database, put_end, put_schema_row};
 use row_text::{LineOut, put_entry, put_value};
 use std::alloc::{AllocError, Global};

@@ -3,7 +3,8 @@
 ghost use Rattle.std.specs.Prelude.{◌≡◌};
 
 use crate::sealed::{Piece, codec_of, disk_of, lay, plain_page, sealed};
-use edge_model::{MemEntropy, Role, SilentDisk, SilentEntropy};
+use edge_memory::{MemEntropy, SilentDisk, SilentEntropy};
+use edge_model::Role;
 use page_codec::Codec;
 use pager::Pager;
 use rekey_job::{RekeyError, rekey};

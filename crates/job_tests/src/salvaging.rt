@@ -2,7 +2,8 @@
 use crate::making::make_rows;
 use crate::sealed::{Piece, codec_of, codec_with, disk_of, sealed};
 use cipher_profile::Secret;
-use edge_model::{MemDisk, MemSink, Role};
+use edge_memory::{MemDisk, MemSink};
+use edge_model::Role;
 use page_codec::Codec;
 use salvage_scan::{SalvageError, Salvaged, salvage};
 use std::alloc::Global;

@@ -4,7 +4,7 @@ ghost use Rattle.std.specs.Prelude.{◌≡◌, ◌≤◌, length};
 
 use cipher_profile::{Secret, derive, profile_of};
 use db_format::PageSource;
-use edge_model::{MemDisk, MemEntropy, SilentDisk, SilentEntropy};
+use edge_memory::{MemDisk, MemEntropy, SilentDisk, SilentEntropy};
 use page_codec::Codec;
 use pager::Pager;
 use std::alloc::Global;

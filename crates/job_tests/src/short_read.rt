@@ -1,5 +1,5 @@
 // A page of which the disk reads a part.
-use edge_model::MemDisk;
+use edge_memory::MemDisk;
 use pager::read_page;
 use std::test::Fail;
 

@@ -5,10 +5,10 @@ ghost use Rattle.edge_model.specs.Files.{bytes_of, file_at, written};
 ghost use Rattle.edge_model.specs.Images.{Each, From, LeavesOnly};
 
 use crate::files::{PICKS, disk_with, image_of, plan_faults};
-use edge_model::{
-    Disk, Entropy, Failed, MemDisk, MemEntropy, MemSink, MemSource, Role, SilentDisk,
-    SilentEntropy, SilentSink, SilentSource, Sink, Source, put_all,
+use edge_memory::{
+    MemDisk, MemEntropy, MemSink, MemSource, SilentDisk, SilentEntropy, SilentSink, SilentSource,
 };
+use edge_model::{Disk, Entropy, Failed, Role, Sink, Source, put_all};
 use std::alloc::Global;
 use std::test::Fail;
 

@@ -2,7 +2,8 @@
 // these calls goes on to them, and their proofs stay short.
 ghost use Rattle.std.specs.Prelude.{◌≤◌};
 
-use edge_model::{Disk, ImagePick, MemDisk, Role};
+use edge_memory::{ImagePick, MemDisk};
+use edge_model::{Disk, Role};
 use rollback_journal::{RecoverError, Recovery, recover};
 use std::alloc::Global;
 use std::test::Fail;

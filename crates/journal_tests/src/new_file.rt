@@ -1,6 +1,7 @@
 // A new file beside Main, stopped after every number of calls.
 use crate::files::{PICKS, disk_with, image_of, plan_faults};
-use edge_model::{Failed, ImagePick, MemDisk, MemEntropy, Role, SilentDisk};
+use edge_memory::{ImagePick, MemDisk, MemEntropy, SilentDisk};
+use edge_model::{Failed, Role};
 use fresh_disk::{Pair, Side, publish_new};
 use std::alloc::Global;
 use std::test::Fail;

@@ -2,7 +2,8 @@
 mod writer;
 
 use crate::files::{answer_of, disk_with, each_recovers, is_left, plan_faults, runs_of};
-use edge_model::{MemDisk, Role, SilentDisk};
+use edge_memory::{MemDisk, SilentDisk};
+use edge_model::Role;
 use rollback_journal::{RecoverError, Recovery};
 use std::alloc::Global;
 use std::test::Fail;

@@ -1,78 +1,24 @@
-// The lines on standard error that say why, or what to do.
-use crate::failure::{Conflict, Failure, Shown};
-use crate::folder::Folder;
-use crate::key_words::{explain_new_key, remark_on};
-use crate::near::explain_names;
+// The lines on standard error that say why, or what to do: what was met on the way, how the run ended, and what the files then are.
+use crate::key_words::{explain_key, explain_new_key};
 use crate::plain::{self, is_plain_word};
-use crate::streams::InputSource;
+use crate::refusals::explain_refusal;
 use crate::usage::explain_usage;
-use cipher_profile::probed_profiles;
+use edge_files::{Conflict, Failure, Folder, InputSource, Shown, say};
 use schema_names::NearName;
 use sqlcipher_tool::{Refusal, Status};
-use std::fmt::Display;
 
 /// Memory was refused.
 pub const OUT_OF_MEMORY: &str = "memory ran out";
 
-const SUPER_JOURNAL: &str =
-    "the journal belongs to a transaction over several files, which only the program that wrote them can settle; \
-    nothing was written";
-
-const JOURNAL_THERE: &str =
-    "a journal is there; if its file is too, then on a copy of both `recover 4` plays it back or removes it, or says with which \
-    version `recover` does, as every other command does first";
-
-const KEY_MISSING: &str = "standard input ended before the key line: this command takes one";
-
-const NEW_KEY_MISSING: &str =
-    "standard input ended before the key line: from a plain file one is taken, the new key";
-
-const OLD_KEY_MISSING: &str =
-    "standard input ended before the key line: to a plain file one is taken, the old key";
-
-const TWO_KEYS_MISSING: &str =
-    "standard input ended before the last key line, or the file of the first key has no line feed at its end: this command takes two, \
-    the old key and the new one";
-
-const KEY_EMPTY: &str = "a key line is empty";
-
-const KEY_TOO_LONG: &str = "a key line has at most 1,024 bytes";
-
-const KEY_WITH_SALT: &str =
-    "the key line has a raw key and 32 digits of salt; the file begins with its salt, so give the first 64 digits alone, as x'..'";
-
-const LAYOUT_DIFFERS: &str =
-    "the pages of these two versions differ: `migrate` writes the database anew";
-
-const FILE_THERE: &str = "there is such a file already: `make` takes a new name";
-
-const SHORT: &str =
-    "the file ends before its last page: it was cut, or it was not copied whole; `salvage` prints the rows of the pages that are there";
-
-const RAGGED: &str =
-    "the file does not end with a page: it was cut, or something stands behind its pages; `salvage` prints the rows of its whole pages";
-
-const DAMAGED: &str =
-    "the file is damaged, or its journal is missing: put the FILE-journal of the same moment beside it and give `recover`; \
-    else another copy is the way, or `salvage`, which prints the rows that can still be read";
-
-const TAGS_REFUSED: &str =
-    "a page that is not in use may never have been sealed: `verify` looks at those that are; where one of them is refused the file \
-    is damaged, or its journal is missing";
-
 const OTHER_JOURNAL: &str =
     "the journal may have been another file's, and its pages then stand in this one: a copy made before is the way back";
-
-const SCRIPT_FORMS: &str =
-    "a step is `open S PROFILE KEY`, `share S`, `read S N AT`, `reserve S`, `change S N AT BYTE`, `rekey S PROFILE KEY`, `commit S`, \
-    `release S` or `stop`, its words parted by one space; --help says what they are";
 
 const COMMITS_STAY: &str = "what was committed stays in the file";
 
 const NO_COMMIT: &str = "no line of the script has changed the file";
 
-const CHANGED_MEANWHILE: &str =
-    "another program wrote to the file meanwhile, so this answer is on no one state of it";
+const NOT_HELD: &str =
+    "SQLite's lock on the file is not held, so other programs were looked for and not kept out";
 
 const BLIND: &str =
     "other programs could not be looked for, since /proc/locks does not show the locks here";
@@ -101,18 +47,13 @@ impl<'r, 'f> Ended<'r, 'f> {
         self.words.first() == Some(&"play")
     }
 
-    // The version in the words; 4 where there is none.
-    fn version(&self) -> &'r str {
+    /// The version in the words; 4 where there is none.
+    pub fn version(&self) -> &'r str {
         match self.words {
             [_, version, ..] => version,
             _ => "4",
         }
     }
-}
-
-/// Writes one line. That standard error can't be written is no fault.
-pub fn say<D: Display + Drop>(rt: &HostRuntime, words: D) {
-    let _ = eprintln!(rt; "sqlcipher-tool: {words}");
 }
 
 /// Says what the status and the lines of the output leave open.
@@ -164,10 +105,8 @@ fn explain_others(rt: &HostRuntime, run: &Ended, folder: &Folder) {
     }
     if run.words.first() == Some(&"probe") {
         explain_probed(rt, folder);
-    }
-    let is_answered = run.failure.is_none() && run.status != Status::Usage;
-    if is_answered && folder.was_changed() {
-        say(rt, CHANGED_MEANWHILE);
+    } else if run.conflict().is_none() && folder.is_unguarded() {
+        say(rt, NOT_HELD);
     }
 }
 
@@ -253,187 +192,7 @@ pub fn explain_salvaged(rt: &HostRuntime, counts: &str) {
         rt,
         format_args!(
             "{counts}; rows that were deleted may be among them, and a row that changed its page may come twice. \
-            tools/salvage_to_sql.py turns them into SQL"
-        ),
-    );
-}
-
-/// What a refused key of a script may come of: the answers may be in a file, and the status is that of the whole script.
-pub fn explain_session_key(rt: &HostRuntime) {
-    say(
-        rt,
-        "an answer of the script is `key refused`: the key or the profile that its session was opened with does not fit the file, which may \
-        have another key since a rekey of the script. The README's section \"When the key is refused\" lists what else it may be",
-    );
-}
-
-fn explain_key(rt: &HostRuntime, run: &Ended, input: &InputSource, folder: &mut Folder) {
-    if is_plain_word(run.version()) {
-        say(rt, plain::NO_MAGIC);
-    } else if let Some(head) = folder.plain_head() {
-        plain::explain_unencrypted(rt, head);
-    } else if let Some(words) = remark_on(&input.line) {
-        say(rt, words);
-    } else if run.words.first() == Some(&"probe") {
-        say(
-            rt,
-            "the key fits under no version; an app may set its own rounds or hash. The README's section \"When the key is refused\" \
-            lists what else it may be",
-        );
-    } else if run.words.first() == Some(&"salvage") {
-        say(
-            rt,
-            format_args!(
-                "the key opens no page of the file under version {}: on a copy whose first page is whole `probe` finds the version. The \
-                README's section \"When the key is refused\" lists what else it may be",
-                run.version()
-            ),
-        );
-    } else {
-        let version = run.version();
-        let order = match run.words {
-            ["rekey", ..] => " The first line is the old key.",
-            ["migrate", _, new] if !is_plain_word(new) => " The first line is the old key.",
-            _ => "",
-        };
-        say(
-            rt,
-            format_args!(
-                "the key does not fit under version {version}: `probe` finds the version and the size of its pages.{order} The README's \
-                section \"When the key is refused\" lists what else it may be. Where the first page is damaged, `salvage {version}` opens the \
-                others"
-            ),
-        );
-    }
-}
-
-fn explain_refusal(rt: &HostRuntime, run: &Ended, refusal: Refusal, folder: &mut Folder) {
-    if is_plain_word(run.version()) && is_plain_explained(rt, run.version(), refusal, folder) {
-        return;
-    }
-    match refusal {
-        Refusal::KeyMissing => say(rt, missing_key(run.words)),
-        Refusal::LayoutDiffers => say(rt, other_layout(run.words)),
-        Refusal::NoTable => explain_names(rt, run.words, run.near.as_slice()),
-        Refusal::JournalPageSize { found } => explain_journal(rt, run.version(), found, folder),
-        Refusal::WalMode | Refusal::AutoVacuum => explain_mode(rt, run.version()),
-        Refusal::ScriptLine { line } => say(
-            rt,
-            format_args!("line {line} of the script is no step: {SCRIPT_FORMS}"),
-        ),
-        Refusal::LineTooLong { line } => say(
-            rt,
-            format_args!("line {line} of the script is longer than 1,100 bytes: {SCRIPT_FORMS}"),
-        ),
-        Refusal::TooManyLines => say(
-            rt,
-            "the script goes on after its first 100,000 lines, which were played: the others are a script of their own",
-        ),
-        _ => explain_briefly(rt, run.words, refusal, folder.deeds.laid > 0),
-    }
-}
-
-// A refusal of which always the same is said.
-fn explain_briefly(rt: &HostRuntime, asked: &[&str], refusal: Refusal, is_played: bool) {
-    let words = match refusal {
-        Refusal::KeyEmpty => KEY_EMPTY,
-        Refusal::KeyTooLong => KEY_TOO_LONG,
-        Refusal::KeyForm => KEY_WITH_SALT,
-        Refusal::FileThere => FILE_THERE,
-        Refusal::JournalThere => JOURNAL_THERE,
-        Refusal::SuperJournal => SUPER_JOURNAL,
-        Refusal::Short { .. } => SHORT,
-        Refusal::Ragged { .. } => RAGGED,
-        // After a playback it was said already what it may be.
-        Refusal::PageTag { .. } | Refusal::Defect(_) if is_played => return,
-        Refusal::PageTag { .. } if asked.first() == Some(&"tags") => TAGS_REFUSED,
-        Refusal::PageTag { .. } | Refusal::Defect(_) => DAMAGED,
-        _ => return,
-    };
-    say(rt, words);
-}
-
-// What two profiles are whose pages differ, or of which one has no key.
-fn other_layout(words: &[&str]) -> &'static str {
-    if words.iter().any(|word| is_plain_word(word)) {
-        plain::NO_KEY
-    } else {
-        LAYOUT_DIFFERS
-    }
-}
-
-// How many key lines were to come, and which. A plain file has none.
-fn missing_key(words: &[&str]) -> &'static str {
-    match words {
-        ["migrate", ..] if plain::encrypts(words) => NEW_KEY_MISSING,
-        ["migrate", ..] if plain::decrypts(words) => OLD_KEY_MISSING,
-        ["rekey" | "migrate", ..] => TWO_KEYS_MISSING,
-        _ => KEY_MISSING,
-    }
-}
-
-// Whether a refusal of a plain file was explained otherwise than one of an encrypted file. The word is that of its profile.
-fn is_plain_explained(rt: &HostRuntime, word: &str, refusal: Refusal, folder: &mut Folder) -> bool {
-    match refusal {
-        Refusal::NoTags => say(rt, plain::NO_TAGS),
-        Refusal::HeaderFault { offset, found } => plain::explain_header(rt, offset, found),
-        Refusal::WalMode => plain::explain_log_mode(rt),
-        Refusal::AutoVacuum => plain::explain_vacuum(rt),
-        Refusal::Short { .. } => return plain::explain_other_size(rt, word, folder.plain_head()),
-        _ => return false,
-    }
-    true
-}
-
-// A journal whose pages have another size than those of the version that was given: of a plain file or of an encrypted one.
-fn explain_journal(rt: &HostRuntime, version: &str, found: u32, folder: &mut Folder) {
-    if is_plain_word(version) || folder.plain_head().is_some() {
-        plain::explain_journal(rt, found);
-    } else {
-        explain_journal_pages(rt, found);
-    }
-}
-
-fn explain_journal_pages(rt: &HostRuntime, found: u32) {
-    let beside = "the journal beside the file has pages of another size";
-    let unwritten = "nothing was written";
-    let profiles = probed_profiles();
-    if found == 1024 {
-        say(
-            rt,
-            format_args!(
-                "{beside}: give 3, 2, 1 or 4:1024, the version that wrote it; {unwritten}"
-            ),
-        );
-    } else if found == 4096 {
-        say(rt, format_args!("{beside}: give 4; {unwritten}"));
-    } else if profiles.iter().any(|profile| profile.page_size == found) {
-        say(rt, format_args!("{beside}: give 4:{found}; {unwritten}"));
-    } else {
-        say(
-            rt,
-            format_args!("{beside}, and no version has such pages; {unwritten}"),
-        );
-    }
-}
-
-// A file that has a log's mode, or pointer-map pages, or both.
-fn explain_mode(rt: &HostRuntime, version: &str) {
-    match version.strip_prefix("4:") {
-        Some(size) => say_mode(rt, format_args!("PRAGMA cipher_page_size = {size}; ")),
-        None => say_mode(
-            rt,
-            format_args!("PRAGMA cipher_compatibility = {version}; "),
-        ),
-    }
-}
-
-fn say_mode<D: Display + Drop>(rt: &HostRuntime, settings: D) {
-    say(
-        rt,
-        format_args!(
-            "a file in WAL mode or with auto-vacuum is not served: on a copy of FILE, with FILE-wal, give to `sqlcipher` 4: \
-            PRAGMA key = '..'; {settings}PRAGMA journal_mode = DELETE; PRAGMA auto_vacuum = 0; VACUUM;"
+            sqlcipher-tool-salvage-to-sql turns them into SQL"
         ),
     );
 }
@@ -460,6 +219,10 @@ fn explain_state(rt: &HostRuntime, run: &Ended, folder: &Folder) {
     }
     if deeds.has_changed && run.conflict() == Some(Conflict::JournalTaken) {
         explain_taken(rt, run, folder);
+    } else if folder.has_own_journal() && run.conflict() == Some(Conflict::Replaced)
+        || deeds.has_dropped_orphan
+    {
+        explain_replaced(rt, run, folder);
     } else if deeds.has_changed || deeds.has_renamed {
         explain_either(rt, run, folder);
     } else if matches!(run.status, Status::DiskFault | Status::EntropyFault) {
@@ -509,6 +272,39 @@ fn explain_taken(rt: &HostRuntime, run: &Ended, folder: &Folder) {
             ),
         );
     }
+}
+
+// Another file has the name, beside the journal of the one that was being changed.
+fn explain_replaced(rt: &HostRuntime, run: &Ended, folder: &Folder) {
+    if folder.deeds.has_dropped_orphan {
+        let path = Shown(folder.main_path());
+        say(
+            rt,
+            format_args!(
+                "{path}: what has the name now was not touched; the file that was being changed is gone, and its journal was removed"
+            ),
+        );
+        return;
+    }
+    match folder.whereabouts() {
+        Some(place) => explain_journal_of(rt, run, folder, place.as_path().as_str()),
+        None => explain_journal_of(rt, run, folder, "the file that was being changed"),
+    }
+}
+
+// The journal is that of a file which is elsewhere now.
+fn explain_journal_of(rt: &HostRuntime, run: &Ended, folder: &Folder, moved: &str) {
+    let path = Shown(folder.main_path());
+    let journal = Shown(folder.journal_path());
+    let moved = Shown(moved);
+    let version = run.version();
+    say(
+        rt,
+        format_args!(
+            "{journal}: it belongs to {moved}, and would be played into what has the name {path} now: before anybody opens either of them move \
+            it beside that file, under its name and `-journal`, and give `recover {version}` there"
+        ),
+    );
 }
 
 fn explain_either(rt: &HostRuntime, run: &Ended, folder: &Folder) {
@@ -600,7 +396,7 @@ fn explain_fresh(rt: &HostRuntime, run: &Ended, folder: &mut Folder) {
         say(
             rt,
             format_args!(
-                "{path}: an unfinished new file, no part of the database; it may be removed"
+                "{path}: an unfinished new file, or a second name of the file, and no part of the database; it may be removed"
             ),
         );
     } else {

@@ -19,12 +19,11 @@ commands
   verify PROFILE  check the freelist, the tags of the pages in use, the schema and
                   every tree; prints what is wrong, or `ok:` and the counts
   export PROFILE  check the whole database, and print every row and entry as text,
-                  which tools/export_to_sql.py turns into SQL (it is installed in
-                  share/sqlcipher-tool)
+                  which sqlcipher-tool-export-to-sql turns into SQL
   salvage PROFILE print the rows of a damaged file: those of every page that can be
                   read, whatever became of the others, and which pages and rows
                   can't be. Rows that were deleted may be among them.
-                  tools/salvage_to_sql.py turns the text into SQL
+                  sqlcipher-tool-salvage-to-sql turns the text into SQL
   find PROFILE NAME LOW HIGH
                   print the rows of the table NAME with rowids from LOW to HIGH, as
                   `export` does, and `found: R rows`. It reads the schema and the
@@ -82,11 +81,14 @@ as a key line, and is left out with plain:SIZE. At most 100,000 lines of 1,100 b
   committed stays
 
 who else has the file
-  Where another run of this program has it, or a program that keeps SQLite's
-  locks, a command ends with status 4. It looks before it recovers and before
-  each write; so it does where the file or its journal was replaced meanwhile,
-  or FILE-wal has a byte. `probe` answers beside another program and beside a
-  log, and says that they are there
+  A command holds SQLite's lock on it from start to end: shared where it only
+  reads and no journal is beside the file, else exclusive. Where others have it
+  for two seconds, where the file or its journal is replaced or changed
+  meanwhile, or where FILE-wal has a byte, the status is 4. Where the lock can't
+  be had, others are only looked for, and standard error says so. `probe` and
+  `make` take none. `probe` answers beside another program and beside a log, and
+  says that they are there. A commit of `play` does not raise the header's change
+  counter: a program that is connected may go on with the pages that it has read
 
 profiles
   1, 2, 3, 4      the version of SQLCipher that wrote the file (1 has no tags)
@@ -105,6 +107,8 @@ one for `probe`; none for `recover` and none for plain:SIZE; for `play` its scri
   anything else   a passphrase, 1 to 1,024 bytes up to the line feed
 `rekey`, `migrate` and `make` say which of the two the new key was taken as, and
 look whether the input goes on after it
+sqlcipher-tool-ask takes the same words and asks for the keys unseen, a new one twice;
+to keep a key, give its line twice
 
 exit status
   0  done
@@ -125,7 +129,7 @@ stop or a fault, `recover` settles what the file is.
 examples, on a file FILE
   sqlcipher-tool FILE probe < KEYFILE
   sqlcipher-tool FILE find 4 items 1 20 < KEYFILE
-  IFS= read -rs KEY && printf '%s\\n' \"$KEY\" | sqlcipher-tool FILE tags 4
+  sqlcipher-tool-ask FILE verify 4
   cat OLD_KEYFILE NEW_KEYFILE | sqlcipher-tool FILE rekey 4 4
   cat KEYFILE KEYFILE | sqlcipher-tool FILE migrate 3 4
   sqlcipher-tool FILE migrate plain:4096 4 < NEW_KEYFILE

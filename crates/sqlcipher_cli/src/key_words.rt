@@ -1,8 +1,25 @@
-// Remarks on key lines. No byte of a key is printed.
-use crate::advice::say;
-use crate::key_line::KeyLine;
-use crate::plain::{OLD_ROWS, encrypts, is_plain_word};
-use crate::streams::InputSource;
+// What is said of key lines: which is asked for, what one may have been meant as, why a key was refused. No byte of a key is printed.
+use crate::advice::Ended;
+use crate::plain::{self, OLD_ROWS, decrypts, encrypts, is_plain_word};
+use edge_files::{Folder, InputSource, KeyLine, Prompt, say};
+
+const OLD_KEY: &str =
+    "the key of the file, and Enter; it is shown here, and sqlcipher-tool-ask does not show it";
+
+const NEW_KEY: &str =
+    "the new key, and Enter; it is shown here, and sqlcipher-tool-ask asks for it unseen and twice";
+
+const KEY_MISSING: &str = "standard input ended before the key line: this command takes one";
+
+const NEW_KEY_MISSING: &str =
+    "standard input ended before the key line: from a plain file one is taken, the new key";
+
+const OLD_KEY_MISSING: &str =
+    "standard input ended before the key line: to a plain file one is taken, the old key";
+
+const TWO_KEYS_MISSING: &str =
+    "standard input ended before the last key line, or the file of the first key has no line feed at its end: this command takes two, \
+    the old key and the new one";
 
 const BARE_KEY: &str =
     "the key line is 64 hex digits and was taken as a passphrase; a raw key is written x'..'";
@@ -36,8 +53,39 @@ const SAME_KEY: &str =
 
 const VERSION_1: &str = "version 1 has no tags: a page that is changed later is not noticed";
 
-/// What the form of a key line tells of how else it may have been meant.
-pub fn remark_on(line: &KeyLine) -> Option<&'static str> {
+/// What one is asked for who types the lines of this command.
+pub fn prompt_of(words: &[&str]) -> Prompt {
+    match words {
+        ["play", ..] => one("the script, a step a line, and Ctrl-D behind the last one"),
+        ["make", ..] => one(NEW_KEY),
+        ["migrate", ..] if encrypts(words) => one(NEW_KEY),
+        ["rekey" | "migrate", ..] if !decrypts(words) => Prompt {
+            first: OLD_KEY,
+            second: Some(NEW_KEY),
+        },
+        _ => one(OLD_KEY),
+    }
+}
+
+fn one(first: &'static str) -> Prompt {
+    Prompt {
+        first,
+        second: None,
+    }
+}
+
+/// How many key lines were to come, and which. A plain file has none.
+pub fn missing_key(words: &[&str]) -> &'static str {
+    match words {
+        ["migrate", ..] if encrypts(words) => NEW_KEY_MISSING,
+        ["migrate", ..] if decrypts(words) => OLD_KEY_MISSING,
+        ["rekey" | "migrate", ..] => TWO_KEYS_MISSING,
+        _ => KEY_MISSING,
+    }
+}
+
+// What the form of a key line tells of how else it may have been meant.
+fn remark_on(line: &KeyLine) -> Option<&'static str> {
     if line.is_bare_key() {
         Some(BARE_KEY)
     } else if line.ends_in_return() {
@@ -115,4 +163,54 @@ fn explain_line(rt: &HostRuntime, line: &KeyLine) {
     if let Some(words) = remark_on(line) {
         say(rt, format_args!("of the new key: {words}"));
     }
+}
+
+/// Says why the key may have been refused.
+pub fn explain_key(rt: &HostRuntime, run: &Ended, input: &InputSource, folder: &mut Folder) {
+    if is_plain_word(run.version()) {
+        say(rt, plain::NO_MAGIC);
+    } else if let Some(head) = folder.plain_head() {
+        plain::explain_unencrypted(rt, head);
+    } else if let Some(words) = remark_on(&input.line) {
+        say(rt, words);
+    } else if run.words.first() == Some(&"probe") {
+        say(
+            rt,
+            "the key fits under no version; an app may set its own rounds or hash. The README's section \"When the key is refused\" \
+            lists what else it may be",
+        );
+    } else if run.words.first() == Some(&"salvage") {
+        say(
+            rt,
+            format_args!(
+                "the key opens no page of the file under version {}: on a copy whose first page is whole `probe` finds the version. The \
+                README's section \"When the key is refused\" lists what else it may be",
+                run.version()
+            ),
+        );
+    } else {
+        let version = run.version();
+        let order = match run.words {
+            ["rekey", ..] => " The first line is the old key.",
+            ["migrate", _, new] if !is_plain_word(new) => " The first line is the old key.",
+            _ => "",
+        };
+        say(
+            rt,
+            format_args!(
+                "the key does not fit under version {version}: `probe` finds the version and the size of its pages.{order} The README's \
+                section \"When the key is refused\" lists what else it may be. Where the first page is damaged, `salvage {version}` opens the \
+                others"
+            ),
+        );
+    }
+}
+
+/// What a refused key of a script may come of: the answers may be in a file, and the status is that of the whole script.
+pub fn explain_session_key(rt: &HostRuntime) {
+    say(
+        rt,
+        "an answer of the script is `key refused`: the key or the profile that its session was opened with does not fit the file, which may \
+        have another key since a rekey of the script. The README's section \"When the key is refused\" lists what else it may be",
+    );
 }

@@ -12,37 +12,24 @@ ghost use Rattle.sqlcipher_tool.specs.declared.command.Command.{Command as Asked
 ghost use Rattle.sqlcipher_tool.specs.declared.status.Refusal.{Refusal as Refused};
 
 mod advice;
-mod failure;
-mod folder;
-mod folder_disk;
 mod help;
-mod identity;
-mod key_line;
 mod key_words;
-mod lock_table;
 mod near;
-mod paths;
 mod plain;
-mod progress;
-mod role_file;
-mod streams;
-#[cfg(test)]
-mod tests;
-mod undo;
+mod refusals;
 mod usage;
 
 use advice::Ended;
-use failure::failed;
-use folder_disk::FolderDisk;
+use edge_files::{
+    DeviceEntropy, FolderDisk, InputSource, OutputSink, Paths, Progress, StandIns, failed, say,
+};
+use key_words::{explain_session_key, prompt_of};
 use near::names_near;
-use paths::Paths;
 use plain::decrypts;
-use progress::Progress;
 use sqlcipher_tool::{Refusal, Status, run};
 use std::alloc::{AllocError, Global};
 use std::process::ExitCode;
 use std::{env, io};
-use streams::{DeviceEntropy, InputSource, OutputSink, StandIns};
 
 fn main(rt: HostRuntime) -> ExitCode {
     let _stand_ins = StandIns::new(&rt);
@@ -157,7 +144,7 @@ fn asks_version(words: &[&str]) -> bool
 fn out_of_memory(rt: &HostRuntime) -> Status
     ensures { result ≡ Status.OutOfMemory }
 {
-    advice::say(rt, advice::OUT_OF_MEMORY);
+    say(rt, advice::OUT_OF_MEMORY);
     Status::OutOfMemory
 }
 
@@ -167,7 +154,7 @@ fn print(rt: &HostRuntime, text: &str) -> Status
     match rt.print(text) {
         Ok(()) => Status::Done,
         Err(error) => {
-            advice::say(rt, failed("standard output", "write", error));
+            say(rt, failed("standard output", "write", error));
             Status::OutputFault
         }
     }
@@ -192,7 +179,7 @@ fn serve(rt: &HostRuntime, file: &str, words: &[&str]) -> Status
     };
     disk.folder.is_decrypting = decrypts(words);
     let is_play = words.first() == Some(&"play");
-    let mut input = InputSource::new(rt, is_play);
+    let mut input = InputSource::new(rt, is_play, prompt_of(words));
     let mut out = OutputSink::new(rt, &progress);
     let mut entropy = DeviceEntropy::new(rt);
     let alloc = rt.alloc();
@@ -203,7 +190,7 @@ fn serve(rt: &HostRuntime, file: &str, words: &[&str]) -> Status
         None
     };
     progress.clear();
-    disk.folder.discard_fresh();
+    disk.folder.settle();
     let failure = match status {
         Status::DiskFault => disk.last,
         Status::OutputFault => out.last,
@@ -223,7 +210,7 @@ fn serve(rt: &HostRuntime, file: &str, words: &[&str]) -> Status
         advice::explain_salvaged(rt, out.last_line());
     }
     if out.has_refused_key && is_play {
-        advice::explain_session_key(rt);
+        explain_session_key(rt);
     }
     status
 }

@@ -1,11 +1,7 @@
 // The names that are near that of `find`, where there is no table of it: on standard error, since the answer is given.
-use crate::advice::say;
-use crate::failure::Shown;
-use crate::folder_disk::FolderDisk;
-use crate::key_line::{KeptLine, KeyLine};
 use crate::plain::is_plain_word;
-use crate::streams::DeviceEntropy;
 use cipher_profile::{Secret, read_key};
+use edge_files::{DeviceEntropy, FolderDisk, KeptLine, KeyLine, Shown, say};
 use schema_names::{NearName, SchemaKind};
 use sqlcipher_tool::near_names;
 use std::str;

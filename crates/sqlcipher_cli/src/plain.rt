@@ -3,13 +3,9 @@ ghost use Rattle.std.specs.Prelude.{◌≡◌};
 ghost use Rattle.sqlcipher_cli.specs.Plain.{decrypts, encrypts, names_plain};
 ghost use Rattle.sqlcipher_tool.specs.Words.{texts};
 
-use crate::advice::say;
-use crate::failure::Shown;
 use cipher_profile::{Profile, profile_of};
+use edge_files::{PlainHead, say};
 use std::fmt::Display;
-
-/// The first bytes of a plain file, and of no encrypted one whose salt is random.
-pub const MAGIC: [u8; 16] = *b"SQLite format 3\0";
 
 /// Why the words of a plain file fit no file that does not begin with them.
 pub const NO_MAGIC: &str =
@@ -35,22 +31,6 @@ pub const NO_TAGS: &str = "a plain file has no tags: `verify` checks its structu
 const RESERVED: &str =
     "where SQLite wrote it, `sqlite3 FILE .dump | sqlite3 NEW` gives a file without them (VACUUM keeps them, and the user version has to be \
     set anew); where SQLCipher wrote it with its first bytes in the clear (`cipher_plaintext_header_size`), it is not served";
-
-/// What a file that begins as plain ones do says of its pages.
-#[derive(Clone, Copy)]
-pub struct PlainHead {
-    /// The field of their size, in bytes; 1 means 65,536.
-    pub field: u32,
-    /// How many bytes at the end of each hold no content.
-    pub reserve: u8,
-}
-
-impl PlainHead {
-    /// The profile of such a file, where its pages have a size of SQLite's.
-    fn profile(&self) -> Option<Profile> {
-        sized(self.field)
-    }
-}
 
 /// Whether a word names plain files.
 pub fn is_plain_word(word: &str) -> bool
@@ -82,6 +62,11 @@ pub fn encrypts(words: &[&str]) -> bool
     }
 }
 
+// The profile of a file that begins so, where its pages have a size of SQLite's.
+fn profile_at(head: PlainHead) -> Option<Profile> {
+    sized(head.field)
+}
+
 // The profile of plain files whose header has this number as the size of a page.
 fn sized(field: u32) -> Option<Profile> {
     of_size(if field == 1 { 65_536 } else { field })
@@ -106,7 +91,7 @@ fn of_size(size: u32) -> Option<Profile> {
 pub fn explain_unencrypted(rt: &HostRuntime, head: PlainHead) {
     let begins = "the file begins with `SQLite format 3`";
     let reserve = head.reserve;
-    match head.profile() {
+    match profile_at(head) {
         Some(profile) if reserve == 0 => {
             let size = profile.page_size;
             say(
@@ -149,7 +134,7 @@ pub fn explain_header(rt: &HostRuntime, offset: u32, found: u32) {
 /// Says which word the file has where another one was given. Answers whether there is something to say.
 pub fn explain_other_size(rt: &HostRuntime, word: &str, head: Option<PlainHead>) -> bool {
     let found = match head {
-        Some(head) => head.profile(),
+        Some(head) => profile_at(head),
         None => None,
     };
     match (profile_of(word), found) {
@@ -198,17 +183,6 @@ pub fn explain_vacuum(rt: &HostRuntime) {
     say(
         rt,
         "a file with auto-vacuum is not served: on a copy of FILE give `sqlite3 FILE 'PRAGMA auto_vacuum = 0; VACUUM'`",
-    );
-}
-
-/// Says what a plain file is that takes the place of an encrypted one.
-pub fn warn_of_clear_rows(rt: &HostRuntime, path: &str) {
-    say(
-        rt,
-        format_args!(
-            "{}: the new file holds every row in the clear; the old encrypted pages will be gone from this name, but not from the device",
-            Shown(path)
-        ),
     );
 }
 

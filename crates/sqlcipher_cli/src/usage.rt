@@ -1,7 +1,6 @@
 // Why the words are no command.
-use crate::advice::say;
-use crate::failure::Shown;
 use cipher_profile::profile_of;
+use edge_files::{Shown, say};
 
 /// The commands that take a version and nothing else.
 const ON_ONE_VERSION: [&str; 7] = [

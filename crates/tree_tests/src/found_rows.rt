@@ -3,7 +3,7 @@
 use crate::real_pages::PAGES;
 use btree_walk::WalkError;
 use db_format::{Counted, Defect, MemPages};
-use edge_model::MemSink;
+use edge_memory::MemSink;
 use rowid_find::{FindError, find};
 use std::alloc::{AllocError, Global};
 use std::process::Abort;

@@ -6,7 +6,7 @@ ghost use Rattle.rollback_journal.specs.Writing.{at_first};
 use super::whole::{change_in_batches, undo_batch};
 use crate::files::{disk_with, each_recovers, plan_faults, runs_of};
 use atomic_commit::{Changes, DrawFailed, PageMarks, PageNumbers};
-use edge_model::{MemDisk, SilentDisk};
+use edge_memory::{MemDisk, SilentDisk};
 use rollback_journal::JournalWriter;
 use std::alloc::Global;
 use std::test::Fail;

@@ -3,7 +3,8 @@ ghost use Rattle.std.specs.Prelude.{◌≡◌, IfOk, OnOk};
 ghost use Rattle.rollback_journal.specs.Writing.{at_first};
 
 use crate::files::{answer_of, disk_with, is_left, plan_faults, runs_of};
-use edge_model::{Disk, Failed, Role, SilentDisk};
+use edge_memory::SilentDisk;
+use edge_model::{Disk, Failed, Role};
 use rollback_journal::{JournalWriter, Stage};
 use std::alloc::Global;
 use std::test::Fail;

@@ -1,0 +1,31 @@
+//! The outside as the system has it: the three files of a folder, the standard streams and the system's random bytes, and who else
+//! is at the files. The traits are those of `edge_model`; the implementations here tell nothing of their bytes.
+#![tactic(auto)]
+
+mod failure;
+mod folder;
+mod folder_disk;
+mod held_lock;
+mod identity;
+mod key_line;
+mod lock_table;
+mod paths;
+mod plain_head;
+mod progress;
+mod prompt;
+mod role_file;
+mod standard_error;
+mod streams;
+mod undo;
+
+pub use failure::{Conflict, Failure, Shown, failed};
+pub use folder::{Deeds, Folder};
+pub use folder_disk::FolderDisk;
+pub use key_line::{KeptLine, KeyLine};
+pub use paths::Paths;
+pub use plain_head::PlainHead;
+pub use progress::Progress;
+pub use prompt::Prompt;
+pub use role_file::LEAST_PAGE;
+pub use standard_error::say;
+pub use streams::{DeviceEntropy, InputSource, OutputSink, StandIns};

@@ -1,0 +1,4 @@
+pub mod AsRead
+pub mod ImagePicks
+pub mod LogSteps
+pub mod Names
