@@ -3,14 +3,8 @@
 # frames, and beside it, in the same run, the same keys in the kit's `LruCache` alone: bench/cache.sh
 # Needs rt and python3.
 set -eu
-cd "$(dirname "$0")/../crates/cache_bench"
-if grep -qw avx2 /proc/cpuinfo; then cpu=x86-64-v3; else cpu=x86-64-v2; fi
-if ! build=$(rt run --cpu "$cpu" 2>&1); then
-    echo "$build" >&2
-    echo "cache.sh: rt run does not build cache_bench" >&2
-    exit 1
-fi
-echo "built for $cpu"
+cd "$(dirname "$0")/.."
+bench/build_loops
 exec python3 - <<'PYTHON'
 import resource, subprocess
 
@@ -23,7 +17,7 @@ def seconds(what, frames, times):
         usage = resource.getrusage(resource.RUSAGE_CHILDREN)
         return usage.ru_utime + usage.ru_stime
     before = used()
-    subprocess.run(["out/cache_bench", what, str(frames), str(times)], stdout=subprocess.DEVNULL, check=True)
+    subprocess.run(["crates/bench_loops/out/bench_loops", "cache", what, str(frames), str(times)], stdout=subprocess.DEVNULL, check=True)
     return used() - before
 
 # How many a second. The time for none, which is that of the start and of making the cache, is taken away.

@@ -3,16 +3,8 @@
 # OpenSSL without and with the processor's AES instructions: bench/cbc.sh
 # Needs rt and python3; without openssl, its columns are left out.
 set -eu
-cd "$(dirname "$0")/../crates/cbc_bench"
-if grep -qw avx2 /proc/cpuinfo; then cpu=x86-64-v3; else cpu=x86-64-v2; fi
-log=$(mktemp)
-trap 'rm -f "$log"' EXIT
-if ! rt run --cpu "$cpu" > "$log" 2>&1; then
-    cat "$log" >&2
-    echo "cbc.sh: rt run does not build cbc_bench, or it fails" >&2
-    exit 1
-fi
-echo "built for $cpu"
+cd "$(dirname "$0")/.."
+bench/build_loops
 python3 - <<'PYTHON'
 import os, resource, shutil, subprocess
 
@@ -33,7 +25,7 @@ def seconds(command):
 def ours(direction, size, tables=False):
     times = BYTES // size
     counts = [times * (direction == "encrypt"), times * (direction == "decrypt" and not tables), times * tables]
-    return size * times / seconds(["out/cbc_bench", str(size), *map(str, counts)]) / 1e6
+    return size * times / seconds(["crates/bench_loops/out/bench_loops", "cbc", str(size), *map(str, counts)]) / 1e6
 
 def openssl(direction, size, aes_instructions):
     environment = dict(os.environ)

@@ -3,14 +3,8 @@
 # steps read one by one as a walk does; beside them, in the same run, a plain copy of the page's bytes: bench/cells.sh
 # Needs rt and python3.
 set -eu
-cd "$(dirname "$0")/../crates/cell_bench"
-if grep -qw avx2 /proc/cpuinfo; then cpu=x86-64-v3; else cpu=x86-64-v2; fi
-built=$(rt run --cpu "$cpu" 2>&1) || {
-    printf '%s\n' "$built" >&2
-    echo "cells.sh: rt run does not build cell_bench" >&2
-    exit 1
-}
-echo "built for $cpu"
+cd "$(dirname "$0")/.."
+bench/build_loops
 exec python3 - <<'PYTHON'
 import os, resource, subprocess, time
 
@@ -33,7 +27,7 @@ def cells_of(size):
 # Cells a second. The time for no page at all, which is that of the start, is taken away.
 def ours(way, size):
     times = CELLS // cells_of(size)
-    command = ["out/cell_bench", way, str(size)]
+    command = ["crates/bench_loops/out/bench_loops", "cell", way, str(size)]
     return times * cells_of(size) / (seconds([*command, str(times)]) - seconds([*command, "0"]))
 
 # Cells a second of a loop that copies the page's bytes.

@@ -6,15 +6,9 @@
 set -eu
 cd "$(dirname "$0")/.."
 command -v python3 > /dev/null || { echo "changes.sh: python3 is missing" >&2; exit 1; }
-if grep -qw avx2 /proc/cpuinfo; then cpu=x86-64-v3; else cpu=x86-64-v2; fi
-said=$(cd crates/pager_bench && rt run --cpu "$cpu" 2>&1) || {
-    echo "$said" >&2
-    echo "changes.sh: rt run does not build pager_bench" >&2
-    exit 1
-}
+bench/build_loops
 product4=${1:-${SQLCIPHER4:-$(command -v sqlcipher4 || echo "$PWD/out/product/sqlcipher4")}}
-echo "built for $cpu"
-exec python3 - "$PWD/crates/pager_bench/out/pager_bench" sqlcipher "$product4" <<'PYTHON'
+exec python3 - "$PWD/crates/bench_loops/out/bench_loops" sqlcipher "$product4" <<'PYTHON'
 import os, shutil, subprocess, sys, tempfile, time
 
 program, products = sys.argv[1], {"3": sys.argv[2], "4": sys.argv[3]}
@@ -47,7 +41,7 @@ for version, product in products.items():
         make(product, made, version)
         update = KEY + "{}UPDATE t SET tag = tag + 1;\nSELECT count(*) FROM t WHERE tag = 101;\n"
         jobs = {
-            "program": ([program, "changed.db", version, "change", str(PAGES)], ""),
+            "program": ([program, "pager", "changed.db", version, "change", str(PAGES)], ""),
             "product": ([product, "-batch", "changed.db"], update.format("PRAGMA cache_size = 64;\n")),
             "product's own cache": ([product, "-batch", "changed.db"], update.format("")),
         }

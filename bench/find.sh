@@ -8,7 +8,7 @@ set -eu
 cd "$(dirname "$0")/.."
 command -v python3 > /dev/null || { echo "find.sh: python3 is missing" >&2; exit 1; }
 command -v sqlcipher > /dev/null || { echo "find.sh: the product sqlcipher is missing" >&2; exit 1; }
-[ -n "${PROGRAM:-}" ] || ./sqlcipher-tool --version > /dev/null
+[ -n "${PROGRAM:-}" ] || tools/build.sh
 exec python3 - <<'PYTHON'
 import os, random, resource, shutil, subprocess, tempfile, time
 

@@ -3,17 +3,10 @@
 # run: bench/hash.sh [TRIES]
 # Needs rt and awk.
 set -eu
-cd "$(dirname "$0")/../crates/hash_bench"
-if grep -qw avx2 /proc/cpuinfo; then cpu=x86-64-v3; else cpu=x86-64-v2; fi
-log=$(mktemp)
-trap 'rm -f "$log"' EXIT
-if ! rt run --cpu "$cpu" > "$log" 2>&1; then
-    cat "$log" >&2
-    echo "hash.sh: rt run does not build hash_bench, or it fails" >&2
-    exit 1
-fi
-echo "built for $cpu; the least of ${1:-2000} tries that alternate"
-out/hash_bench "${1:-2000}" | awk '
+cd "$(dirname "$0")/.."
+bench/build_loops
+echo "the least of ${1:-2000} tries that alternate"
+crates/bench_loops/out/bench_loops hash "${1:-2000}" | awk '
     NR == 1 && $1 != "true" { print "the digests differ"; exit 1 }
     NR == 2 { printf "four messages of 4,096 bytes: %.1f us one after another, %.1f us at once: %.2f times as fast\n", $1 / 1000, $2 / 1000, $1 / $2 }
     NR == 3 { printf "eight messages with SHA-1: %.1f us one after another, %.1f us at once: %.2f times as fast\n", $1 / 1000, $2 / 1000, $1 / $2 }'

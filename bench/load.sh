@@ -4,14 +4,8 @@
 # executemany from a generator, less its time where it inserts none; INSERT INTO t SELECT, which copies the records of a table; and CREATE INDEX.
 # bench/load.sh needs rt and python3 with its sqlite3.
 set -eu
-cd "$(dirname "$0")/../crates/load_bench"
-if grep -qw avx2 /proc/cpuinfo; then cpu=x86-64-v3; else cpu=x86-64-v2; fi
-built=$(rt run --cpu "$cpu" 2>&1) || {
-    printf '%s\n' "$built" >&2
-    echo "load.sh: rt run does not build load_bench" >&2
-    exit 1
-}
-echo "built for $cpu"
+cd "$(dirname "$0")/.."
+bench/build_loops
 exec python3 - <<'PYTHON'
 import resource, sqlite3, subprocess, time
 
@@ -40,7 +34,7 @@ def length(text):
 
 # The times of the first load, which is walked to its end, and of so many more; and how many pages it has.
 def ours(size, family, entries, text):
-    command = ["out/load_bench", family, str(size), str(entries), str(text)]
+    command = ["crates/bench_loops/out/bench_loops", "load", family, str(size), str(entries), str(text)]
     first, said = seconds([*command, "0"])
     given, all_bytes, pages = map(int, said.split())
     assert (given, all_bytes) == (entries, entries * length(text)), said

@@ -6,12 +6,7 @@
 set -eu
 cd "$(dirname "$0")/.."
 command -v python3 > /dev/null || { echo "pager.sh: python3 is missing" >&2; exit 1; }
-if grep -qw avx2 /proc/cpuinfo; then cpu=x86-64-v3; else cpu=x86-64-v2; fi
-said=$(cd crates/pager_bench && rt run --cpu "$cpu" 2>&1) || {
-    echo "$said" >&2
-    echo "pager.sh: rt run does not build pager_bench" >&2
-    exit 1
-}
+bench/build_loops
 folder=$(mktemp -d)
 trap 'rm -rf "$folder"' EXIT
 product4=${1:-}
@@ -19,7 +14,6 @@ if [ -z "$product4" ]; then
     tests/reference/build_sqlcipher4.sh "$folder/product" > /dev/null 2>&1 || true
     product4=$folder/product/sqlcipher4
 fi
-echo "built for $cpu"
 python3 - "$folder" sqlcipher "$product4" <<'PYTHON'
 import os, shutil, subprocess, sys, time
 
@@ -51,9 +45,9 @@ for version, product in products.items():
     size = 1024 if version == "3" else 4096
     pages = os.path.getsize(path) // size
     jobs = {
-        "scan": (["crates/pager_bench/out/pager_bench", path, version, "scan", "1"], "", str(pages)),
-        "held": (["crates/pager_bench/out/pager_bench", path, version, "held", str(HELD)], "", str(64 * HELD)),
-        "none": (["crates/pager_bench/out/pager_bench", path, version, "held", "0"], "", "0"),
+        "scan": (["crates/bench_loops/out/bench_loops", "pager", path, version, "scan", "1"], "", str(pages)),
+        "held": (["crates/bench_loops/out/bench_loops", "pager", path, version, "held", str(HELD)], "", str(64 * HELD)),
+        "none": (["crates/bench_loops/out/bench_loops", "pager", path, version, "held", "0"], "", "0"),
         "product": ([product, "-batch", path], SCAN, None),
     }
     # The runs of one job lie apart, so that a busy moment spoils one of them at most.

@@ -8,7 +8,7 @@ set -eu
 cd "$(dirname "$0")/.."
 command -v python3 > /dev/null || { echo "plain.sh: python3 is missing" >&2; exit 1; }
 command -v sqlite3 > /dev/null || { echo "plain.sh: sqlite3 is missing" >&2; exit 1; }
-[ -n "${PROGRAM:-}" ] || ./sqlcipher-tool --version > /dev/null
+[ -n "${PROGRAM:-}" ] || tools/build.sh
 exec python3 - <<'PYTHON'
 import os, resource, shutil, subprocess, tempfile, time
 

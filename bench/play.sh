@@ -10,7 +10,7 @@ cd "$(dirname "$0")/.."
 command -v python3 > /dev/null || { echo "play.sh: python3 is missing" >&2; exit 1; }
 python3 -c 'import cryptography' 2> /dev/null || { echo "play.sh: Python's cryptography is missing" >&2; exit 1; }
 command -v sqlcipher > /dev/null || { echo "play.sh: the product sqlcipher is missing" >&2; exit 1; }
-[ -n "${PROGRAM:-}" ] || ./sqlcipher-tool --version > /dev/null
+[ -n "${PROGRAM:-}" ] || tools/build.sh
 export PYTHONDONTWRITEBYTECODE=1
 exec python3 - <<'PYTHON'
 import os, random, resource, shutil, subprocess, sys, tempfile, time

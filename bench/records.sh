@@ -3,13 +3,9 @@
 # the same columns of as many rows in memory): bench/records.sh
 # Needs rt and python3.
 set -eu
-cd "$(dirname "$0")/../crates/record_bench"
-if grep -qw avx2 /proc/cpuinfo; then cpu=x86-64-v3; else cpu=x86-64-v2; fi
-log=$(mktemp)
-trap 'rm -f "$log"' EXIT
-rt run --cpu "$cpu" > "$log" 2>&1 || { cat "$log" >&2; echo "records.sh: rt run does not build record_bench" >&2; exit 1; }
-echo "built for $cpu"
-python3 - <<'PYTHON'
+cd "$(dirname "$0")/.."
+bench/build_loops
+exec python3 - <<'PYTHON'
 import resource, sqlite3, subprocess, time
 
 ROWS = 1_000  # that stay in the processor's cache
@@ -22,7 +18,7 @@ def seconds(rows, times):
         usage = resource.getrusage(resource.RUSAGE_CHILDREN)
         return usage.ru_utime + usage.ru_stime
     before = used()
-    subprocess.run(["out/record_bench", str(rows), str(times)], stdout=subprocess.DEVNULL, check=True)
+    subprocess.run(["crates/bench_loops/out/bench_loops", "record", str(rows), str(times)], stdout=subprocess.DEVNULL, check=True)
     return used() - before
 
 # The time for no pass at all, which is that of the start, is taken away.

@@ -3,7 +3,7 @@
 # The journal has one segment, with each page of a database of version 4 once. No key is needed.
 set -eu
 top=$(cd "$(dirname "$0")/.." && pwd)
-"$top/sqlcipher-tool" --version > /dev/null || { echo "bench: the program is not built"; exit 1; }
+"$top/tools/build.sh" || { echo "bench: the program is not built"; exit 1; }
 command -v python3 > /dev/null || { echo "bench: python3 is missing"; exit 1; }
 folder=$(mktemp -d "${BENCH_FOLDER:-$top/out}/recover.XXXXXX")
 trap 'rm -rf "$folder"' EXIT

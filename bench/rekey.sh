@@ -10,7 +10,7 @@ set -eu
 cd "$(dirname "$0")/.."
 command -v python3 > /dev/null || { echo "rekey.sh: python3 is missing" >&2; exit 1; }
 command -v sqlcipher > /dev/null || { echo "rekey.sh: the product sqlcipher is missing" >&2; exit 1; }
-./sqlcipher-tool --version > /dev/null
+tools/build.sh
 exec python3 - <<'PYTHON'
 import os, resource, shutil, subprocess, tempfile, time
 

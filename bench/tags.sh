@@ -6,14 +6,8 @@
 set -eu
 cd "$(dirname "$0")/.."
 command -v python3 > /dev/null || { echo "tags.sh: python3 is missing" >&2; exit 1; }
-if grep -qw avx2 /proc/cpuinfo; then cpu=x86-64-v3; else cpu=x86-64-v2; fi
-./sqlcipher-tool --version > /dev/null
-said=$(cd crates/page_bench && rt run --cpu "$cpu" 2>&1) || {
-    echo "$said" >&2
-    echo "tags.sh: rt run does not build page_bench" >&2
-    exit 1
-}
-echo "built for $cpu"
+tools/build.sh
+bench/build_loops
 exec python3 - <<'PYTHON'
 import hashlib, hmac, os, shutil, subprocess, tempfile, time
 
@@ -61,7 +55,7 @@ with tempfile.TemporaryDirectory() as folder:
     with open(path, "rb") as source, open(small, "wb") as out:
         out.write(source.read(4096))
     tags = least(["./out/sqlcipher-tool", path, "tags", "4"], LINE)
-    hashed = least(["crates/page_bench/out/page_bench", "hash", str(PAGES)])
+    hashed = least(["crates/bench_loops/out/bench_loops", "page", "hash", str(PAGES)])
     mib = PAGES * 4096 / 2**20
     print(f"tags 4, 100 MiB            {mib / tags:7.0f} MiB/s   {hashed / tags:5.2f} of the plain hash")
     print(f"SHA-512 of the kit         {mib / hashed:7.0f} MiB/s")
@@ -77,7 +71,7 @@ with tempfile.TemporaryDirectory() as folder:
 # The keys of a passphrase, the two rounds for the key of the tags among them.
 for word, name, rounds in (("1", "sha1", 4_000), ("2", "sha1", 4_000), ("3", "sha1", 64_000), ("4", "sha512", 256_000)):
     times = max(1, 512_000 // rounds // 2)
-    derive = least(["crates/page_bench/out/page_bench", "derive", word, str(times)]) / times
+    derive = least(["crates/bench_loops/out/bench_loops", "page", "derive", word, str(times)]) / times
     peer = min(timed(lambda: hashlib.pbkdf2_hmac(name, b"password", bytes(16), rounds, 32)) for _ in range(RUNS))
     print(f"keys of profile {word}        {derive * 1000:9.2f} ms    {derive / peer:5.2f} of the time of hashlib.pbkdf2_hmac")
 
@@ -85,7 +79,7 @@ for word, name, rounds in (("1", "sha1", 4_000), ("2", "sha1", 4_000), ("3", "sh
 for word, size, covered, name in (("3", 976, 996, "sha1"), ("4", 4016, 4036, "sha512")):
     for verb in ("open", "seal"):
         times = 80_000_000 // size
-        spent = least(["crates/page_bench/out/page_bench", verb, word, str(times)]) / times
+        spent = least(["crates/bench_loops/out/bench_loops", "page", verb, word, str(times)]) / times
         line = f"{verb} pages of profile {word}  {1 / spent:9.0f} pages/s"
         if shutil.which("openssl"):
             for has_aes in (False, True):

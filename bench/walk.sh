@@ -3,14 +3,8 @@
 # in the same run, a plain copy of the pages' bytes, and a query of SQLite over the same rows: bench/walk.sh
 # Needs rt and python3 with its sqlite3.
 set -eu
-cd "$(dirname "$0")/../crates/walk_bench"
-if grep -qw avx2 /proc/cpuinfo; then cpu=x86-64-v3; else cpu=x86-64-v2; fi
-built=$(rt run --cpu "$cpu" -- data/small.db 512 2 1 2>&1) || {
-    printf '%s\n' "$built" >&2
-    echo "walk.sh: rt run does not build walk_bench" >&2
-    exit 1
-}
-echo "built for $cpu"
+cd "$(dirname "$0")/.."
+bench/build_loops
 exec python3 - <<'PYTHON'
 import os, resource, sqlite3, subprocess, tempfile, time
 
@@ -38,7 +32,7 @@ def make(path, size):
 
 # Entries a second. The time without a walk, which is that of the start and of reading the file, is taken away.
 def ours(path, size, *way):
-    command = ["out/walk_bench", path, str(size), "2"]
+    command = ["crates/bench_loops/out/bench_loops", "walk", path, str(size), "2"]
     return TIMES * ROWS / (seconds([*command, str(TIMES), *way]) - seconds([*command, "0", *way]))
 
 def sqlite_rate(path):

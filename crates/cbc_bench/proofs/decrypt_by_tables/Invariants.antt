@@ -1,5 +1,0 @@
-use Rattle.std.proofs.Common.{◌≡◌, length}
-use Rattle.cbc_bench.proofs.decrypt_by_tables.Given as goal
-
-abbrev pub invariant-decryption : goal.invariant-decryption
-invariant-decryption l = length l.text ≡ length l.fn.text

@@ -1,6 +1,0 @@
-use Rattle.std.proofs.Common.{[]}
-use Rattle.pager.specs.UnderWay.{zeros}
-use Rattle.pager_bench.proofs.changing.change.Given as goal
-
-abbrev pub ghost-begin : goal.ghost-begin
-ghost-begin a = record { base = zeros a.self.codec.profile.page_size a.self.count; drawn = [] }
