@@ -5,8 +5,8 @@ fmt:
 ci:
     .ci/run
 build:
-    ./sqlcipher-tool --version
-install *prefix: build
+    tools/build.sh
+install *prefix:
     tools/install.sh {{prefix}}
 run *words:
     ./sqlcipher-tool {{words}}

@@ -11,7 +11,7 @@
 # seconds that one script may take.
 
 # The scripts, each with its words; those that take longest stand first. A script here is run over `$PROGRAM`, reads nothing from standard
-# input, writes to a folder of its own alone, and takes the product's files from $PRODUCT_FILES (tests/common.sh: find_files).
+# input, writes to a folder of its own alone, and takes the product's files from $PRODUCT_FILES (tests/common.sh: begin, find_files).
 scripts='
 migrate.sh
 rekey.sh
@@ -22,29 +22,30 @@ make.sh
 real_files.sh
 plain.sh
 play.sh
+company.py
 stamp.sh
 hostile_files.sh
 find.sh
 salvage.sh
 two_runs.sh
+first_use.sh
 beside_an_app.sh
 renames.sh
 edges.sh
 wal.sh
 export_to_sql.py
 salvage_to_sql.py
+draws.py
 session_machine.py
+terminal.py
 documents.sh
+numbers.sh
 '
 # What the others of this folder are: this script, what scripts share and call, what makes the product's files, and what .ci/run runs before.
 not_run='all.sh common.sh others.sh install_product.sh product_files.sh lent_page.sh play_beside_product.py'
 
 set -u
-top=$(cd "$(dirname "$0")/.." && pwd) || exit 1
-# In memory where there is room: no script looks at what a disk keeps, and the syncs of a busy disk would take most of the time.
-if [ -z "${TMPDIR:-}" ] && [ -w /dev/shm ] && [ "$(df -Pk /dev/shm | awk 'NR == 2 { print $4 }')" -gt 2000000 ]; then
-    export TMPDIR=/dev/shm
-fi
+. "$(dirname "$0")/common.sh"
 folder=$(mktemp -d) || exit 1
 trap stop_all EXIT
 every=$scripts
@@ -110,8 +111,8 @@ names() { # names STATUS..: the scripts that ended so
 joined() { names "$1" | paste -sd ' ' | sed 's/ /, /g'; }
 
 check_list || exit 1
-export PROGRAM=${PROGRAM:-$top/out/sqlcipher-tool}
-[ "$PROGRAM" != "$top/out/sqlcipher-tool" ] || "$top/sqlcipher-tool" --version > /dev/null || { echo "all: the program is not built"; exit 1; }
+export PROGRAM=$program
+[ -x "$PROGRAM" ] || { echo "all: the program is not built"; exit 1; }
 if [ -z "${PRODUCT_FILES:-}" ]; then
     export PRODUCT_FILES=$folder/product
     run_one product_files.sh "$PRODUCT_FILES"

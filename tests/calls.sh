@@ -9,22 +9,15 @@
 # PROGRAM names another program. Only calls that matter to the disk are looked at; that a file is opened to be read, looked up
 # or locked is not. Needs strace and Python 3.
 set -u
-top=$(cd "$(dirname "$0")/.." && pwd) || exit 1
-program=${PROGRAM:-$top/out/sqlcipher-tool}
+. "$(dirname "$0")/common.sh"
+begin 'calls'
 compare=$top/tests/calls/compare.py
-scratch=$(mktemp -d) || exit 1
-trap 'rm -rf "$scratch"' EXIT
-scratch=$(readlink -f "$scratch")
-export LC_ALL=C.UTF-8
-. "$top/tests/common.sh"
-runs=0 wrong=0
+runs=0
 
 if ! has python3 || ! can_trace; then
     leave_out "the calls of the system, since strace is missing or cannot trace, or Python 3 is missing"
-    finish 0
+    finish
 fi
-
-say() { echo "calls: $*"; wrong=$((wrong + 1)); }
 
 k0="x'000102030405060708090a0b0c0d0e0f101112131415161718191a1b1c1d1e1f'"
 k1="x'ffffffffffffffffffffffffffffffffffffffffffffffffffffffffffffffff'"
@@ -103,20 +96,20 @@ cp "$scratch/small" "$scratch/left" && head -c 2048 /dev/zero > "$scratch/left-m
 [ "$(stat -c %s "$scratch/small")" -le 65536 ] && [ "$(stat -c %s "$scratch/large")" -gt 131072 ] || say "the files have other sizes"
 
 # ---- commands that read
-for words in "tags 3" "header 3" "verify 3" "export 3" "find 3 items 7 9" "salvage 3"; do
+while read -r words; do
     # shellcheck disable=SC2086
     run read large none 3 3 $words
     # shellcheck disable=SC2086
     run read hot "hot=$hot" 3 3 $words
-done
+done < <(commands 3 3 check part)
 run read four none 4 4 verify 4
 run read four none 4 4 find 4 items -5 60
 run read four none 4 4 salvage 4
 run probe large none 3 3 probe
-for words in "header plain:1024" "verify plain:1024" "export plain:1024" "find plain:1024 items 7 9" "salvage plain:1024"; do
+while read -r words; do
     # shellcheck disable=SC2086
     run read flat none plain:1024 plain:1024 $words
-done
+done < <(commands plain:1024 plain:1024 check part)
 
 # ---- recoveries
 run recover small none 3 3 recover 3
@@ -175,5 +168,4 @@ kept_from_syncs migrate small 3 plain:1024 migrate 3 plain:1024
 script "3 $k0" "${changes[@]}"
 kept_from_syncs play small 3 3 play 3
 
-echo "calls: $runs runs, $wrong wrong"
-finish "$wrong"
+finish "$runs runs"

@@ -1,21 +1,54 @@
-# What the scripts of this folder share: what was left out, the product, and stops at calls of the system. It is sourced, with these set:
-# `top`, the folder of the repository, `program`, and `scratch`, a folder that the script removes.
+# What the scripts of this folder share: how one begins, says what is wrong and what it left out, and ends; the commands; the product; stops at
+# calls of the system. A script sources it first, and so has `top`, the folder of the repository, and `program`, and then begins:
+#
+#     . "$(dirname "$0")/common.sh"
+#     begin 'two runs'
+#     ..
+#     finish "$trials trials"
+
+top=$(cd "$(dirname "${BASH_SOURCE[0]}")/.." && pwd) || exit 1
+program=${PROGRAM:-$("$top/tools/program.sh")}
+
+# In memory where there is room: no script looks at what a disk keeps, and the syncs of a busy disk would take most of the time.
+if [ -z "${TMPDIR:-}" ] && [ -w /dev/shm ] && [ "$(df -Pk /dev/shm | awk 'NR == 2 { print $4 }')" -gt 2000000 ]; then
+    export TMPDIR=/dev/shm
+fi
+
+begin() { # begin NAME: the name that the script's lines have, and its own folder, `scratch`, which goes when it ends
+    named=$1
+    scratch=$(mktemp -d) && scratch=$(readlink -f "$scratch") || exit 1
+    trap 'chmod -R u+rwx "$scratch" 2> /dev/null; rm -rf "$scratch"' EXIT
+    export LC_ALL=C.UTF-8 HOME=$scratch PYTHONDONTWRITEBYTECODE=1
+    [ -x "$program" ] || { echo "$program is not built: ./sqlcipher-tool --version builds it"; exit 1; }
+}
+
+say() { echo "$named: $*"; echo wrong >> "$scratch/wrong"; }      # say WHAT is wrong; also in what runs side by side
+
+wrongs() { # how often something was wrong
+    if [ -e "$scratch/wrong" ]; then wc -l < "$scratch/wrong"; else echo 0; fi
+}
 
 # A script goes on where it has to leave something out, and says what and why in its last line.
 leave_out() { echo "$*" >> "$scratch/left-out"; }      # leave_out WHAT, since WHY
 
-finish() { # finish WRONG: the end of a script: 1 where something is wrong, 77 where something was left out, else 0
-    [ "$1" -eq 0 ] || exit 1
+finish() { # finish [DONE]: the end, and a line of what was done: 1 where something is wrong, 77 where something was left out, else 0
+    echo "$named: ${1:+$1, }$(wrongs) wrong"
+    [ "$(wrongs)" -eq 0 ] || exit 1
     [ -e "$scratch/left-out" ] || exit 0
     echo "left out: $(paste -sd ';' "$scratch/left-out" | sed 's/;/; /g')"
     exit 77
 }
 
+needs() { # needs PROGRAM..: without them all of the script is left out
+    local needed
+    for needed; do
+        has "$needed" || { leave_out "all of it, since $needed is missing"; finish; }
+    done
+}
+
 has() { command -v "$1" > /dev/null; }
 
 has_reference() { python3 -c 'import cryptography' 2> /dev/null; }      # the reference in tests/reference can be run
-
-[ -x "$program" ] || { echo "$program is not built: ./sqlcipher-tool --version builds it"; exit 1; }
 
 four=${SQLCIPHER4:-$(command -v sqlcipher4 || true)}
 [ -n "$four" ] || { [ ! -x "$top/out/product/sqlcipher4" ] || four=$top/out/product/sqlcipher4; }
@@ -43,6 +76,20 @@ find_files() {
 # Version 4 with pages of other sizes than its own.
 sizes='4:1024 4:2048 4:8192 4:16384 4:32768 4:65536'
 
+# The words of the commands of tests/commands.tsv, a line each: P is the file's profile there, Q that of a new file. Those of a kind, where kinds are
+# named: `check` reads the whole file or its header, `part` some rows, `search` looks for the profile; `recovery`, `change`, `making` and `script` may
+# write. The last column says whether plain files have it.
+commands() { # commands P Q [KIND..]
+    local profile=$1 new=$2
+    shift 2
+    awk -F'\t' -v profile="$profile" -v new="$new" -v kinds=" $* " '
+        NR == 1 || profile ~ /^plain/ && $4 == "no" || kinds != "  " && !index(kinds, " " $3 " ") { next }
+        {
+            count = split($2, word, " ")
+            for (i = 1; i <= count; i++) printf "%s%s", word[i] == "P" ? profile : word[i] == "Q" ? new : word[i], i < count ? " " : "\n"
+        }' "$top/tests/commands.tsv"
+}
+
 quoted() { printf '%s' "$1" | sed "s/'/''/g"; }
 
 opening() { # opening PROFILE KEY: the statements with which the product opens a file; a plain one it opens by itself
@@ -55,8 +102,23 @@ opening() { # opening PROFILE KEY: the statements with which the product opens a
     esac
 }
 
+sql() { # sql PROFILE KEY FILE: runs the SQL of standard input in the product
+    { echo ".output /dev/null"; opening "$1" "$2"; echo ".output stdout"; cat; } | "$(product "$1")" -batch "$3" 2> /dev/null
+}
+
+check() { echo "PRAGMA integrity_check;" | sql "$1" "$2" "$3"; }      # check PROFILE KEY FILE
+dump() { echo ".dump" | sql "$1" "$2" "$3"; }                        # dump PROFILE KEY FILE
+
+asked() { printf '%s\n' "$1" | "$program" "${@:2}" 2> /dev/null; }    # asked KEY FILE WORDS..: what the program prints
+
+total() { # total NAME FILES..: the sum of the counts NAME=N in these files
+    local name=$1
+    shift
+    awk -F'\t' -v name="$name" '{ for (i = 1; i <= NF; i++) if (index($i, name "=") == 1) sum += substr($i, length(name) + 2) } END { print sum + 0 }' "$@"
+}
+
 # The calls that change a file or a folder, or sync one. An open counts where it may make a file.
-writing=openat,open,creat,write,pwrite64,writev,pwritev,ftruncate,fsync,fdatasync,unlink,unlinkat,rename,renameat,renameat2
+writing=openat,open,creat,write,pwrite64,writev,pwritev,ftruncate,fsync,fdatasync,unlink,unlinkat,rename,renameat,renameat2,link,linkat
 
 can_trace() { strace -qq -o /dev/null true 2> /dev/null; }
 

@@ -1,6 +1,7 @@
 #!/usr/bin/env bash
 # Every name that the documents give in backquotes is there: each file and folder, each clause at a function of its name, each function,
-# law and definition as a word of the sources, and each crate in the map and the tables. It proves nothing and runs no program.
+# law and definition as a word of the sources, and each crate in the map and the tables; each command of the help wherever commands are
+# listed; and each line that an edit quotes stands in its file once. It proves nothing and runs no program.
 #
 #     tests/documents.sh
 #
@@ -15,7 +16,7 @@ import os
 import re
 import sys
 
-DOCUMENTS = ["README.md", "CONTRIBUTING.md", "bench/README.md", "tests/reference/README.md"] + sorted(glob.glob("docs/*.md"))
+DOCUMENTS = ["README.md", "CONTRIBUTING.md", "bench/README.md", "crates/README.md", "tests/reference/README.md"] + sorted(glob.glob("docs/*.md"))
 # Words in backquotes that name no thing of this repository: other programs and their settings, words of the formats, of traces and of tools.
 ELSEWHERE = set("""
     strace sqlite3 cryptography hashlib cat ulimit flock inf rt sqlite sha1 sha2 hex itoa lru thiserror LruCache Drop executemany
@@ -114,7 +115,7 @@ def has_file(name, crate):
         return bool(glob.glob(name))
     if name.startswith("out/") or name == "out":        # what a build leaves
         return True
-    if crate and name.split("/")[0] in ("src", "specs", "proofs", "must-fail"):
+    if crate and name.split("/")[0] in ("src", "specs", "proofs", "must-fail", "edits"):
         return os.path.exists(f"crates/{crate}/{name}")
     return any(path == name or path.endswith("/" + name) for path in files) or any(path == name or path.endswith("/" + name) for path in folders)
 
@@ -166,7 +167,7 @@ for document in DOCUMENTS:
             looked += 1
             # In a table a row of a crate names its clauses in its last column.
             row = re.match(r"\| `?(\w+)`?", line)
-            strict = bool(row) and row.group(1) in crates and document == "README.md"
+            strict = bool(row) and row.group(1) in crates and document == "docs/PROOFS.md"
             own = row.group(1) if strict else crate
             wrong += [f"{document}:{number}: {what}" for what in check(name, own, strict)]
     for target in re.findall(r"\]\(([^)#:]+)(?:#[^)]*)?\)", text):
@@ -174,13 +175,63 @@ for document in DOCUMENTS:
         if not os.path.exists(os.path.join(os.path.dirname(document), target)):
             wrong.append(f"{document}: a link to {target}, which is not there")
 
-# Each crate has its row in the README and in the map, and its section or its place in docs/PROOFS.md.
-for document, test in (("README.md", r"`{}`"), ("docs/ARCHITECTURE.md", r"`{}`")):
+# Each crate has its row in docs/PROOFS.md, in the map and in crates/README.md, and its section or its place in docs/PROOFS.md.
+for document, test in (("docs/PROOFS.md", r"`{}`"), ("docs/ARCHITECTURE.md", r"`{}`"), ("crates/README.md", r"`{}`")):
     text = read(document) if os.path.exists(document) else ""
     wrong += [f"{document}: the crate {name} is not in it" for name in crates if not re.search(test.format(name), text)]
 if os.path.exists("docs/PROOFS.md"):
     headings = set(re.findall(r"^### (\w+)$", read("docs/PROOFS.md"), flags=re.M))
-    wrong += [f"docs/PROOFS.md: no section on {name}" for name in crates if name not in headings and not name.endswith(("_bench", "_tests"))]
+    wrong += [f"docs/PROOFS.md: no section on {name}" for name in crates if name not in headings and not name.endswith(("bench_loops", "_tests"))]
+
+# Each command of the help has its row in the README, its paragraph in the manual page, what is said of its words, its completion, its place in the
+# script that asks for keys, and its row for the scripts of tests/; and none of these has a command that the help does not have.
+def commands_of_help():
+    listed = re.search(r"^commands$(.*?)^$", read("crates/sqlcipher_cli/src/help.rt"), flags=re.M | re.S)
+    return set(re.findall(r"^  ([a-z]+)\b", listed.group(1), flags=re.M))
+
+
+COMMANDS_IN = {
+    "README.md": r"^\| `FILE ([a-z]+)\b",
+    "docs/sqlcipher-tool.1": r"^\.(?:TP|TQ)\n\.BI? \"?([a-z]+)\b",
+    "crates/sqlcipher_cli/src/usage.rt": r"(?<=[\[ ])\"([a-z]+)\"",
+    "tools/sqlcipher-tool.bash-completion": r"(?<=compgen -W ')([a-z ]+) --help(?=')",
+    "tools/sqlcipher-tool-ask": r"^        ([a-z |]+)\) (?:\[ |false)",
+    "tests/commands.tsv": r"^([a-z]+)\t(?!words)",
+    "tools/hold_lock.pl": r"qw\(([a-z ]+)\)",
+}
+LEFT_OUT = {"tools/hold_lock.pl": {"probe", "make"}}      # these are run without a lock
+helped = commands_of_help()
+for place, form in COMMANDS_IN.items():
+    found = set(re.findall(r"[a-z]+", " ".join(re.findall(form, read(place), flags=re.M))))
+    looked += len(found)
+    wrong += [f"{place}: the command {name} of the help is not in it" for name in sorted(helped - found - LEFT_OUT.get(place, set()))]
+    wrong += [f"{place}: {name} is no command of the help" for name in sorted(found - helped)]
+
+
+def quotes(path):
+    """What an edit quotes that does not stand once in the file that it names, as the pairs before it leave it."""
+    file, old, texts, missing, pairs = None, None, {}, [], 0
+    for line in read(path).split("\n"):
+        if line.startswith("file: "):
+            file = os.path.join(os.path.dirname(os.path.dirname(path)), line[6:].strip())
+        elif line.startswith("old: "):
+            old = line[5:]
+        elif line.startswith("new:") and file and old:
+            if file not in texts:
+                texts[file] = read(file) if os.path.isfile(file) else ""
+            if texts[file].count(old) != 1:
+                missing.append(f"{path}: {old.strip()} stands {texts[file].count(old)} times in {file}")
+            texts[file] = texts[file].replace(old, line[4:].removeprefix(" "))
+            old, pairs = None, pairs + 1
+    return missing if pairs else [f"{path} changes nothing"]
+
+
+for path in sorted(glob.glob("crates/*/must-fail/*") + glob.glob("crates/*/edits/*")):
+    looked += 1
+    wrong += quotes(path)
+    named = path.split("/")[1]
+    if named not in crates or not path.endswith(".edit") or os.path.isdir(f"crates/{named}/must-fail") and os.path.isdir(f"crates/{named}/edits"):
+        wrong.append(f"{path}: an edit is a file NAME.edit in must-fail/ or edits/ of a crate, which has one of them")
 
 for line in wrong:
     print("documents: " + line)

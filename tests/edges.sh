@@ -3,19 +3,14 @@
 # change under it, words that are no text. Each row has the status, the lines of standard output and a piece of standard
 # error, worked out by hand from the README. Rows on permissions are run as nobody where this runs as root.
 set -u
-top=$(cd "$(dirname "$0")/.." && pwd) || exit 1
+. "$(dirname "$0")/common.sh"
+begin 'edges'
 oracle=$top/tests/reference/oracle/sqlcipher_oracle.py
-program=${PROGRAM:-$top/out/sqlcipher-tool}
-folder=$(mktemp -d) || exit 1
-trap 'chmod -R u+rwx "$folder"; rm -rf "$folder"' EXIT
-scratch=$folder
-. "$top/tests/common.sh"
 rows=0
-wrong=0
 
-cp "$program" "$folder/tool" && chmod 755 "$folder" "$folder/tool" || exit 1
-mkdir "$folder/work" && cd "$folder/work" || exit 1
-tool=$folder/tool
+cp "$program" "$scratch/tool" && chmod 755 "$scratch" "$scratch/tool" || exit 1
+mkdir "$scratch/work" && cd "$scratch/work" || exit 1
+tool=$scratch/tool
 
 k0="x'000102030405060708090a0b0c0d0e0f101112131415161718191a1b1c1d1e1f'"
 printf '%s\n' "$k0" > key
@@ -26,38 +21,38 @@ hold="tags hold: $pages pages"
 
 row() { # row STATUS OUTPUT ERRORS COMMAND: ERRORS has a piece of each line on standard error, a line each, and is empty where there is no line
     local status=$1 output=$2 errors=$3 command=$4 found
-    (eval "$command") > "$folder/output" 2> "$folder/errors"
+    (eval "$command") > "$scratch/output" 2> "$scratch/errors"
     found=$?
     rows=$((rows + 1))
-    [ -s "$folder/errors" ] || : > "$folder/errors"
+    [ -s "$scratch/errors" ] || : > "$scratch/errors"
     # The system's table of locks may miss one for a moment while others come and go. That is said, and no row but those that ask for it is on that.
-    case $errors in *"could not be looked for"*) ;; *) sed -i '/other programs could not be looked for/d' "$folder/errors" ;; esac
-    if [ "$found" -ne "$status" ] || [ "$(cat "$folder/output")" != "$output" ] || ! says "$errors"; then
-        wrong=$((wrong + 1))
-        echo "edges: $command: wanted $status, '$output' and '$errors'"
-        echo "found $found, '$(head -c 300 "$folder/output")' and"
-        cat "$folder/errors"
+    case $errors in *"could not be looked for"*) ;; *) sed -i '/other programs could not be looked for/d' "$scratch/errors" ;; esac
+    # The program is called without its launcher, so no lock is held; tests/company.py looks when that is said.
+    sed -i '/lock on the file is not held/d' "$scratch/errors"
+    if [ "$found" -ne "$status" ] || [ "$(cat "$scratch/output")" != "$output" ] || ! says "$errors"; then
+        say "$command: wanted $status, '$output' and '$errors'"
+        echo "found $found, '$(head -c 300 "$scratch/output")' and"
+        cat "$scratch/errors"
     fi
 }
 
 says() { # as many lines of the program as there are pieces, each with its piece; no line for no piece
     local line piece
-    [ "$(wc -l < "$folder/errors")" -eq "$(printf '%s' "${1:+$1$'\n'}" | wc -l)" ] || return 1
+    [ "$(wc -l < "$scratch/errors")" -eq "$(printf '%s' "${1:+$1$'\n'}" | wc -l)" ] || return 1
     while IFS= read -r line <&3 && IFS= read -r piece <&4; do
         case $line in "sqlcipher-tool: "*"$piece"*) ;; *) return 1 ;; esac
-    done 3< "$folder/errors" 4<<< "$1"
+    done 3< "$scratch/errors" 4<<< "$1"
 }
 
 kept() { # kept NAME..: the file and the folder are as they were
     rows=$((rows + 1))
-    if ! cmp -s file.db "$folder/file.db" || [ "$(LC_ALL=C ls -A)" != "$listing" ]; then
-        wrong=$((wrong + 1))
-        echo "edges: the files have changed"
+    if ! cmp -s file.db "$scratch/file.db" || [ "$(LC_ALL=C ls -A)" != "$listing" ]; then
+        say "the files have changed"
         ls -lA
     fi
 }
 
-cp file.db "$folder/file.db"
+cp file.db "$scratch/file.db"
 listing=$(LC_ALL=C ls -A)
 
 # Standard streams that are closed, in each combination. The status is that of the stream that fails first.
@@ -74,13 +69,10 @@ row 5 '' 'standard output: write: Bad file descriptor' '"$tool" --help >&-'
 if can_trace; then
     for closed in '0<&-' '1>&-' '2>&-' '0<&- 1>&-' '0<&- 2>&-' '1>&- 2>&-' '0<&- 1>&- 2>&-'; do
         # shellcheck disable=SC2016
-        strace -o "$folder/calls" bash -c 'eval "exec $3"; exec "$1" "$2" tags 4' - "$tool" "$PWD/file.db" "$closed" \
+        strace -o "$scratch/calls" bash -c 'eval "exec $3"; exec "$1" "$2" tags 4' - "$tool" "$PWD/file.db" "$closed" \
             < key > /dev/null 2>&1
         rows=$((rows + 1))
-        if grep -q '^openat.*file\.db.* = [012]$' "$folder/calls"; then
-            wrong=$((wrong + 1))
-            echo "edges: with $closed a file has the number of a standard stream"
-        fi
+        ! grep -q '^openat.*file\.db.* = [012]$' "$scratch/calls" || say "with $closed a file has the number of a standard stream"
     done
 else
     leave_out "the numbers of files beside closed streams, since strace is missing or cannot trace"
@@ -136,9 +128,9 @@ row 1 usage "$usage" '"$tool" file.db find 4 $'"'\xff'"' 1 1 < key'
 row 1 usage 'unknown command `Find`' '"$tool" file.db Find 4 items 1 1 < key'
 row 1 usage '`probe` takes no further word' '"$tool" file.db probe 4 < key'
 row 0 'sqlcipher-tool 0.1.0' '' '"$tool" --version'
-"$tool" --help > "$folder/help" 2> "$folder/errors"
+"$tool" --help > "$scratch/help" 2> "$scratch/errors"
 for asked in '-h' 'help' 'file.db --help'; do
-    row 0 "$(cat "$folder/help")" '' "\"\$tool\" $asked"
+    row 0 "$(cat "$scratch/help")" '' "\"\$tool\" $asked"
 done
 row 2 'profile has no tags' '' '"$tool" file.db tags 1 <&-'
 
@@ -340,8 +332,8 @@ waiting() { # waiting CHANGE: the status where the change comes after the first 
 }
 row 4 '' 'changing.db: read: the file was cut while it was read' "waiting 'truncate -s 40960 changing.db'"
 row 2 '' '`verify` looks at those that are' "waiting 'rm changing.db'"
-row 2 '' $'another program wrote to the file meanwhile\n`verify` looks at those that are' "waiting 'touch changing.db'"
 row 0 'page 8001: tag refused' '' 'tail -n 1 rest'
+row 4 '' $'another program wrote to the file meanwhile\nchanging.db: it was not touched' "waiting 'touch changing.db'"
 
 # Long work shows how far it is where standard error is a terminal, and only there. To decrypt 1,000 MiB takes more than a second.
 if has script; then
@@ -380,7 +372,7 @@ row 3 "$refused" 'it is not encrypted, but its header names no size of pages' "e
 row 3 "$refused" 'does not fit under version 4' '{ printf "SQLite format 3\1"; tail -c +17 file.db; } > other.db; "$tool" other.db tags 4 < key'
 rows=$((rows + 1))
 for line in "$digits" "old carriage" 'quoted secret"'; do
-    printf '%s\n' "$line" | "$tool" file.db tags 4 2>&1 > /dev/null | grep -qF -- "$line" && wrong=$((wrong + 1))
+    printf '%s\n' "$line" | "$tool" file.db tags 4 2>&1 > /dev/null | grep -qF -- "$line" && say "a key is shown: $line"
 done
 
 row 2 'key with salt' 'give the first 64 digits alone' "echo \"x'$digits${digits:0:32}'\" | \"\$tool\" file.db tags 4"
@@ -395,13 +387,14 @@ left_clear="the old file's rows in the clear are gone from this name, but not fr
 row 0 'made: 40 rows, 90000 data bytes' '' '"$tool" sqlite.db make plain:1024 40 <&-'
 cp sqlite.db kept.db
 plain_pages=$(($(stat -c %s sqlite.db) / 1024))
-for words in 'tags 4' 'header 3' 'verify 4:1024' 'export 2' 'salvage 4' 'find 4 items 1 1' probe 'stamp 4 user-version 7' 'rekey 4 4' 'migrate 4 3' 'migrate 4 plain:1024'; do
+while read -r words; do
     row 3 "$refused" "$unencrypted" "cat key key | \"\$tool\" sqlite.db $words"
-done
+done < <(commands 4 3 check part search change; commands 2 plain:1024 check change; commands 4:1024 3 check)
 row 3 "$refused" 'it is not encrypted' '"$tool" sqlite.db verify 1 < key'
-for words in 'header plain:1024' 'verify plain:4096' 'export plain:512' 'find plain:4096 items 1 1' 'stamp plain:4096 user-version 7' 'migrate plain:4096 plain:512'; do
+# (`salvage` takes each page by itself)
+while read -r words; do
     row 3 "$refused" "$magic" "\"\$tool\" file.db $words <&-"
-done
+done < <(commands plain:4096 plain:512 check part change | grep -v '^salvage'; commands plain:512 plain:1024 check)
 row 3 "$refused" "$magic" '"$tool" file.db migrate plain:4096 4 < key'
 row 2 'profile has no tags' 'a plain file has no tags: `verify` checks its structure' '"$tool" sqlite.db tags plain:1024 <&-'
 for words in 'plain:1024 4' '4 plain:1024' 'plain:1024 plain:1024' 'plain:1024 plain:512'; do
@@ -538,7 +531,7 @@ row 0 'profile 4' "$left" '"$tool" moved.db probe < key'
 row 0 '' "$left" '"$tool" moved.db verify 4 < key > lines.txt'
 row 0 "$hold" '' '"$tool" moved.db tags 4 < key'
 head -c 9000 /dev/zero > moved.db-migrated
-row 0 'nothing' 'moved.db-migrated: an unfinished new file, no part of the database; it may be removed' '"$tool" moved.db recover 4'
+row 0 'nothing' 'moved.db-migrated: an unfinished new file, or a second name of the file, and no part of the database; it may be removed' '"$tool" moved.db recover 4'
 row 0 "migrated: $pages pages" "$raw" '"$tool" moved.db migrate 4 4 < keys'
 
 # Who else has the file, and where nobody could be looked for.
@@ -555,7 +548,7 @@ else
 fi
 
 # Version 4 with pages of other sizes: probe names the size, and each command goes by it.
-"$tool" sized.db make 4:65536 7 < key > made 2> "$folder/errors" || exit 1
+"$tool" sized.db make 4:65536 7 < key > made 2> "$scratch/errors" || exit 1
 row 0 'profile 4:65536' '' '"$tool" sized.db probe < key'
 row 3 "$refused" 'and the size of its pages' '"$tool" sized.db tags 4 < key'
 row 0 'tags hold: 4 pages' '' '"$tool" sized.db tags 4:65536 < key'
@@ -647,5 +640,4 @@ else
     leave_out "a file in WAL mode, since Python's cryptography is missing"
 fi
 
-echo "edges: $((rows - wrong)) of $rows rows are as they should be"
-finish "$wrong"
+finish "$rows rows"

@@ -12,13 +12,8 @@
 # others; of the script fewer. PROGRAM names another program, SQLCIPHER4 the product built for version 4. Needs strace, for the product's
 # reading sqlcipher, and for the requests of memory a C compiler.
 set -u
-top=$(cd "$(dirname "$0")/.." && pwd) || exit 1
-program=${PROGRAM:-$top/out/sqlcipher-tool}
-scratch=$(mktemp -d -p /dev/shm 2> /dev/null || mktemp -d) || exit 1
-trap 'rm -rf "$scratch"' EXIT
-scratch=$(readlink -f "$scratch")
-. "$top/tests/common.sh"
-export LC_ALL=C.UTF-8 HOME=$scratch
+. "$(dirname "$0")/common.sh"
+begin 'faults'
 stride=${STRIDE:-8}
 sparse=$((stride * 3 - 2))      # a script's calls are more than those of all others, since its lines are read byte by byte
 
@@ -30,14 +25,11 @@ place='9 500'
 printf '%s\n' "open 0 3 $k1" 'share 0' 'reserve 0' "change 0 $place 1" 'commit 0' 'share 0' 'reserve 0' "change 0 $place 2" 'commit 0' \
     'share 0' 'reserve 0' "change 0 $place 3" "rekey 0 3 $k2" 'commit 0' > "$scratch/script"
 
-say() { echo "faults: $*"; echo wrong >> "$scratch/wrong"; }
 count() { echo "$1" >> "$scratch/ends"; }
 
 # ---- the files: the old one, with a hot journal beside it for the recovery, and what is in it
 
-sql() { { echo ".output /dev/null"; opening "$1" "$2"; echo ".output stdout"; cat; } | "$(product "$1")" -batch "$3" 2> /dev/null; }    # sql VERSION KEY FILE
 dump() { printf 'PRAGMA integrity_check;\n.dump\n' | sql "$1" "$2" "$3"; }                 # dump VERSION KEY FILE: `ok`, and the rows
-asked() { printf '%s\n' "$1" | "$program" "${@:2}" 2> /dev/null; }       # asked KEY FILE WORDS..
 key_after() { [ "$1" = 3 ] && echo "$k2" || echo "$k1"; }                 # key_after COMMITS: that of the file after so many of the script
 
 "$program" "$scratch/plain" make 3 30 < "$scratch/keys" > /dev/null 2>&1 || { echo "faults: make fails"; exit 1; }
@@ -181,7 +173,7 @@ thinned() {
         END { for (i = 1; i <= NR; i++) { turn = at[key[i]]++; if (many[key[i]] <= 20 || turn % stride == 0) print line[i] } }'
 }
 
-called=open,openat,creat,read,pread64,write,pwrite64,ftruncate,fsync,fdatasync,unlink,unlinkat,rename,renameat,renameat2
+called=open,openat,creat,read,pread64,write,pwrite64,ftruncate,fsync,fdatasync,unlink,unlinkat,rename,renameat,renameat2,link,linkat
 called+=,stat,lstat,fstat,statx,newfstatat,readlink,readlinkat,fchmod,fchown,flock
 
 failing() { # failing NAME FILE LATER WORDS..: each call of this command failing alone, in a process of its own
@@ -283,9 +275,6 @@ else
 fi
 
 cat "$scratch/lines" 2> /dev/null
-wrong=0
-[ ! -e "$scratch/wrong" ] || wrong=$(wc -l < "$scratch/wrong")
 ends() { grep -cx "$1" "$scratch/ends"; }
-[ "$(ends old)" -gt 0 ] && [ "$(ends new)" -gt 0 ] && [ "$(ends told)" -gt 0 ] || { echo "faults: no fault leaves the old content, or the new one"; wrong=$((wrong + 1)); }
-echo "faults: $(($(ends old) + $(ends new))) faults, $(ends old) leave the old content and $(ends new) the new one; $wrong wrong"
-finish "$wrong"
+[ "$(ends old)" -gt 0 ] && [ "$(ends new)" -gt 0 ] && [ "$(ends told)" -gt 0 ] || say "no fault leaves the old content, or the new one"
+finish "$(($(ends old) + $(ends new))) faults, $(ends old) leave the old content and $(ends new) the new one"

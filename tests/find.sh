@@ -2,36 +2,23 @@
 # `find` on the files of the product, of versions 1 to 4 and of each size of pages: of every table, for each rowid of a small one and for
 # ranges, it prints the rows of `export` with these rowids, and what the reference says (tests/reference/oracle/check_finds.py). Then on
 # hostile files whose schema can be read: the rows of the range where the pages that lead to them are sound, else a defect of that tree with
-# some of these rows before it, and the file is left as it was (tests/reference/oracle/hostile_files.py). Last, on a larger file, how many
-# reads of the file one row takes.
+# some of these rows before it, and the file is left as it was (tests/reference/oracle/hostile_files.py). Last, on made files of each profile, how
+# many reads of the file one row takes.
 #
 #     tests/find.sh [SEED [COUNT [FIRST]]]        600 hostile files from number 0 on, where nothing else is said
 #
 # PROGRAM names another program, SQLCIPHER4 the product built for version 4, PRODUCT_FILES the folder that tests/product_files.sh made, JOBS
 # another number of runs side by side. Needs Python's `cryptography`.
 set -u
-top=$(cd "$(dirname "$0")/.." && pwd) || exit 1
-program=${PROGRAM:-$top/out/sqlcipher-tool}
-# In memory where that can be had: nothing here looks at what a disk keeps.
-scratch=$(mktemp -d -p /dev/shm 2> /dev/null || mktemp -d) || exit 1
-trap 'rm -rf "$scratch"' EXIT
-export LC_ALL=C.UTF-8
-. "$top/tests/common.sh"
+. "$(dirname "$0")/common.sh"
+begin 'find'
 seed=${1:-7} count=${2:-600} first=${3:-0} jobs=${JOBS:-4}
 oracle=$top/tests/reference/oracle
-wrong=0
-say() { echo "find: $*"; wrong=$((wrong + 1)); }
 
 if ! has_reference; then
     leave_out "find, since Python's cryptography is missing"
-    finish 0
+    finish
 fi
-
-total() { # total NAME FILES..: the sum of these counts
-    local name=$1
-    shift
-    awk -F'\t' -v name="$name" '{ for (i = 1; i <= NF; i++) if (index($i, name "=") == 1) sum += substr($i, length(name) + 2) } END { print sum + 0 }' "$@"
-}
 
 side_by_side() { # side_by_side NAME FUNCTION: FUNCTION FOLDER NUMBER for each of the jobs, its lines in NAME-NUMBER.lines
     local name=$1 number started=()
@@ -40,7 +27,7 @@ side_by_side() { # side_by_side NAME FUNCTION: FUNCTION FOLDER NUMBER for each o
         started+=("$!")
     done
     for ((number = 0; number < jobs; number++)); do
-        wait "${started[number]}" || { grep -v 'files=' "$scratch/$name-$number.lines" | head -n 20; wrong=$((wrong + 1)); }
+        wait "${started[number]}" || { grep -v 'files=' "$scratch/$name-$number.lines" | head -n 20; say "a run of $name failed"; }
     done
 }
 
@@ -106,20 +93,30 @@ count_reads() { # count_reads LAST WORDS..: how often the file `made` is read, i
     [ "$(tail -n 1 "$scratch/lines")" = "$last" ] || say "$*: the last line is '$(tail -n 1 "$scratch/lines")'"
     found=$(wc -l < "$scratch/calls")
 }
+# A made file is found in as it stands, whatever its pages. The schema is one page and a row of the root; then a path of at most 20 pages, and the
+# overflow pages of the row: its data have at most 4,500 bytes, and the rest of it less than 40.
+reads_of() { # reads_of PROFILE RESERVE: what one row takes of a made file of 3,000 rows, in `shown`
+    local profile=$1 reserve=$2 opened most size rowid length rows
+    rm -f "$scratch/made"
+    "$program" "$scratch/made" make "$profile" 3000 < "$scratch/key" > "$scratch/lines" 2>&1 || say "make $profile 3000 fails"
+    count_reads "sqlite version 3045000" header "$profile"
+    opened=$found shown=
+    size=$(sed -n 's/^page size //p' "$scratch/lines")
+    while read -r rowid length rows; do
+        count_reads "found: $rows rows" find "$profile" items "$rowid" "$rowid"
+        most=$((opened + 2 + 20 + (length + size - reserve - 5) / (size - reserve - 4)))
+        [ "$found" -gt "$opened" ] && [ "$found" -le "$most" ] || say "$profile: for rowid $rowid the file is read $found times, and $most are the most"
+        shown="$shown $found"
+    done <<< $'10 0 1\n1009 4540 1\n2999 4540 1\n3001 0 0\n-1 0 0'
+    echo "find: one row of a made $profile of $(($(stat -c %s "$scratch/made") / size)) pages takes$shown reads, where the header takes $opened"
+}
 if can_trace; then
-    "$program" "$scratch/made" make 3 3000 < "$scratch/key" > "$scratch/lines" 2>&1 || say "make 3 3000 fails"
-    count_reads "sqlite version 3045000" header 3
-    opened=$found all=
-    # The schema is one page and a row of the root; then a path of at most 20 pages, and an overflow page for each 972 bytes that are not on the leaf.
-    while read -r rowid chain rows; do
-        count_reads "found: $rows rows" find 3 items "$rowid" "$rowid"
-        most=$((opened + 2 + 20 + chain))
-        [ "$found" -gt "$opened" ] && [ "$found" -le "$most" ] || say "for rowid $rowid the file is read $found times, and $most are the most"
-        all="$all $found"
-    done <<< $'10 0 1\n1009 5 1\n2999 5 1\n3001 0 0\n-1 0 0'
-    echo "find: one row of a file of $(($(stat -c %s "$scratch/made") / 1024)) pages takes$all reads, where the header takes $opened"
+    reads_of 1 16
+    for profile in 2 3; do reads_of "$profile" 48; done
+    for profile in 4 $sizes; do reads_of "$profile" 80; done
+    for size in 512 1024 2048 4096 8192 16384 32768 65536; do reads_of "plain:$size" 0; done
 else
     leave_out "how much find reads, since strace is missing or cannot trace"
 fi
 
-finish "$wrong"
+finish

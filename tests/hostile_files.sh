@@ -11,29 +11,18 @@
 # PROGRAM names another program, JOBS another number of runs side by side. A file that a command is wrong on is told by its seed and
 # number; `tests/reference/oracle/hostile_files.py make SEED NUMBER FOLDER` writes it. Needs Python's `cryptography`.
 set -u
-top=$(cd "$(dirname "$0")/.." && pwd) || exit 1
-program=${PROGRAM:-$top/out/sqlcipher-tool}
-# In memory where that can be had: nothing here looks at what a disk keeps.
-scratch=$(mktemp -d -p /dev/shm 2> /dev/null || mktemp -d) || exit 1
-trap 'rm -rf "$scratch"' EXIT
-. "$top/tests/common.sh"
+. "$(dirname "$0")/common.sh"
+begin 'hostile files'
 seed=${1:-7} count=${2:-1000} first=${3:-0} jobs=${JOBS:-4}
 files=$top/tests/reference/oracle/hostile_files.py
-wrong=0
 
 if ! has_reference; then
     leave_out "hostile files, since Python's cryptography is missing"
-    finish 0
+    finish
 fi
 
 part() { # part PROGRAM NAME FIRST COUNT: its lines go to a file
     mkdir "$scratch/$2" && python3 "$files" "$1" "$scratch/$2" "$seed" "$3" "$4" > "$scratch/$2.lines" 2>&1
-}
-
-total() { # total NAME FILES..: the sum of these counts
-    local name=$1
-    shift
-    awk -F'\t' -v name="$name" '{ for (i = 1; i <= NF; i++) if (index($i, name "=") == 1) sum += substr($i, length(name) + 2) } END { print sum + 0 }' "$@"
 }
 
 # What has to be found wrong: a program that does nothing, and one that works and then changes a byte of the file.
@@ -43,7 +32,7 @@ chmod 755 "$scratch/idle" "$scratch/spoils"
 for stand_in in idle spoils; do
     part "$scratch/$stand_in" "by-$stand_in" 0 4
     found=$(total wrong "$scratch/by-$stand_in.lines")
-    [ "$found" -ge 41 ] || { echo "hostile files: of 44 runs of a program that $stand_in only $found are found wrong"; wrong=$((wrong + 1)); }
+    [ "$found" -ge 41 ] || say "of 44 runs of a program that $stand_in only $found are found wrong"
 done
 
 started=()
@@ -53,13 +42,13 @@ for ((part = 0; part < jobs; part++)); do
     started+=("$!")
 done
 for ((part = 0; part < jobs; part++)); do
-    wait "${started[part]}" || { grep -v 'files=' "$scratch/part-$part.lines" | head -n 20; wrong=$((wrong + 1)); }
+    wait "${started[part]}" || { grep -v 'files=' "$scratch/part-$part.lines" | head -n 20; say "part $part failed"; }
 done
 
-say() { total "$1" "$scratch"/part-*.lines; }
-[ "$(say files)" -eq "$count" ] || { echo "hostile files: $(say files) of $count files were tried"; wrong=$((wrong + 1)); }
-[ "$(say refused)" -gt 0 ] && [ "$(say changed)" -gt 0 ] && [ "$(say 'played back')" -gt 0 ] || wrong=$((wrong + 1))
-echo "hostile files: seed $seed, $(say files) files, $(say journals) with a journal, of which $(say 'played back') play back; $(say runs) runs:" \
-    "$(say 'sound or done') read and sound, $(say changed) changed, $(say refused) refused ($(say 'another defect of the same part') for another" \
-    "defect of the same part); $(say wrong) wrong"
-finish "$wrong"
+told() { total "$1" "$scratch"/part-*.lines; }
+[ "$(told files)" -eq "$count" ] || say "$(told files) of $count files were tried"
+for kind in refused changed 'played back'; do [ "$(told "$kind")" -gt 0 ] || say "no file was $kind"; done
+echo "hostile files: seed $seed, $(told files) files, $(told journals) with a journal, of which $(told 'played back') play back; $(told runs) runs:" \
+    "$(told 'sound or done') read and sound, $(told changed) changed, $(told refused) refused ($(told 'another defect of the same part') for another" \
+    "defect of the same part); $(told wrong) wrong"
+finish

@@ -10,32 +10,10 @@
 #
 # PROGRAM names another program, SQLCIPHER4 the product built for version 4, PRODUCT_FILES the folder that tests/product_files.sh made.
 set -u
-top=$(cd "$(dirname "$0")/.." && pwd) || exit 1
-program=${PROGRAM:-$top/out/sqlcipher-tool}
-scratch=$(mktemp -d) || exit 1
-trap 'rm -rf "$scratch"' EXIT
-export LC_ALL=C.UTF-8 HOME=$scratch
-
-. "$top/tests/common.sh"
-
+. "$(dirname "$0")/common.sh"
+begin 'migrate'
 k1="x'ffffffffffffffffffffffffffffffffffffffffffffffffffffffffffffffff'"
 k2="x'0f1e2d3c4b5a69788796a5b4c3d2e1f00f1e2d3c4b5a69788796a5b4c3d2e1f0'"
-
-say() { echo "migrate: $*"; echo wrong >> "$scratch/wrong"; }
-
-sql() { # sql VERSION KEY FILE: runs the SQL of standard input in the product of this version
-    { echo ".output /dev/null"; opening "$1" "$2"; echo ".output stdout"; cat; } | "$(product "$1")" -batch "$3" 2> /dev/null
-}
-
-check() { echo "PRAGMA integrity_check;" | sql "$1" "$2" "$3"; }    # check VERSION KEY FILE
-
-dump() { echo ".dump" | sql "$1" "$2" "$3"; }                      # dump VERSION KEY FILE
-
-asked() { # asked KEY FILE WORDS..: what the program prints
-    local key=$1
-    shift
-    printf '%s\n' "$key" | "$program" "$@" 2> /dev/null
-}
 
 place() { # place FROM TO: the file and its journal
     rm -f "$2" "$2-journal" "$2-migrated"
@@ -203,7 +181,4 @@ else
     wait
 fi
 
-wrong=0
-[ ! -e "$scratch/wrong" ] || wrong=$(wc -l < "$scratch/wrong")
-echo "migrate: $wrong wrong"
-finish "$wrong"
+finish

@@ -5,13 +5,6 @@ k1="x'ffffffffffffffffffffffffffffffffffffffffffffffffffffffffffffffff'"
 k2="x'0f1e2d3c4b5a69788796a5b4c3d2e1f00f1e2d3c4b5a69788796a5b4c3d2e1f0'"
 k3="x'00112233445566778899aabbccddeeff00112233445566778899aabbccddeeff'"
 
-sql() { # sql VERSION KEY FILE: runs the SQL of standard input
-    { echo ".output /dev/null"; opening "$1" "$2"; echo ".output stdout"; cat; } | "$(product "$1")" -batch "$3" 2> /dev/null
-}
-
-check() { echo "PRAGMA integrity_check;" | sql "$1" "$2" "$3"; }                    # check VERSION KEY FILE
-dump() { echo ".dump" | sql "$1" "$2" "$3"; }                                      # dump VERSION KEY FILE
-
 which_key() { # which_key VERSION FILE: the key of this file under which `verify` finds it sound, or nothing
     local key
     for key in "$k1" "$k2" "$k3"; do

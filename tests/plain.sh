@@ -11,19 +11,12 @@
 #
 # With sizes only files with such pages are looked at. PROGRAM names another program, SQLCIPHER4 the product built for version 4.
 set -u
-top=$(cd "$(dirname "$0")/.." && pwd) || exit 1
-program=${PROGRAM:-$top/out/sqlcipher-tool}
-scratch=$(mktemp -d) || exit 1
-trap 'rm -rf "$scratch"' EXIT
-scratch=$(readlink -f "$scratch")
-export LC_ALL=C.UTF-8 HOME=$scratch
-. "$top/tests/common.sh"
+. "$(dirname "$0")/common.sh"
+begin 'plain'
 check=$top/tests/reference/oracle/check_plain.py
 
 k1="x'ffffffffffffffffffffffffffffffffffffffffffffffffffffffffffffffff'"
 printf '%s\n' "$k1" > "$scratch/key"
-
-say() { echo "plain: $*"; echo wrong >> "$scratch/wrong"; }
 
 # A plain file is read by the product without a key, so that one program writes both dumps; SQLite itself reads it where it is the last word.
 sql() { # sql PROFILE FILE: runs the SQL of standard input in the product of this version
@@ -105,7 +98,7 @@ migrate_one() { # migrate_one NAME WORD PROFILE: a copy of the file is encrypted
     [ -z "$(product "$later")" ] || dump "$later" "$copy" | cmp -s - "$scratch/dumps/$name" || say "$name to $later: the product dumps other rows"
     "$program" "$copy" migrate "$later" "$word" < "$scratch/key" > "$copy.line" 2> "$copy.errors" || say "$name from $later: $(cat "$copy.line" "$copy.errors")"
     [ "$(grep -c 'holds every row in the clear' "$copy.errors")" -eq 1 ] || say "$name from $later: it is not said once to be in the clear"
-    [ "$(wc -l < "$copy.errors")" -eq 1 ] || say "$name from $later: $(cat "$copy.errors")"
+    [ "$(grep -vc 'lock on the file is not held' "$copy.errors")" -eq 1 ] || say "$name from $later: $(cat "$copy.errors")"
     asked "$copy" export "$word" | cmp -s - "$scratch/texts/$name" || say "$name from $later: another text is exported"
     asked "$copy" verify "$word" | grep -q '^ok: .* 0 free pages, 0 unused pages$' || say "$name from $later: verify does not find it whole"
     by_sqlite "$copy" | cmp -s - "$scratch/rows/$name" || say "$name from $later: SQLite reads other rows"
@@ -226,11 +219,12 @@ taken_and_drawn() {
     strace -f -qq -o "$scratch/calls" -e trace=getrandom "$program" --version > /dev/null
     grep -c getrandom "$scratch/calls" > "$scratch/getrandoms"
     untaken make plain:1024 3
-    for words in header verify export salvage recover tags; do untaken "$words" plain:1024; done
-    untaken find plain:1024 items 1 9
+    while read -r words; do
+        # shellcheck disable=SC2086
+        untaken $words
+    done < <(commands plain:1024 plain:4096 check part recovery change)
+    untaken tags plain:1024
     untaken find plain:1024 Items 1 9
-    untaken stamp plain:1024 user-version 5
-    untaken migrate plain:1024 plain:4096
     untaken rekey plain:1024 4
     untaken rekey plain:1024 plain:1024
     # One line is read of two words of which one is plain, and the other line stays.
@@ -297,7 +291,7 @@ beside_programs() {
 
 if ! has python3 || ! has_reference; then
     leave_out "plain files, since Python's cryptography is missing"
-    finish 0
+    finish
 fi
 mkdir "$scratch/files"
 python3 "$check" make "$scratch/files" "$@" || { echo "plain: the files are not made"; exit 1; }
@@ -331,7 +325,4 @@ else
 fi
 beside_programs
 
-wrong=0
-[ ! -e "$scratch/wrong" ] || wrong=$(wc -l < "$scratch/wrong")
-echo "plain: $wrong wrong"
-finish "$wrong"
+finish

@@ -11,30 +11,18 @@
 # PROGRAM names another program, SQLCIPHER4 the product built for version 4, JOBS another number of runs side by side, DEPTH another depth
 # (`all` for every state there is). Needs Python's `cryptography`.
 set -u
-top=$(cd "$(dirname "$0")/.." && pwd) || exit 1
-program=${PROGRAM:-$top/out/sqlcipher-tool}
-# In memory where that can be had: a stop is that of the program, so nothing here looks at what a disk keeps.
-scratch=$(mktemp -d -p /dev/shm 2> /dev/null || mktemp -d) || exit 1
-trap 'rm -rf "$scratch"' EXIT
-export LC_ALL=C.UTF-8 HOME=$scratch PYTHONDONTWRITEBYTECODE=1
-. "$top/tests/common.sh"
+. "$(dirname "$0")/common.sh"
+begin 'play'
 seed=${1:-7} count=${2:-200} jobs=${JOBS:-4}
 check=$top/tests/reference/oracle/check_plays.py
 k0="x'000102030405060708090a0b0c0d0e0f101112131415161718191a1b1c1d1e1f'"
 k1="x'$(printf 'f%.0s' {1..64})'"
 rows=0
-say() { echo "play: $*"; echo wrong >> "$scratch/wrong"; }
 
 if ! has_reference; then
     leave_out "play, since Python's cryptography is missing"
-    finish 0
+    finish
 fi
-
-total() { # total NAME FILES..: the sum of these counts
-    local name=$1
-    shift
-    awk -F'\t' -v name="$name" '{ for (i = 1; i <= NF; i++) if (index($i, name "=") == 1) sum += substr($i, length(name) + 2) } END { print sum + 0 }' "$@"
-}
 
 keyed() { sed -e "s/K0/$k0/g" -e "s/K1/$k1/g"; }
 letters() { printf "%$1s" '' | tr ' ' "${2:-k}"; }      # letters COUNT [LETTER]
@@ -407,7 +395,4 @@ for version in $versions; do
         "locked, $(told "$name" 'rows read') rows read, $(told "$name" commits) commits, $(told "$name" rekeys) rekeys; $(told "$name" wrong) wrong"
 done
 
-wrong=0
-[ ! -e "$scratch/wrong" ] || wrong=$(wc -l < "$scratch/wrong")
-echo "play: $wrong wrong"
-finish "$wrong"
+finish

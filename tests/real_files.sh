@@ -9,15 +9,10 @@
 #
 # PROGRAM names another program, SQLCIPHER4 the product built for version 4, PRODUCT_FILES the folder that tests/product_files.sh made.
 set -u
-top=$(cd "$(dirname "$0")/.." && pwd) || exit 1
-program=${PROGRAM:-$top/out/sqlcipher-tool}
+. "$(dirname "$0")/common.sh"
+begin 'real files'
 oracle=$top/tests/reference/oracle/sqlcipher_oracle.py
-folder=$(mktemp -d) || exit 1
-trap 'rm -rf "$folder"' EXIT
-scratch=$folder
-. "$top/tests/common.sh"
 compared=0
-differ=0
 
 k0="x'000102030405060708090a0b0c0d0e0f101112131415161718191a1b1c1d1e1f'"
 k1="x'ffffffffffffffffffffffffffffffffffffffffffffffffffffffffffffffff'"
@@ -31,24 +26,23 @@ make() { # make FILE KEY PROFILE ROWS
 compare() { # compare FILE KEY WORDS..: the same lines and the same status
     local file=$1 key=$2
     shift 2
-    printf '%s\n' "$key" > "$folder/key"
-    compare_with "$file" "$folder/key" "$@"
+    printf '%s\n' "$key" > "$scratch/key"
+    compare_with "$file" "$scratch/key" "$@"
 }
 
 compare_with() { # compare_with FILE KEYFILE WORDS..
     local file=$1 key=$2
     shift 2
-    python3 "$oracle" "$file" "$@" < "$key" > "$folder/expected" 2> /dev/null
+    python3 "$oracle" "$file" "$@" < "$key" > "$scratch/expected" 2> /dev/null
     local expected=$?
-    "$program" "$file" "$@" < "$key" > "$folder/found" 2> /dev/null
+    "$program" "$file" "$@" < "$key" > "$scratch/found" 2> /dev/null
     local found=$?
     compared=$((compared + 1))
-    if [ "$expected" -ne "$found" ] || ! cmp -s "$folder/expected" "$folder/found"; then
-        differ=$((differ + 1))
-        echo "real files: $(basename "$file") $*: the reference ends with $expected and prints"
-        head -n 5 "$folder/expected"
+    if [ "$expected" -ne "$found" ] || ! cmp -s "$scratch/expected" "$scratch/found"; then
+        say "$(basename "$file") $*: the reference ends with $expected and prints"
+        head -n 5 "$scratch/expected"
         echo "the program ends with $found and prints"
-        head -n 5 "$folder/found"
+        head -n 5 "$scratch/found"
     fi
 }
 
@@ -71,23 +65,22 @@ pages() { echo $(($(stat -c %s "$1") / 4096)); }
 compare_recovered() { # compare_recovered FILE KEYFILE COMMAND PROFILE
     local file=$1 key=$2 copy
     shift 2
-    rm -rf "$folder/asked" "$folder/wanted" "$folder/left"
+    rm -rf "$scratch/asked" "$scratch/wanted" "$scratch/left"
     for copy in asked wanted left; do
-        mkdir "$folder/$copy" && cp "$file" "$folder/$copy/file" && cp "$file-journal" "$folder/$copy/file-journal" || exit 1
+        mkdir "$scratch/$copy" && cp "$file" "$scratch/$copy/file" && cp "$file-journal" "$scratch/$copy/file-journal" || exit 1
     done
-    python3 "$oracle" "$folder/asked/file" "$@" < "$key" > "$folder/expected" 2> /dev/null
+    python3 "$oracle" "$scratch/asked/file" "$@" < "$key" > "$scratch/expected" 2> /dev/null
     local expected=$?
     # The words `tags 1` are refused before any file is looked at.
-    [ "$*" = "tags 1" ] || python3 "$oracle" "$folder/wanted/file" recover "$2" > /dev/null 2>&1
-    "$program" "$folder/left/file" "$@" < "$key" > "$folder/found" 2> /dev/null
+    [ "$*" = "tags 1" ] || python3 "$oracle" "$scratch/wanted/file" recover "$2" > /dev/null 2>&1
+    "$program" "$scratch/left/file" "$@" < "$key" > "$scratch/found" 2> /dev/null
     local found=$?
     compared=$((compared + 1))
-    if [ "$expected" -ne "$found" ] || ! cmp -s "$folder/expected" "$folder/found" || ! diff -rq "$folder/wanted" "$folder/left"; then
-        differ=$((differ + 1))
-        echo "real files: $(basename "$file") $*: the reference ends with $expected and prints"
-        head -n 5 "$folder/expected"
+    if [ "$expected" -ne "$found" ] || ! cmp -s "$scratch/expected" "$scratch/found" || ! diff -rq "$scratch/wanted" "$scratch/left"; then
+        say "$(basename "$file") $*: the reference ends with $expected and prints"
+        head -n 5 "$scratch/expected"
         echo "the program ends with $found and prints"
-        head -n 5 "$folder/found"
+        head -n 5 "$scratch/found"
     fi
 }
 
@@ -98,16 +91,15 @@ dump() { # dump PROGRAM FILE STATEMENTS: the lines of its dump, sorted, since ob
 # What the product dumps of a sound file, and of the plain database that SQLite makes of the program's export, has the same lines.
 compare_dump() { # compare_dump FILE KEYFILE PROFILE
     local file=$1 key=$2 profile=$3 product
-    "$program" "$file" export "$profile" < "$key" > "$folder/text" 2> /dev/null || return 0
+    "$program" "$file" export "$profile" < "$key" > "$scratch/text" 2> /dev/null || return 0
     product=$(product "$profile")
-    rm -f "$folder/plain.db"
+    rm -f "$scratch/plain.db"
     compared=$((compared + 1))
-    if ! "$top/tools/export_to_sql.py" < "$folder/text" | sqlite3 -bail "$folder/plain.db" ||
-        ! dump "$product" "$file" "$(opening "$profile" "$(cat "$key")")" > "$folder/expected" ||
-        ! dump "$product" "$folder/plain.db" "" > "$folder/found" || ! cmp -s "$folder/expected" "$folder/found"; then
-        differ=$((differ + 1))
-        echo "real files: $(basename "$file"): the dump of what export and export_to_sql.py give is another one than the product's"
-        diff "$folder/expected" "$folder/found" | cut -c 1-200 | head -n 10
+    if ! "$top/tools/export_to_sql.py" < "$scratch/text" | sqlite3 -bail "$scratch/plain.db" ||
+        ! dump "$product" "$file" "$(opening "$profile" "$(cat "$key")")" > "$scratch/expected" ||
+        ! dump "$product" "$scratch/plain.db" "" > "$scratch/found" || ! cmp -s "$scratch/expected" "$scratch/found"; then
+        say "$(basename "$file"): the dump of what export and export_to_sql.py give is another one than the product's"
+        diff "$scratch/expected" "$scratch/found" | cut -c 1-200 | head -n 10
     fi
 }
 
@@ -116,7 +108,7 @@ compare_dump() { # compare_dump FILE KEYFILE PROFILE
 reference_files() {
     local sound damaged all swapped longer first unfit file profile key words at n len
     # A file of SQLCipher 4 with tables, indexes and overflow chains.
-    sound=$folder/sound.db
+    sound=$scratch/sound.db
     make "$sound" "$k0" 4 400
     [ "$(pages "$sound")" -ge 200 ] || { echo "real files: the file has only $(pages "$sound") pages"; exit 1; }
     compare "$sound" "$k0" tags 4
@@ -126,7 +118,7 @@ reference_files() {
     compare "$sound" "$k1" tags 4
 
     # Pages that are damaged in the ciphertext, the IV, the tag and the first byte, the last page among them.
-    damaged=$folder/damaged.db
+    damaged=$scratch/damaged.db
     cp "$sound" "$damaged"
     for at in 5000 $((4096 * 9 + 4020)) $((4096 * 10 + 4032)) $((4096 * 57 + 4095)) $((4096 * 100)) $(($(stat -c %s "$sound") - 1)); do
         flip "$damaged" "$at"
@@ -136,7 +128,7 @@ reference_files() {
     compare "$damaged" "$k0" export 4
 
     # Every page but the first.
-    all=$folder/all.db
+    all=$scratch/all.db
     cp "$sound" "$all"
     for n in $(seq 1 $(($(pages "$sound") - 1))); do
         flip "$all" $((4096 * n + 77))
@@ -146,23 +138,23 @@ reference_files() {
     compare "$all" "$k0" export 4
 
     # Two pages in each other's place, bytes past the last page, and page 1 alone.
-    swapped=$folder/swapped.db
+    swapped=$scratch/swapped.db
     cp "$sound" "$swapped"
     dd if="$sound" of="$swapped" bs=4096 skip=20 seek=30 count=1 conv=notrunc status=none
     dd if="$sound" of="$swapped" bs=4096 skip=30 seek=20 count=1 conv=notrunc status=none
     compare "$swapped" "$k0" tags 4
     compare "$swapped" "$k0" verify 4
     compare "$swapped" "$k0" export 4
-    longer=$folder/longer.db
+    longer=$scratch/longer.db
     cp "$sound" "$longer"
     head -c 4000 /dev/zero >> "$longer"
     compare "$longer" "$k0" tags 4
-    first=$folder/first.db
+    first=$scratch/first.db
     head -c 4096 "$sound" > "$first"
     compare "$first" "$k0" tags 4
 
     # Page 1 damaged: the key does not fit.
-    unfit=$folder/unfit.db
+    unfit=$scratch/unfit.db
     cp "$sound" "$unfit"
     flip "$unfit" 3000
     compare "$unfit" "$k0" tags 4
@@ -170,12 +162,12 @@ reference_files() {
     # Each profile under a raw key and a passphrase, with the command for the header and the search for the profile.
     for profile in 1 2 3 4 $sizes; do
         for key in "$k0" "it's a pässwörd"; do
-            file=$folder/profile-$profile.db
+            file=$scratch/profile-$profile.db
             make "$file" "$key" "$profile" 40
-            for words in "tags $profile" "header $profile" "verify $profile" "export $profile" probe; do
+            while read -r words; do
                 # shellcheck disable=SC2086
                 compare "$file" "$key" $words
-            done
+            done < <(commands "$profile" "$profile" check search)
         done
         compare "$file" "$k1" header "$profile"
     done
@@ -183,19 +175,19 @@ reference_files() {
     # The largest pages under the words of the others, and `4:4096` for `4`.
     for words in "tags 4" "header 4:32768" "verify 4:1024"; do
         # shellcheck disable=SC2086
-        compare "$folder/profile-4:65536.db" "$key" $words
+        compare "$scratch/profile-4:65536.db" "$key" $words
     done
     compare "$sound" "$k0" verify 4:4096
 
     # Lengths: nothing, one byte, and beside a page.
     for len in 0 1 1023 1024 4095 4096 4097; do
-        head -c "$len" "$sound" > "$folder/cut.db"
-        compare "$folder/cut.db" "$k0" tags 4
-        compare "$folder/cut.db" "$k0" tags 4:1024
-        compare "$folder/cut.db" "$k0" header 4
-        compare "$folder/cut.db" "$k0" verify 4
-        compare "$folder/cut.db" "$k0" export 4
-        compare "$folder/cut.db" "$k0" probe
+        head -c "$len" "$sound" > "$scratch/cut.db"
+        compare "$scratch/cut.db" "$k0" tags 4
+        compare "$scratch/cut.db" "$k0" tags 4:1024
+        compare "$scratch/cut.db" "$k0" header 4
+        compare "$scratch/cut.db" "$k0" verify 4
+        compare "$scratch/cut.db" "$k0" export 4
+        compare "$scratch/cut.db" "$k0" probe
     done
 }
 
@@ -204,8 +196,8 @@ reference_files() {
 product_files() {
     local name profile journal file key words
     # The files, their journals and all that the reference reads in them are those of the table.
-    python3 "$top/tests/reference/oracle/check_files.py" compare "$files" "$table" > "$folder/compared" || {
-        cat "$folder/compared"
+    python3 "$top/tests/reference/oracle/check_files.py" compare "$files" "$table" > "$scratch/compared" || {
+        cat "$scratch/compared"
         fail "the product's files are not those of the table"
     }
     while IFS=$'\t' read -r name profile _ _ journal _; do
@@ -216,9 +208,11 @@ product_files() {
         compare_with "$file" "$key" probe
         if [ "$journal" != none ]; then
             [ -f "$file-journal" ] || fail "$name has no journal"
-            for words in recover tags header verify export; do compare_recovered "$file" "$key" "$words" "$profile"; done
+            # shellcheck disable=SC2086
+            while read -r words; do compare_recovered "$file" "$key" $words; done < <(commands "$profile" "$profile" recovery check)
         else
-            for words in tags header verify export; do compare_with "$file" "$key" "$words" "$profile"; done
+            # shellcheck disable=SC2086
+            while read -r words; do compare_with "$file" "$key" $words; done < <(commands "$profile" "$profile" check)
         fi
     done < "$table"
 }
@@ -228,14 +222,14 @@ product_dumps() {
     local name profile journal
     while IFS=$'\t' read -r name profile _ _ journal _; do
         [ "$name" != file ] && [ "$journal" = none ] || continue
-        cp "$files/$name" "$folder/dumped.db"
-        compare_dump "$folder/dumped.db" "$files/${name%.db}.key" "$profile"
+        cp "$files/$name" "$scratch/dumped.db"
+        compare_dump "$scratch/dumped.db" "$files/${name%.db}.key" "$profile"
     done < "$table"
 }
 
 if has_reference; then
-    python3 "$top/tests/reference/oracle/check_rows.py" > "$folder/rows" || {
-        grep -v '^note' "$folder/rows"
+    python3 "$top/tests/reference/oracle/check_rows.py" > "$scratch/rows" || {
+        grep -v '^note' "$scratch/rows"
         fail "the reference fails its known answers"
     }
     reference_files
@@ -252,5 +246,4 @@ else
     leave_out "dumps, since sqlite3 is missing"
 fi
 
-echo "real files: $((compared - differ)) of $compared comparisons are the same"
-finish "$differ"
+finish "$compared comparisons"

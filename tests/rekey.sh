@@ -8,25 +8,11 @@
 #
 # PROGRAM names another program, SQLCIPHER4 the product built for version 4, PRODUCT_FILES the folder that tests/product_files.sh made.
 set -u
-top=$(cd "$(dirname "$0")/.." && pwd) || exit 1
-program=${PROGRAM:-$top/out/sqlcipher-tool}
-scratch=$(mktemp -d) || exit 1
-trap 'rm -rf "$scratch"' EXIT
-export LC_ALL=C.UTF-8 HOME=$scratch
-
-. "$top/tests/common.sh"
-
+. "$(dirname "$0")/common.sh"
+begin 'rekey'
 k1="x'ffffffffffffffffffffffffffffffffffffffffffffffffffffffffffffffff'"
 k2="x'0f1e2d3c4b5a69788796a5b4c3d2e1f00f1e2d3c4b5a69788796a5b4c3d2e1f0'"
 
-say() { echo "rekey: $*"; echo wrong >> "$scratch/wrong"; }
-
-sql() { # sql VERSION KEY FILE: runs the SQL of standard input
-    { echo ".output /dev/null"; opening "$1" "$2"; echo ".output stdout"; cat; } | "$(product "$1")" -batch "$3" 2> /dev/null
-}
-
-check() { echo "PRAGMA integrity_check;" | sql "$1" "$2" "$3"; }                    # check VERSION KEY FILE
-dump() { echo ".dump" | sql "$1" "$2" "$3"; }                                      # dump VERSION KEY FILE
 verified() { printf '%s\n' "$2" | "$program" "$3" verify "$1" 2> /dev/null; }      # verified VERSION KEY FILE
 
 # ---- files of the product
@@ -156,7 +142,4 @@ else
     leave_out "the stops of rekey, since strace is missing or cannot trace"
 fi
 
-wrong=0
-[ ! -e "$scratch/wrong" ] || wrong=$(wc -l < "$scratch/wrong")
-echo "rekey: $wrong wrong"
-finish "$wrong"
+finish

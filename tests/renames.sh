@@ -8,19 +8,13 @@
 #
 # TRIALS is how many trials each command has, 15 where it is not given. PROGRAM names another program.
 set -u
-top=$(cd "$(dirname "$0")/.." && pwd) || exit 1
-program=${PROGRAM:-$top/out/sqlcipher-tool}
+. "$(dirname "$0")/common.sh"
+begin 'renames'
 trials=${1:-15}
 seed=${2:-7}
-scratch=$(mktemp -d) || exit 1
-trap 'rm -rf "$scratch"' EXIT
-export LC_ALL=C.UTF-8 HOME=$scratch
 
-. "$top/tests/common.sh"
 . "$top/tests/others.sh"
-has sqlcipher || { echo "left out: all of it, since sqlcipher is missing"; exit 77; }
-
-say() { echo "renames: $*"; echo wrong >> "$scratch/wrong"; }
+needs sqlcipher
 
 write_database 3 "$k1" "$scratch/file" 300
 write_database 3 "$k1" "$scratch/other" 250
@@ -78,7 +72,4 @@ trials_of stamp cold stamp 3 user-version 9 &
 trials_of recover hot recover 3 &
 wait
 cat "$scratch"/seen-* > /dev/null 2>&1 || say "no run met a rename"
-wrong=0
-[ ! -e "$scratch/wrong" ] || wrong=$(wc -l < "$scratch/wrong")
-echo "renames: $((trials * 4)) trials of seed $seed, $wrong lost or wrong"
-[ "$wrong" -eq 0 ]
+finish "$((trials * 4)) trials of seed $seed"

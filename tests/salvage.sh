@@ -10,17 +10,10 @@
 # PROGRAM names another program, SQLCIPHER4 the product built for version 4, PRODUCT_FILES the folder that tests/product_files.sh made, JOBS
 # another number of runs side by side, ROWS of the large file (44,000, which are 110 MiB). Needs Python's `cryptography`, for the product's files.
 set -u
-top=$(cd "$(dirname "$0")/.." && pwd) || exit 1
-program=${PROGRAM:-$top/out/sqlcipher-tool}
-# In memory where that can be had: nothing here looks at what a disk keeps.
-scratch=$(mktemp -d -p /dev/shm 2> /dev/null || mktemp -d) || exit 1
-trap 'rm -rf "$scratch"' EXIT
-export LC_ALL=C.UTF-8
-. "$top/tests/common.sh"
+. "$(dirname "$0")/common.sh"
+begin 'salvage'
 seed=${1:-7} damages=${2:-5} jobs=${JOBS:-4}
 oracle=$top/tests/reference/oracle
-wrong=0
-say() { echo "salvage: $*"; wrong=$((wrong + 1)); }
 
 key="x'000102030405060708090a0b0c0d0e0f101112131415161718191a1b1c1d1e1f'"
 printf '%s\n' "$key" > "$scratch/key"
@@ -74,12 +67,6 @@ echo "salvage: $rows worked rows"
 
 # ---- files of the product
 
-total() { # total NAME FILES..: the sum of these counts
-    local name=$1
-    shift
-    awk -F'\t' -v name="$name" '{ for (i = 1; i <= NF; i++) if (index($i, name "=") == 1) sum += substr($i, length(name) + 2) } END { print sum + 0 }' "$@"
-}
-
 # What has to be found wrong: a program that does nothing, one that stops at the first refused page, one that leaves out a row, one that
 # prints a row of a refused page as lost, one that writes.
 stand_in() { # stand_in NAME LINES: of a shell, what it does for `salvage`
@@ -104,7 +91,7 @@ elif find_files; then
         started+=("$!")
     done
     for ((part = 0; part < jobs; part++)); do
-        wait "${started[part]}" || { grep -v 'files=' "$scratch/part-$part.lines" | head -n 20; wrong=$((wrong + 1)); }
+        wait "${started[part]}" || { grep -v 'files=' "$scratch/part-$part.lines" | head -n 20; say "part $part failed"; }
     done
     told() { total "$1" "$scratch"/part-*.lines; }
     [ "$(told files)" -eq "$(($(wc -l < "$table") - 1))" ] || say "not all files are looked at"
@@ -187,11 +174,10 @@ status=$(meanwhile 'mv "$scratch/changing-new" "$scratch/changing"')
     say "replaced meanwhile: status $status, and $(wc -l < "$scratch/found") lines, $(head -n 1 "$scratch/errors")"
 asked changing salvage 4 | cmp -s - "$scratch/others" && cmp -s "$scratch/changing" "$scratch/none" || say "the file that took its place has changed"
 status=$(meanwhile 'truncate -s 40960 "$scratch/changing"')
-[ "$status" = 4 ] && begins && grep -q 'the file was cut while it was read' "$scratch/errors" ||
+[ "$status" = 4 ] && begins && grep -qE 'the file was cut while it was read|another program wrote' "$scratch/errors" ||
     say "cut meanwhile: status $status, $(head -n 1 "$scratch/errors")"
 status=$(meanwhile 'touch "$scratch/changing"')
-[ "$status" = 0 ] && cmp -s "$scratch/found" "$scratch/wanted" && grep -q 'another program wrote to the file meanwhile' "$scratch/errors" ||
+[ "$status" = 4 ] && begins && grep -q 'another program wrote to the file meanwhile' "$scratch/errors" ||
     say "written to meanwhile: status $status, $(head -n 1 "$scratch/errors")"
 
-echo "salvage: $wrong wrong"
-finish "$wrong"
+finish

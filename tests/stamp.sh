@@ -7,30 +7,14 @@
 #
 # PROGRAM names another program, SQLCIPHER4 the product built for version 4.
 set -u
-top=$(cd "$(dirname "$0")/.." && pwd) || exit 1
-program=${PROGRAM:-$top/out/sqlcipher-tool}
-folder=$(mktemp -d) || exit 1
-trap 'rm -rf "$folder"' EXIT
-export LC_ALL=C.UTF-8 HOME=$folder
-wrong=0
-
-scratch=$folder
-. "$top/tests/common.sh"
-
+. "$(dirname "$0")/common.sh"
+begin 'stamp'
 key=old
-printf '%s\n' "$key" > "$folder/key"
+printf '%s\n' "$key" > "$scratch/key"
 
-sql() { # sql VERSION FILE: runs the SQL of standard input
-    { opening "$1" "$key"; cat; } | "$(product "$1")" -batch "$2" 2> "$folder/errors"
-}
+numbers() { echo "PRAGMA user_version; PRAGMA application_id; PRAGMA integrity_check;" | sql "$1" "$key" "$2" | tr '\n' ' '; }
 
-say() { wrong=$((wrong + 1)); echo "stamp: $*"; }
-
-numbers() { echo "PRAGMA user_version; PRAGMA application_id; PRAGMA integrity_check;" | sql "$1" "$2" | tr '\n' ' '; }
-
-dump() { echo ".dump" | sql "$1" "$2"; }
-
-fields() { "$program" "$2" header "$1" < "$folder/key"; }
+fields() { "$program" "$2" header "$1" < "$scratch/key"; }
 
 rows() {
     cat <<'SQL'
@@ -46,32 +30,32 @@ SQL
 
 stops() { # stops VERSION FILE: a stop at each writing call of a stamp
     local version=$1 file=$2 name number killed old new found stopped=0
-    rm -rf "$folder/whole" && mkdir "$folder/whole" && cp "$file" "$folder/whole/file" || return 1
+    rm -rf "$scratch/whole" && mkdir "$scratch/whole" && cp "$file" "$scratch/whole/file" || return 1
     old=$(fields "$version" "$file")
-    (cd "$folder/whole" && traced "$folder/calls" file stamp "$version" user-version 7 < "$folder/key" > /dev/null) || { say "version $version: the program fails under strace"; return; }
-    new=$(fields "$version" "$folder/whole/file")
-    list_stops "$folder/calls" > "$folder/stops"
+    (cd "$scratch/whole" && traced "$scratch/calls" file stamp "$version" user-version 7 < "$scratch/key" > /dev/null) || { say "version $version: the program fails under strace"; return; }
+    new=$(fields "$version" "$scratch/whole/file")
+    list_stops "$scratch/calls" > "$scratch/stops"
     while read -r name number; do
-        rm -rf "$folder/stopped" "$folder/copy"
-        mkdir "$folder/stopped" && cp "$file" "$folder/stopped/file" || return 1
-        { (cd "$folder/stopped" && stopped_at "$name" "$number" file stamp "$version" user-version 7 \
-            < "$folder/key" > /dev/null) } 2> /dev/null
+        rm -rf "$scratch/stopped" "$scratch/copy"
+        mkdir "$scratch/stopped" && cp "$file" "$scratch/stopped/file" || return 1
+        { (cd "$scratch/stopped" && stopped_at "$name" "$number" file stamp "$version" user-version 7 \
+            < "$scratch/key" > /dev/null) } 2> /dev/null
         killed=$?
         [ "$killed" -eq 137 ] || say "version $version: $name $number: ended with $killed"
-        cp -r "$folder/stopped" "$folder/copy"
+        cp -r "$scratch/stopped" "$scratch/copy"
         # The program recovers it.
-        "$program" "$folder/stopped/file" recover "$version" > /dev/null < /dev/null || say "version $version: $name $number: not recovered"
-        "$program" "$folder/stopped/file" verify "$version" < "$folder/key" > "$folder/lines" || say "version $version: $name $number: $(head -n 1 "$folder/lines")"
-        found=$(fields "$version" "$folder/stopped/file")
+        "$program" "$scratch/stopped/file" recover "$version" > /dev/null < /dev/null || say "version $version: $name $number: not recovered"
+        "$program" "$scratch/stopped/file" verify "$version" < "$scratch/key" > "$scratch/lines" || say "version $version: $name $number: $(head -n 1 "$scratch/lines")"
+        found=$(fields "$version" "$scratch/stopped/file")
         [ "$found" = "$old" ] || [ "$found" = "$new" ] || say "version $version: $name $number: neither the old header nor the new one"
-        [ ! -e "$folder/stopped/file-journal" ] || say "version $version: $name $number: a journal is left"
+        [ ! -e "$scratch/stopped/file-journal" ] || say "version $version: $name $number: a journal is left"
         # So does the product.
-        case $(numbers "$version" "$folder/copy/file") in
+        case $(numbers "$version" "$scratch/copy/file") in
             "3 0 ok " | "7 0 ok ") ;;
-            *) say "version $version: $name $number: the product reads $(numbers "$version" "$folder/copy/file")" ;;
+            *) say "version $version: $name $number: the product reads $(numbers "$version" "$scratch/copy/file")" ;;
         esac
         stopped=$((stopped + 1))
-    done < "$folder/stops"
+    done < "$scratch/stops"
     [ "$stopped" -gt 0 ] || say "version $version: no stop"
     echo "stamp: version $version: $stopped stops"
 }
@@ -81,24 +65,23 @@ for version in 1 2 3 4 $sizes; do
         leave_out "stamp on files of version $version, since its product is missing"
         continue
     fi
-    file=$folder/version-$version.db
-    rows | sql "$version" "$file" > /dev/null
-    cp "$file" "$folder/before.db"
+    file=$scratch/version-$version.db
+    rows | sql "$version" "$key" "$file" > /dev/null
+    cp "$file" "$scratch/before.db"
     [ "$(numbers "$version" "$file")" = "3 0 ok " ] || { say "version $version: the product makes no such file"; continue; }
-    dump "$version" "$file" > "$folder/dump"
+    dump "$version" "$key" "$file" > "$scratch/dump"
     for words in "user-version 7" "application-id 4294967295"; do
         # shellcheck disable=SC2086
-        [ "$("$program" "$file" stamp "$version" $words < "$folder/key")" = stamped ] || say "version $version: $words is not stamped"
+        [ "$("$program" "$file" stamp "$version" $words < "$scratch/key")" = stamped ] || say "version $version: $words is not stamped"
     done
     found=$(numbers "$version" "$file")
     [ "$found" = "7 -1 ok " ] || say "version $version: the product reads $found"
-    dump "$version" "$file" | cmp -s - "$folder/dump" || say "version $version: the rows are not the same"
+    dump "$version" "$key" "$file" | cmp -s - "$scratch/dump" || say "version $version: the rows are not the same"
     # All pages but the first are stored as before.
     page=$(fields "$version" "$file" | awk '/^page size/ { print $3 }')
-    cmp -s <(tail -c +$((page + 1)) "$file") <(tail -c +$((page + 1)) "$folder/before.db") || say "version $version: another page was changed"
-    ! can_trace || stops "$version" "$folder/before.db"
+    cmp -s <(tail -c +$((page + 1)) "$file") <(tail -c +$((page + 1)) "$scratch/before.db") || say "version $version: another page was changed"
+    ! can_trace || stops "$version" "$scratch/before.db"
 done
 can_trace || leave_out "the stops of stamp, since strace is missing or cannot trace"
 
-echo "stamp: $wrong wrong"
-finish "$wrong"
+finish

@@ -8,17 +8,13 @@
 #
 # TRIALS is how many trials each pair of commands has, 10 where it is not given. PROGRAM names another program.
 set -u
-top=$(cd "$(dirname "$0")/.." && pwd) || exit 1
-program=${PROGRAM:-$top/out/sqlcipher-tool}
+. "$(dirname "$0")/common.sh"
+begin 'two runs'
 trials=${1:-10}
 seed=${2:-7}
-scratch=$(mktemp -d) || exit 1
-trap 'rm -rf "$scratch"' EXIT
-export LC_ALL=C.UTF-8 HOME=$scratch
 
-. "$top/tests/common.sh"
 . "$top/tests/others.sh"
-has sqlcipher || { echo "left out: all of it, since sqlcipher is missing"; exit 77; }
+needs sqlcipher
 
 write_database 3 "$k1" "$scratch/file" 300
 dump 3 "$k1" "$scratch/file" > "$scratch/dump"
@@ -33,8 +29,6 @@ run() { # run FOLDER NUMBER KEYS WORDS..: the status goes to a file
     given "$keys" | "$program" "$folder/file" "$@" > "$folder/lines-$number" 2> "$folder/errors-$number"
     echo $? > "$folder/status-$number"
 }
-
-say() { echo "two runs: $*"; echo wrong >> "$scratch/wrong"; }
 
 # The file after both have ended.
 settle() { # settle NAME FOLDER
@@ -141,6 +135,4 @@ wait
 met=$(awk '{ sum += $2 } END { print sum + 0 }' "$scratch/refused")
 # A trial in which the two never meet shows nothing.
 [ "$met" -gt 0 ] || say "no second run met the first"
-lost=$(grep -c . "$scratch/wrong" 2> /dev/null)
-echo "two runs: $((trials * 14)) trials of seed $seed, in $met of them one run met the other; ${lost:-0} lost or wrong"
-[ ! -e "$scratch/wrong" ]
+finish "$((trials * 14)) trials of seed $seed, in $met of them one run met the other"

@@ -150,6 +150,7 @@ class Reader:
         self.sizes = {"Main": page_size, "Fresh": new_page_size}
         self.roles = {f"{folder}/file": "Main", f"{folder}/file-journal": "Journal", f"{folder}/file-migrated": "Fresh", folder: "folder"}
         self.segment = self.records = 0     # where the journal's last segment begins, and its number of records
+        self.linked = None                  # the roles of a link whose first name was not removed yet
 
     def role(self, words):
         """The role of the first path in these words: of a descriptor as strace -y prints it, or in quotes."""
@@ -196,7 +197,14 @@ class Reader:
             return Call("cut", f"cut:{role}", int(words.rsplit(", ", 1)[1]), 0, b"")
         if name == "fsync":
             return Call("sync", f"sync:{role}", 0, 0, b"")
+        # A link whose first name is removed next is a rename, over nothing.
+        if name in ("link", "linkat"):
+            self.linked = role, self.role_at(re.findall(r'"([^"]*)"', words)[-1])
+            return None
         if name in ("unlink", "unlinkat"):
+            linked, self.linked = self.linked, None
+            if linked and linked[0] == role:
+                return Call("rename", f"rename:{role}:{linked[1]}", 0, 0, b"")
             return Call("remove", f"remove:{role}", 0, 0, b"")
         if name in ("rename", "renameat", "renameat2"):
             other = self.role_at(re.findall(r'"([^"]*)"', words)[-1])

@@ -18,6 +18,7 @@ import subprocess
 import sys
 import tempfile
 
+import commands
 import sqlcipher_oracle
 from sqlcipher_formats import Database, Refused, be, open_codec, profile_of, read_file, recovered
 from sqlcipher_oracle import blank_plain
@@ -259,8 +260,9 @@ class Check:
 
     def check(self, scratch, name, word, kind):
         is_log = kind == "WAL mode" and name.startswith("live")
-        for words in (["header"], ["verify"], ["export"], ["salvage"], ["tags"], ["recover"]):
-            self.compare(scratch, name, [*words, word], is_log and words != ["tags"])
+        for command in commands.COMMANDS:
+            if command.words == command.name + " P" and command.kind != "script":
+                self.compare(scratch, name, [command.name, word], is_log and command.name != "tags")
         self.compare(scratch, name, ["stamp", word, "user-version", "4294967295"], is_log)
         self.compare(scratch, name, ["stamp", word, "application-id", "0"], is_log)
         for table, low, high in (("items", "-299", "5"), ("big", "2", "2"), ("none", "1", "1"), ("codes", "1", "1")):
