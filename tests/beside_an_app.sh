@@ -1,12 +1,13 @@
 #!/usr/bin/env bash
 # The program beside a program that uses the database, which the product stands for. Within a transaction, and while a reader has the
 # file open, every command refuses and changes nothing, and the transaction then commits. Beside a writer, in a loop, no row that the
-# product has said to be committed is lost and the file stays sound. Last, the product begins at a random moment within a `rekey`: how
-# many files are lost then is printed, and it is the figure of the README's limits.
+# product has said to be committed is lost and the file stays sound. Last, the product begins at a random moment before or within a `rekey`.
+# With SQLite's lock, which the launcher takes, no file may be lost. The bare program looks before it writes, which leaves gaps
+# (company.py stops it in them): how many files it loses is printed, and more than one in ten is wrong.
 #
 #     tests/beside_an_app.sh [TRIALS [SEED]]
 #
-# TRIALS is how many runs of `rekey` the product begins in, 40 where it is not given. PROGRAM names another program.
+# TRIALS is how many runs of `rekey` the product begins in, with the lock and without it, 40 where it is not given. PROGRAM names another program.
 set -u
 . "$(dirname "$0")/common.sh"
 begin 'beside an app'
@@ -106,19 +107,33 @@ loops stamp 'stamp 3 user-version 9' &
 loops rekey 'rekey 3 3' &
 wait
 
-# ---- the product begins within a run
+# ---- the product begins before or within a run
 
-begins() { # begins FROM TO: so many runs of rekey, each with one transaction of the product in its midst
-    local i file key lost=0 met=0
-    for i in $(seq "$1" "$2"); do
+transaction() { # transaction FILE: one of the product, which waits for others
+    { echo ".output /dev/null"; opening 3 "$k1"; echo ".output stdout"; transactions 1 1; } | sqlcipher -batch -bail "$1" > "$1.said" 2> /dev/null
+}
+
+begins() { # begins HOW FROM TO: so many runs of rekey, by the launcher (held) or not (bare), each with one transaction of the product in its midst
+    local how=$1 i file key moment lost=0 met=0 said=0 launch=()
+    [ "$how" = bare ] || launch=("$top/tools/launch.sh")
+    for i in $(seq "$2" "$3"); do
         RANDOM=$((seed + i))
-        file=$scratch/begins-$i.db
+        file=$scratch/begins-$how-$i.db
         cp "$scratch/file" "$file"
-        { "$program" "$file" rekey 3 3 < "$scratch/keys" > /dev/null 2> "$file.tool" & }
-        sleep "$(seconds $((RANDOM % longest)))"
-        { echo ".output /dev/null"; opening 3 "$k1"; echo ".output stdout"; transactions 1 1; } | sqlcipher -batch -bail "$file" > "$file.said" 2> /dev/null
+        moment=$(seconds $((RANDOM % longest)))
+        # With the lock the product may be first as well.
+        if [ "$how" = held ] && [ $((RANDOM % 2)) -eq 0 ]; then
+            transaction "$file" &
+            sleep "$(seconds $((RANDOM % 20)))"
+            "${launch[@]}" "$program" "$file" rekey 3 3 < "$scratch/keys" > /dev/null 2> "$file.tool"
+        else
+            { "${launch[@]}" "$program" "$file" rekey 3 3 < "$scratch/keys" > /dev/null 2> "$file.tool" & }
+            sleep "$moment"
+            transaction "$file"
+        fi
         wait
         grep -qE 'another program|replaced' "$file.tool" && met=$((met + 1))
+        [ ! -s "$file.said" ] || said=$((said + 1))
         cp "$file" "$file.left" && { [ ! -e "$file-journal" ] || cp "$file-journal" "$file.left-journal"; }
         "$program" "$file" recover 3 > /dev/null 2>&1 < /dev/null
         key=$(which_key 3 "$file")
@@ -128,16 +143,25 @@ begins() { # begins FROM TO: so many runs of rekey, each with one transaction of
         fi
         rm -f "$file"*
     done
-    echo "$lost $met" >> "$scratch/begun"
+    echo "$lost $met $said" >> "$scratch/begun-$how"
+}
+
+begun() { # begun HOW: sets `lost`
+    local how=$1 from part=$(((trials + 3) / 4)) met=0 said=0
+    lost=0
+    for from in 1 $((part + 1)) $((2 * part + 1)) $((3 * part + 1)); do begins "$how" "$from" $((from + part - 1)) & done
+    wait
+    read -r lost met said < <(awk '{ lost += $1; met += $2; said += $3 } END { print lost, met, said }' "$scratch/begun-$how")
+    echo "beside an app: $how: the product began before or within $((part * 4)) runs of rekey, which saw it in $met, and committed in $said: $lost lost"
 }
 
 longest=$(duration "$scratch/file" "$scratch/keys" rekey 3 3)
-part=$(((trials + 3) / 4))
-for from in 1 $((part + 1)) $((2 * part + 1)) $((3 * part + 1)); do begins "$from" $((from + part - 1)) & done
-wait
-lost=0
-met=0
-read -r lost met < <(awk '{ lost += $1; met += $2 } END { print lost, met }' "$scratch/begun")
-echo "beside an app: the product began within $((part * 4)) runs of rekey, which saw it in $met: $lost lost"
-[ "$lost" -eq 0 ] || say "$lost files are lost"
+if has perl; then
+    begun held
+    [ "$lost" -eq 0 ] || say "with the lock $lost files are lost"
+else
+    leave_out "runs under SQLite's lock, since perl is missing"
+fi
+begun bare
+[ $((10 * lost)) -le "$trials" ] || say "without the lock $lost of $trials files are lost"
 finish
