@@ -2,6 +2,7 @@
 use Rattle.std.proofs.Common.{◌≡◌, ◌≢◌, ◌≤◌, ℕ, Bool, false, Result, Ok, Err, refl, sym, subst}
 use Rattle.std.specs.Prelude.{IfErr, IsTrue}
 use Rattle.db_format.specs.Pages.{Pages, nothing}
+use Rattle.btree_model.specs.Parts.{parts}
 use Rattle.btree_model.specs.Records.{tree_part}
 use Rattle.btree_model.specs.Tree.{root_family}
 use Rattle.db_format.specs.Source.{Rose}
@@ -9,6 +10,7 @@ use Rattle.btree_walk.specs.Causes.{IsAmong, IsGivenBy, is_failure}
 use Rattle.btree_walk.proofs.CauseLemmas.{given_later, rose_later}
 use Rattle.btree_walk.specs.declared.error.WalkError.{WalkError}
 use Rattle.btree_walk.specs.declared.error.WalkError.TheVariants.{Defect, Source, OutOfMemory}
+use Rattle.schema_map.specs.Parts.{IsEarliest}
 use Rattle.export_rows.specs.Causes.{IfWalk, IsLateWalk, after_check, is_export_defect}
 use Rattle.export_rows.specs.declared.error.ExportError.{ExportError}
 use Rattle.export_rows.specs.declared.error.ExportError.TheVariants.{Walk, OutputFault}
@@ -79,3 +81,13 @@ output_checked (Walk (Defect d)) checked same is = cc
 output_checked (Walk (Source refusal)) checked same is = cc
 output_checked (Walk OutOfMemory) checked same is = cc
 output_checked OutputFault checked same is = refl
+
+-- what stops after the check is a stop of the earliest part too
+pub earliest : {R A : Type 0} (refuses : Pages → ℕ → R → Type 0) (before middle : Pages) (tells : Type 0) (result : Result A (ExportError R)) → (tells → middle ≡ before)
+    → IfErr result (IfWalk (λ error. tells → IsLateWalk refuses middle error)) → IfErr result (IfWalk (λ error. tells → IsEarliest refuses before (parts before) error))
+earliest refuses before middle tells (Ok value) same late = tt
+earliest refuses before middle tells (Err (Walk (Defect d))) same late = λ told. absurd (late told)
+earliest refuses before middle tells (Err (Walk (Source refusal))) same late = λ told.
+    subst (λ p. IsEarliest refuses p (parts p) (Source refusal)) (same told) (late told)
+earliest refuses before middle tells (Err (Walk OutOfMemory)) same late = λ told. tt
+earliest refuses before middle tells (Err OutputFault) same late = tt

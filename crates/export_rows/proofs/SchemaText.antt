@@ -6,13 +6,14 @@ use Rattle.std.proofs.lemmas.List.{append-nil, length-map, take-append-drop, tak
 use Rattle.std.proofs.lemmas.List.Concat.{flat_map-append}
 use Rattle.std.proofs.lemmas.List.Elements.{All-contains, All-contains_itself, All-map, All-same, Contains-append_left, Contains-append_right}
 use Rattle.std.proofs.lemmas.List.Sums.{sum_by-append, sum_by-cons}
-use Rattle.db_format.specs.Pages.{Pages}
+use Rattle.db_format.specs.Pages.{Pages, also, nothing}
 use Rattle.db_format.specs.Record.{columns}
 use Rattle.db_format.specs.Value.{Datum}
 use Rattle.btree_model.specs.Content.{item_of, item_with}
-use Rattle.btree_model.specs.Finding.{Row, is_sound}
-use Rattle.btree_model.specs.Parts.{is_database}
-use Rattle.btree_model.specs.Schema.{Root, no_column, no_tree, at_page, root_of, numbers_of, roots, roots_of_row, rowid_or_0}
+use Rattle.btree_model.specs.Finding.{Row, entries, is_sound, places}
+use Rattle.btree_model.specs.Freelist.{freelist_walk}
+use Rattle.btree_model.specs.Parts.{counts, is_database}
+use Rattle.btree_model.specs.Schema.{Root, schema_part, no_column, no_tree, at_page, root_of, numbers_of, roots, roots_of_row, rowid_or_0}
 use Rattle.btree_walk.specs.Causes.{IsAmong}
 use Rattle.btree_walk.specs.declared.error.WalkError.{WalkError}
 use Rattle.btree_walk.specs.declared.error.WalkError.TheVariants.{Defect, Source, OutOfMemory}
@@ -28,7 +29,7 @@ use Rattle.schema_map.specs.Alone.{schema_rows}
 use Rattle.export_rows.specs.declared.error.ExportError.{ExportError}
 use Rattle.export_rows.specs.declared.error.ExportError.TheVariants.{Walk, OutputFault}
 use Rattle.row_text.proofs.Moving.{cut, restated, restated_part, then, then_part, waits}
-use Rattle.schema_map.proofs.SoundParts.{database_few, database_place, database_recorded, database_trees, none_contained, root_part, sound_faults, sound_refusals}
+use Rattle.schema_map.proofs.SoundParts.{database_few, database_schema, database_place, database_recorded, database_trees, none_contained, root_part, sound_faults, sound_refusals}
 
 -- ---- a kept row is the row of the content
 
@@ -132,7 +133,7 @@ kept_at pages rows i kept schema less is = subst (IsKeptRow pages) (sym is) (row
 
 -- ---- why it stops
 
-late_stop : {R : Type 0} (refuses : Pages → ℕ → R → Type 0) (pages : Pages) (root : ℕ) (error : WalkError R) → is_database pages ≡ true → Contains (roots (schema_rows pages)) root
+pub late_stop : {R : Type 0} (refuses : Pages → ℕ → R → Type 0) (pages : Pages) (root : ℕ) (error : WalkError R) → is_database pages ≡ true → Contains (roots (schema_rows pages)) root
     → IsAmong refuses pages (root_part pages root) error → IsLateWalk refuses pages error
 late_stop refuses pages root (Defect d) sound listed among =
     none_contained d (subst (λ l. Contains l d) (sound_faults (root_part pages root) (All-contains (λ n. is_sound (root_part pages n) ≡ true) (roots (schema_rows pages)) root (database_trees pages sound) listed)) among)
@@ -217,3 +218,14 @@ module _ (pages : Pages) (rows : List SchemaRow) (i count : ℕ) (told : Bool) (
           moved = λ t. restated (sym text_more) (then (so.moved t) (moved t));
           counted = is-next ∙ ap (λ n. n + row_count pages kept) so.counted ∙ sym count_more;
         }
+
+-- the rows that the census gives
+pub schema_of : (pages : Pages) (kept rows : List SchemaRow) (entry_total : ℕ) → is_database pages ≡ true
+    → kept ≡ map schema_row (entries (schema_part pages (also (places (freelist_walk pages nothing)) nothing)))
+    → entry_total ≡ (counts pages).rows → entry_total < 2 ^ 64 → rows ≡ kept → IsSchemaOf pages rows
+schema_of pages kept rows entry_total sound is total fits same =
+    record {
+      sound = sound;
+      are = same ∙ is ∙ ap (map schema_row) (database_schema pages sound);
+      few = omega (arith, total);
+    }

@@ -93,3 +93,15 @@ module _ (pages : Pages) (root : ℕ) (cursor : Cursor) (seen : Test) (rows : �
 -- nothing was put
 pub none_put : (text before waiting : List ℕ) → MovesPart text before waiting before
 none_put text before waiting = record { lost = waiting ++ text; moves = waits before refl }
+
+-- no byte waited at first
+pub from_empty : {text before waiting after left : List ℕ} → waiting ≡ [] → Moves text before waiting after left → Moves text before [] after left
+from_empty {text} {before} {waiting} {after} {left} none moved = subst (λ w. Moves text before w after left) none moved
+
+pub part_from_empty : {text before waiting after : List ℕ} → waiting ≡ [] → MovesPart text before waiting after → MovesPart text before [] after
+part_from_empty {text} {before} {waiting} {after} none part = subst (λ w. MovesPart text before w after) none part
+
+-- nothing is left at last
+pub all_put : {text before after left : List ℕ} → left ≡ [] → Moves text before [] after left → after ≡ before ++ text
+all_put {text} {before} {after} {left} none moved =
+    moved.given ∙ ap (λ (l : List ℕ). before ++ l) (sym (moved.whole ∙ ap (λ (l : List ℕ). moved.put ++ l) none ∙ append-nil moved.put))

@@ -150,9 +150,9 @@ fn put_items<S: PageSource, K: Sink>(
     Ok(count)
 }
 
-// Why an export stops whose database was checked. A defect is found then only where the pages are others by now, and is none of the
-// database.
-fn after_check<R>(error: ExportError<R>) -> ExportError<R>
+/// Why an export stops whose database was checked. A defect is found then only where the pages are others by now, and is none of the
+/// database.
+pub fn after_check<R>(error: ExportError<R>) -> ExportError<R>
     ensures { result ≡ after_check error }
 {
     match error {

@@ -8,6 +8,6 @@ mod item;
 mod lines;
 mod tree;
 
-pub use content::export;
+pub use content::{after_check, export};
 pub use error::ExportError;
 pub use lines::{put_database, put_end, put_schema_row};

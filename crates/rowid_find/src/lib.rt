@@ -15,4 +15,4 @@ mod wanted;
 
 pub use error::FindError;
 pub use search::{find, find_from};
-pub use table::table_root;
+pub use table::{is_text, names_table, table_root};

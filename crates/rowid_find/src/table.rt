@@ -103,8 +103,8 @@ fn try_row<S: PageSource>(
     }
 }
 
-// Whether the schema row with this payload is that of a table of this name.
-fn names_table(payload: &[u8], name: &[u8]) -> bool
+/// Whether the schema row with this payload is that of a table of this name.
+pub fn names_table(payload: &[u8], name: &[u8]) -> bool
     requires { length payload.now ≤ longest_payload }
     ensures { result ≡ names_table name.now (columns payload.now) }
 {
@@ -116,8 +116,8 @@ fn names_table(payload: &[u8], name: &[u8]) -> bool
     }
 }
 
-// Whether the value is this text.
-fn is_text(value: Value<'_>, text: &[u8]) -> bool
+/// Whether the value is this text, as its bytes are stored.
+pub fn is_text(value: Value<'_>, text: &[u8]) -> bool
     ensures { result ≡ is_text text.now (datum_of value.entry) }
 {
     match value {

@@ -1,29 +1,18 @@
-use Rattle.std.proofs.Common.{◌≡◌, ◌++◌, ◌<◌, ◌^◌, ℕ, List, [], true, Result, Ok, Err, map, arith, rules, sym, ap, subst, ◌∙◌}
-use Rattle.std.specs.Prelude.{IsTrue, IfErr, sum_by}
+use Rattle.std.proofs.Common.{◌≡◌, ◌++◌, ℕ, List, [], rules, sym, ap, subst, ◌∙◌}
+use Rattle.std.specs.Prelude.{IsTrue, sum_by}
 use Rattle.std.proofs.lemmas.Result.{on_ok_weaker, on_err_weaker, IfOk-weaker}
 use Rattle.db_format.specs.Header.{header_fields}
-use Rattle.db_format.specs.Pages.{Pages, nothing, also}
+use Rattle.db_format.specs.Pages.{Pages}
 use Rattle.db_format.specs.declared.header.Header.{Header}
 use Rattle.btree_model.specs.Content.{content}
-use Rattle.btree_model.specs.Finding.{places, entries}
-use Rattle.btree_model.specs.Freelist.{freelist_walk}
-use Rattle.btree_model.specs.Parts.{counts, is_database, parts}
-use Rattle.btree_model.specs.Schema.{schema_part}
-use Rattle.btree_walk.specs.declared.error.WalkError.TheVariants.{Defect, Source, OutOfMemory}
-use Rattle.schema_map.specs.Parts.{IsEarliest}
-use Rattle.schema_map.specs.Schema.{schema_row}
 use Rattle.schema_map.specs.declared.schema.SchemaRow.{SchemaRow}
-use Rattle.export_rows.specs.Causes.{IfWalk, IsLateWalk}
 use Rattle.export_rows.specs.Lines.{database_line, end_line, kept_of}
 use Rattle.export_rows.specs.Report.{entry_count, export_report}
 use Rattle.export_rows.specs.Schema.{IsSchemaOf, row_count, schema_rows_text}
 use Rattle.schema_map.specs.Alone.{schema_rows}
-use Rattle.export_rows.specs.declared.error.ExportError.{ExportError}
-use Rattle.export_rows.specs.declared.error.ExportError.TheVariants.{Walk, OutputFault}
-use Rattle.export_rows.proofs.Handing.{if_given_later}
+use Rattle.export_rows.proofs.Handing.{earliest, if_given_later}
 use Rattle.row_text.proofs.Moving.{restated_part}
-use Rattle.export_rows.proofs.SchemaText.{count_of_content, text_of_content}
-use Rattle.schema_map.proofs.SoundParts.{database_schema}
+use Rattle.export_rows.proofs.SchemaText.{count_of_content, schema_of, text_of_content}
 use Rattle.export_rows.proofs.TreeText.{none_put}
 use Rattle.export_rows.proofs.content.export.Goals as goal
 
@@ -38,32 +27,11 @@ report_is pages header rows fields schema =
 count_is : (pages : Pages) (rows : List SchemaRow) → IsSchemaOf pages rows → sum_by (row_count pages) rows ≡ entry_count (content pages)
 count_is pages rows schema = ap (sum_by (row_count pages)) schema.are ∙ count_of_content pages (schema_rows pages)
 
--- what stops after the check is a stop of the earliest part too
-earliest : {R A : Type 0} (refuses : Pages → ℕ → R → Type 0) (before middle : Pages) (tells : Type 0) (result : Result A (ExportError R)) → (tells → middle ≡ before)
-    → IfErr result (IfWalk (λ error. tells → IsLateWalk refuses middle error)) → IfErr result (IfWalk (λ error. tells → IsEarliest refuses before (parts before) error))
-earliest refuses before middle tells (Ok value) same late = tt
-earliest refuses before middle tells (Err (Walk (Defect d))) same late = λ told. absurd (late told)
-earliest refuses before middle tells (Err (Walk (Source refusal))) same late = λ told.
-    subst (λ p. IsEarliest refuses p (parts p) (Source refusal)) (same told) (late told)
-earliest refuses before middle tells (Err (Walk OutOfMemory)) same late = λ told. tt
-earliest refuses before middle tells (Err OutputFault) same late = tt
-
 pub returns-in-Err-clause-part : goal.returns-in-Err-clause-part
 returns-in-Err-clause-part g c told t = none_put (export_report (content (g.S.PageSource.plain c.args.source.now))) (g.K.Sink.taken c.args.out.now) []
 
 pub returns-in-Err-new-clause-part : goal.returns-in-Err-new-clause-part
 returns-in-Err-new-clause-part g c told t = none_put (export_report (content (g.S.PageSource.plain c.args.source.now))) (g.K.Sink.taken c.args.out.now) []
-
--- the rows that the census gives
-schema_of : (pages : Pages) (kept rows : List SchemaRow) (entry_total : ℕ) → is_database pages ≡ true
-    → kept ≡ map schema_row (entries (schema_part pages (also (places (freelist_walk pages nothing)) nothing)))
-    → entry_total ≡ (counts pages).rows → entry_total < 2 ^ 64 → rows ≡ kept → IsSchemaOf pages rows
-schema_of pages kept rows entry_total sound is total fits same =
-    record {
-      sound = sound;
-      are = same ∙ is ∙ ap (map schema_row) (database_schema pages sound);
-      few = omega (arith, total);
-    }
 
 pub put_content-requires-clause-schema : goal.put_content-requires-clause-schema
 put_content-requires-clause-schema g c told =

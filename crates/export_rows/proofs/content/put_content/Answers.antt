@@ -1,22 +1,10 @@
-use Rattle.std.proofs.Common.{◌≡◌, ◌++◌, List, [], ℕ, sym, ap, subst, ◌∙◌}
+use Rattle.std.proofs.Common.{◌++◌, List, ℕ, ap, ◌∙◌}
 use Rattle.std.proofs.lemmas.List.{append-nil}
 use Rattle.export_rows.specs.Lines.{database_line, end_line, kept_of}
-use Rattle.row_text.specs.Out.{Moves, MovesPart}
 use Rattle.export_rows.specs.Schema.{schema_rows_text}
 use Rattle.row_text.proofs.Moving.{cut, restated_part, then, then_part}
+use Rattle.export_rows.proofs.TreeText.{all_put, from_empty, part_from_empty}
 use Rattle.export_rows.proofs.content.put_content.Goals as goal
-
--- no byte waited at first
-from_empty : {text before waiting after left : List ℕ} → waiting ≡ [] → Moves text before waiting after left → Moves text before [] after left
-from_empty {text} {before} {waiting} {after} {left} none moved = subst (λ w. Moves text before w after left) none moved
-
-part_from_empty : {text before waiting after : List ℕ} → waiting ≡ [] → MovesPart text before waiting after → MovesPart text before [] after
-part_from_empty {text} {before} {waiting} {after} none part = subst (λ w. MovesPart text before w after) none part
-
--- nothing is left at last
-all_put : {text before after left : List ℕ} → left ≡ [] → Moves text before [] after left → after ≡ before ++ text
-all_put {text} {before} {after} {left} none moved =
-    moved.given ∙ ap (λ (l : List ℕ). before ++ l) (sym (moved.whole ∙ ap (λ (l : List ℕ). moved.put ++ l) none ∙ append-nil moved.put))
 
 pub returns-in-Err-clause-part : goal.returns-in-Err-clause-part
 returns-in-Err-clause-part g c told t =

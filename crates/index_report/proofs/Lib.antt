@@ -1,0 +1,5 @@
+pub mod JudgeSteps
+pub mod LineSteps
+pub mod RowSteps
+pub mod RiseSteps
+pub mod AgreeSteps

@@ -1,0 +1,5 @@
+pub mod Verdicts
+pub mod Summary
+pub mod Lines
+pub mod Report
+pub mod Agreeing
