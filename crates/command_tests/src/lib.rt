@@ -3,6 +3,8 @@
 #![tactic(auto)]
 
 #[cfg(test)]
+mod agrees;
+#[cfg(test)]
 mod exports;
 #[cfg(test)]
 mod finds;

@@ -28,7 +28,7 @@ const MOVED: &str = "migrated: 4 pages\n";
 const FIELDS: &str = "page size 1024\nreserve 0\npages 4\n";
 
 // A plain file is made and read, encrypted, and is plain again. A salt and four pages of version 4 draw 336 bytes.
-const ROWS: [Row<'static>; 20] = [
+const ROWS: [Row<'static>; 21] = [
     (&["tags", "plain:512"], &[], 0, NO_TAGS, 2),
     (&["rekey", "plain:512", "plain:512"], &[], 0, DIFFER, 2),
     (&["rekey", "plain:1024", "4:1024"], &[KEY], 0, DIFFER, 2),
@@ -66,6 +66,13 @@ const ROWS: [Row<'static>; 20] = [
     (&["salvage", "plain:1024"], &[], 0, SALVAGED, 0),
     (&["recover", "plain:1024"], &[], 0, "nothing\n", 0),
     (&["export", "plain:1024"], &[], 0, "database cookie ", 0),
+    (
+        &["agree", "plain:1024"],
+        &[],
+        0,
+        "ok: 1 indexes, 0 entries, 0 not checked\n",
+        0,
+    ),
     (&["probe"], &[KEY], 0, REFUSED, 3),
     (&["migrate", "plain:1024", "4"], &[KEY], 336, MOVED, 0),
     (&["verify", "4"], &[KEY], 0, COUNTS, 0),

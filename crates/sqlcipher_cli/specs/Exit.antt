@@ -11,7 +11,7 @@
 --
 -- In the place of each of them 5 may come, where standard output failed, or 8, where memory ran out. Somebody else at the files, a
 -- lock or a FILE-wal with a byte is a failed call of the disk: `run` is under way then, and ends with 4.
-use Rattle.std.specs.Prelude.{◌≡◌, ◌⊎◌, ◌||◌, ℕ, Bool, true, false, List, [], ◌∷◌, drop, Some, None, codes}
+use Rattle.std.specs.Prelude.{◌≡◌, ◌⊎◌, ◌||◌, ℕ, Bool, true, false, List, [], ◌∷◌, drop, Some, codes}
 use Rattle.std.specs.Str.{bytes_eq}
 use Rattle.sqlcipher_tool.specs.Answer.{code_of}
 use Rattle.sqlcipher_tool.specs.Due.{word_refusal}

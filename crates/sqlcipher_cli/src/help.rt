@@ -20,6 +20,12 @@ commands
                   every tree; prints what is wrong, or `ok:` and the counts
   export PROFILE  check the whole database, and print every row and entry as text,
                   which sqlcipher-tool-export-to-sql turns into SQL
+  agree PROFILE   check the whole database, and compare each index with its table:
+                  whether each row has one entry, and each entry a row. Prints a
+                  line for each way in which an index differs, one for each that is
+                  not checked and why, and then `ok: I indexes, E entries, N not
+                  checked` or `indexes differ: D of I`. `verify` does not look at
+                  this; values, order and UNIQUE are not compared
   salvage PROFILE print the rows of a damaged file: those of every page that can be
                   read, whatever became of the others, and which pages and rows
                   can't be. Rows that were deleted may be among them.

@@ -42,6 +42,10 @@ const TAGS_REFUSED: &str =
     "a page that is not in use may never have been sealed: `verify` looks at those that are; where one of them is refused the file \
     is damaged, or its journal is missing";
 
+const INDEXES_DIFFER: &str =
+    "the rows are as `export` prints them; the indexes are not theirs: on a copy of the file SQL's `REINDEX` makes them anew from the rows, and \
+    `find` shows the row of a rowid";
+
 const SCRIPT_FORMS: &str =
     "a step is `open S PROFILE KEY`, `share S`, `read S N AT`, `reserve S`, `change S N AT BYTE`, `rekey S PROFILE KEY`, `commit S`, \
     `release S` or `stop`, its words parted by one space; --help says what they are";
@@ -65,6 +69,7 @@ pub fn explain_refusal(rt: &HostRuntime, run: &Ended, refusal: Refusal, folder: 
             rt,
             format_args!("line {line} of the script is longer than 1,100 bytes: {SCRIPT_FORMS}"),
         ),
+        Refusal::IndexesDiffer { .. } => say(rt, INDEXES_DIFFER),
         Refusal::TooManyLines => say(
             rt,
             "the script goes on after its first 100,000 lines, which were played: the others are a script of their own",

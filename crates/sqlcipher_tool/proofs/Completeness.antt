@@ -19,6 +19,7 @@ use Rattle.db_maker.specs.Rows.{total_len}
 use Rattle.edge_model.specs.Causes.{Rose}
 use Rattle.edge_model.specs.Files.{Files, main_of}
 use Rattle.export_rows.specs.Report.{export_report}
+use Rattle.index_report.specs.Report.{index_text}
 use Rattle.page_codec.specs.Page.{FileKeys, accepts, fits, keys_of}
 use Rattle.pager.proofs.TxnLemmas.{listed_large}
 use Rattle.pager.specs.Database.{count_of, counted, ok_count}
@@ -39,7 +40,7 @@ use Rattle.sqlcipher_tool.specs.declared.command.Command.{Command}
 use Rattle.sqlcipher_tool.specs.declared.command.Command.TheVariants.{Probe, Recover, Read, Change as ChangeFile, Make}
 use Rattle.sqlcipher_tool.specs.declared.change.Change.{Change}
 use Rattle.sqlcipher_tool.specs.declared.change.Change.TheVariants.{Stamp, Rekey, Migrate}
-use Rattle.sqlcipher_tool.specs.declared.reading.Job.TheVariants.{Verify, Export, Find}
+use Rattle.sqlcipher_tool.specs.declared.reading.Job.TheVariants.{Verify, Export, Agree, Find}
 use Rattle.sqlcipher_tool.specs.declared.reading.Reading.{Reading}
 use Rattle.sqlcipher_tool.specs.declared.reading.Reading.TheVariants.{Tags, Header, Salvage, OnPages}
 use Rattle.sqlcipher_tool.specs.declared.status.Refusal.{Refusal}
@@ -60,13 +61,13 @@ use Rattle.sqlcipher_tool.specs.Recovered.{answers_after, recovered_answers, rec
 use Rattle.sqlcipher_tool.specs.Rekey.{rekey_answers}
 use Rattle.sqlcipher_tool.specs.Renewal.{pages_under, renewed}
 use Rattle.sqlcipher_tool.specs.Salvage.{file_pages, salvage_answer, salvage_causes, salvaged_answer}
-use Rattle.sqlcipher_tool.specs.Servable.{AfterRecovery, CanBeServed, ForOne, ForTwo, HasFewPages, HasServablePages, HasTable, HasTags, IsChangeable, IsDoneAlone, IsDoneOrStarved, CanMake, IsProbed, IsReadable, IsServable, NoneRose}
+use Rattle.sqlcipher_tool.specs.Servable.{AfterRecovery, CanBeServed, ForOne, ForTwo, HasAgreeingIndexes, HasFewPages, HasServablePages, HasTable, HasTags, IsChangeable, IsDoneAlone, IsDoneOrStarved, CanMake, IsProbed, IsReadable, IsServable, NoneRose}
 use Rattle.sqlcipher_tool.specs.Stamp.{stamped_answer}
 use Rattle.sqlcipher_tool.specs.Tags.{file_answer, is_refused, pages_answer, refused_pages, tags_answer, tags_causes}
 use Rattle.sqlcipher_tool.specs.Text.{header_report, made_report, migrated_report, probe_report, recovery_line, rekeyed_report, stamped_report, tags_report, verify_report}
 use Rattle.sqlcipher_tool.specs.Verify.{opened_answers}
 use Rattle.sqlcipher_tool.specs.Words.{IsServed}
-use Rattle.sqlcipher_tool.proofs.DoneAnswers.{export_done, made_fits, migrate_done, migrate_fits, rekey_done, verify_done}
+use Rattle.sqlcipher_tool.proofs.DoneAnswers.{agree_done, export_done, made_fits, migrate_done, migrate_fits, rekey_done, verify_done}
 use Rattle.sqlcipher_tool.proofs.FindAnswers.{find_done}
 use Rattle.sqlcipher_tool.proofs.Numbers.{no_more, true_le}
 use Rattle.sqlcipher_tool.proofs.Served.{form_served}
@@ -147,7 +148,7 @@ stamp_alone : (r : Result Opened OpenError) → IsOk r → IsDoneAlone (stamped_
 stamp_alone (Ok opened) ok = (stamped_report, refl)
 stamp_alone (Err error) ok = cc
 
--- ---- verify, export, rekey, migrate
+-- ---- verify, export, agree, rekey, migrate
 
 verify_alone : (profile : Profile) (secret : Secret) (file : List ℕ) → IsListed profile → IsClean (keys_of profile secret file) file
     → IsDoneAlone (job_answers Verify profile secret file)
@@ -160,6 +161,9 @@ export_alone : (profile : Profile) (secret : Secret) (file : List ℕ) → IsLis
 export_alone profile secret file listed has =
     let opened = opens_so profile secret file has.0 listed has.1 in
     (export_report has.0, export_done profile secret file opened.0 has.0 opened.1 has.1)
+
+agree_alone : (profile : Profile) (secret : Secret) (file : List ℕ) → HasAgreeingIndexes profile secret file → IsDoneAlone (job_answers Agree profile secret file)
+agree_alone profile secret file has = (index_text (opened_pages (keys_of profile secret file) file has.opened.count), agree_done profile secret file has)
 
 pub find_due : (profile : Profile) (secret : Secret) (file name : List ℕ) (low high : ℤ) (has : HasTable profile secret name file)
     → job_answers (Find name low high) profile secret file
@@ -389,6 +393,7 @@ reading_alone Header profile secret file served way = header_alone (opened_with 
 reading_alone Salvage profile secret file served way = salvage_alone profile secret file served way
 reading_alone (OnPages Verify) profile secret file served way = verify_alone profile secret file served way
 reading_alone (OnPages Export) profile secret file served way = export_alone profile secret file served way
+reading_alone (OnPages Agree) profile secret file served way = agree_alone profile secret file way
 reading_alone (OnPages (Find name low high)) profile secret file served way = find_alone profile secret file name low high way
 
 change_alone : (change : Change) (profile : Profile) (first second : Secret) (file after : List ℕ) → IsListed profile → IsChangeable change profile first file

@@ -1,4 +1,4 @@
--- What `verify`, `rekey`, `migrate` and `export` answer of a file in which nothing stands in the way.
+-- What `verify`, `rekey`, `migrate`, `export` and `agree` answer of a file in which nothing stands in the way.
 use Rattle.std.proofs.Common.{◌≡◌, ◌≤◌, ℕ, Bool, true, false, List, [], ◌∷◌, Some, None, Result, Ok, Err, if◌then◌else◌, length, sym, ap, subst, refl, ◌∙◌}
 use Rattle.std.specs.Prelude.{nat_lt}
 use Rattle.cipher_profile.specs.declared.keys.Secret.{Secret}
@@ -20,8 +20,12 @@ use Rattle.pager.specs.Database.{count_of, counted, ok_count}
 use Rattle.pager.specs.Opening.{Opened, file_header, file_opened, first_broken, key_rules, length_rules, unless, with_count, with_header}
 use Rattle.pager.specs.Pages.{opened_pages}
 use Rattle.pager.specs.declared.opening.OpenError.{OpenError}
+use Rattle.index_report.specs.Report.{index_summary, index_text}
+use Rattle.sqlcipher_tool.specs.Agree.{agree_answer, agree_answers}
 use Rattle.sqlcipher_tool.specs.Answer.{done, refused}
-use Rattle.sqlcipher_tool.specs.declared.status.Refusal.TheVariants.{TooManyPages}
+use Rattle.sqlcipher_tool.specs.declared.status.Refusal.TheVariants.{IndexesDiffer, TooManyPages}
+use Rattle.sqlcipher_tool.specs.declared.status.Status.TheVariants.{Done, Refused}
+use Rattle.sqlcipher_tool.specs.Servable.{HasAgreeingIndexes}
 use Rattle.sqlcipher_tool.specs.Opening.{opened_with}
 use Rattle.sqlcipher_tool.specs.Plain.{IsClean, Opens, refused_in_use}
 use Rattle.sqlcipher_tool.specs.Migrate.{migrate_answers, migrate_due, too_many}
@@ -35,7 +39,7 @@ use Rattle.migrate_job.specs.Bound.{pages_at_most}
 use Rattle.sqlcipher_tool.specs.Reading.{job_answers}
 use Rattle.sqlcipher_tool.specs.Verify.{opened_answers, pages_answers, rest_answers, tags_or}
 use Rattle.sqlcipher_tool.specs.Export.{content_answers}
-use Rattle.sqlcipher_tool.specs.declared.reading.Job.TheVariants.{Verify, Export}
+use Rattle.sqlcipher_tool.specs.declared.reading.Job.TheVariants.{Verify, Export, Agree}
 use Rattle.sqlcipher_tool.specs.Rekey.{rekey_answers, rekey_due}
 use Rattle.sqlcipher_tool.proofs.Migrating.{whole_pages_due}
 use Rattle.sqlcipher_tool.proofs.Rekeying.{report_alone}
@@ -107,6 +111,15 @@ export_done profile secret file x held is opens =
     ap (λ o. opened_answers o (λ count. content_answers (opened_pages keys file count))) is
     ∙ whole_due pages (done (export_report (content (with_zeros pages)))) (subst (λ (n : ℕ). is_database (opened_pages keys file n) ≡ true) same opens.sound)
     ∙ ap (λ (c : Content). done (export_report c) ∷ []) (subst (λ (n : ℕ). content (with_zeros (opened_pages keys file n)) ≡ held) same opens.is)
+
+-- the text alone is due to `agree`
+pub agree_done : (profile : Profile) (secret : Secret) (file : List ℕ) (has : HasAgreeingIndexes profile secret file)
+    → job_answers Agree profile secret file ≡ done (index_text (opened_pages (keys_of profile secret file) file has.opened.count)) ∷ []
+agree_done profile secret file has =
+    let pages = opened_pages (keys_of profile secret file) file has.opened.count in
+    ap (λ o. opened_answers o (λ count. agree_answers (opened_pages (keys_of profile secret file) file count))) has.opens
+    ∙ whole_due pages (agree_answer pages) has.sound
+    ∙ ap (λ (b : Bool). record { status = if b then Done else Refused (IndexesDiffer (index_summary pages).differing (index_summary pages).checked); text = index_text pages; begun = index_text pages } ∷ []) has.agree
 
 -- the count of the new file's pages is due to `migrate`, and where the bound is above the limit that there are too many
 pub migrate_done : (old new : Profile) (secret : Secret) (count : ℕ) (file : List ℕ) (x : Opened) (held : Content) → opened_with old secret file ≡ Ok x

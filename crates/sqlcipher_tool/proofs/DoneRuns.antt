@@ -1,5 +1,5 @@
 -- What a run that is done says of the recovered file.
-use Rattle.std.proofs.Common.{◌≡◌, ⊎_elim, ℕ, Bool, List, [], ◌∷◌, Option, Some, None, Result, Ok, Err, refl, sym, ap, subst, ◌∙◌}
+use Rattle.std.proofs.Common.{◌≡◌, ⊎_elim, ℕ, Bool, List, ◌∷◌, Option, Some, None, Result, Ok, Err, refl, sym, ap, subst, ◌∙◌}
 use Rattle.std.specs.List.{Contains}
 use Rattle.cipher_profile.specs.declared.key_line.KeyError.{KeyError}
 use Rattle.cipher_profile.specs.declared.keys.Secret.{Secret}
@@ -14,17 +14,17 @@ use Rattle.sqlcipher_tool.specs.Due.{asked_answers, command_answers, due, key_li
 use Rattle.sqlcipher_tool.specs.Reading.{job_answers}
 use Rattle.sqlcipher_tool.specs.Promises.{AnswersOne}
 use Rattle.sqlcipher_tool.specs.Recovered.{answers_after, recovered_answers, recovered_main, recovery_answer, recovery_of}
-use Rattle.sqlcipher_tool.specs.Reported.{IsExported, IsVerified, Reports}
+use Rattle.sqlcipher_tool.specs.Reported.{IsAgreed, IsExported, IsVerified, Reports}
 use Rattle.sqlcipher_tool.specs.Words.{asked_keys, form}
 use Rattle.sqlcipher_tool.specs.declared.command.Command.{Command}
 use Rattle.sqlcipher_tool.specs.declared.command.Command.TheVariants.{Read}
 use Rattle.sqlcipher_tool.specs.declared.reading.Reading.TheVariants.{OnPages}
 use Rattle.sqlcipher_tool.specs.declared.reading.Job.{Job}
-use Rattle.sqlcipher_tool.specs.declared.reading.Job.TheVariants.{Export as ExportPages, Verify as VerifyPages}
+use Rattle.sqlcipher_tool.specs.declared.reading.Job.TheVariants.{Agree as AgreePages, Export as ExportPages, Verify as VerifyPages}
 use Rattle.sqlcipher_tool.specs.declared.status.Refusal.{Refusal}
 use Rattle.sqlcipher_tool.specs.declared.status.Status.TheVariants.{Done}
 use Rattle.sqlcipher_tool.proofs.Completeness.{one_is}
-use Rattle.sqlcipher_tool.proofs.DueReports.{done_exports, done_verifies}
+use Rattle.sqlcipher_tool.proofs.DueReports.{done_agrees, done_exports, done_verifies}
 
 -- what is due to a command with its secrets
 one_due : (words : List (List ℕ)) (left : List ℕ) (files after : Files) (command : Command) (secret : Secret) (rest : List Secret) → word_refusal command ≡ None → form words ≡ Some command
@@ -70,3 +70,10 @@ pub export_done_run : (words : List (List ℕ)) (left : List ℕ) (files after :
 export_done_run words left files after profile secret rest tells was now is gave one =
     job_done ExportPages profile secret (λ file text. IsExported (keys_of profile secret file) file text) (done_exports profile secret) files tells was now
     (subst (λ (l : List Answer). AnswersOne l Done tells was now) (one_due words left files after (Read profile (OnPages ExportPages)) secret rest refl is gave) one)
+
+pub agree_done_run : (words : List (List ℕ)) (left : List ℕ) (files after : Files) (profile : Profile) (secret : Secret) (rest : List Secret) (tells : Bool) (was now : List ℕ)
+    → form words ≡ Some (Read profile (OnPages AgreePages)) → key_lines (asked_keys (Read profile (OnPages AgreePages))) left ≡ Ok (secret ∷ rest) → AnswersOne (due words left files after) Done tells was now
+    → Reports profile files (IsAgreed profile secret) tells was now
+agree_done_run words left files after profile secret rest tells was now is gave one =
+    job_done AgreePages profile secret (IsAgreed profile secret) (done_agrees profile secret) files tells was now
+    (subst (λ (l : List Answer). AnswersOne l Done tells was now) (one_due words left files after (Read profile (OnPages AgreePages)) secret rest refl is gave) one)

@@ -1,5 +1,5 @@
 -- What a report that is due says of the file.
-use Rattle.std.proofs.Common.{◌≡◌, ℕ, zero, suc, ◌&&◌, Bool, true, false, List, [], ◌∷◌, Result, Ok, Err, if◌then◌else◌, refl, sym, ap, ◌∙◌, arith}
+use Rattle.std.proofs.Common.{◌≡◌, ℕ, zero, suc, ◌==◌, ◌&&◌, Bool, true, false, List, [], ◌∷◌, Result, Ok, Err, if◌then◌else◌, refl, sym, ap, ◌∙◌, arith}
 use Rattle.std.specs.List.{Contains, list_all}
 use Rattle.btree_model.specs.Finding.{Finding, place, leaf, entry, key, fault, refused as unread, faults, is_sound, refusals}
 use Rattle.btree_model.specs.Freelist.{freelist_walk}
@@ -14,6 +14,8 @@ use Rattle.pager.specs.Opening.{Opened, file_opened}
 use Rattle.pager.specs.Pages.{opened_pages}
 use Rattle.pager.specs.declared.opening.OpenError.{OpenError}
 use Rattle.pager.specs.declared.opening.OpenError.TheVariants.{Empty, Short, KeyRefused as NoKey, HeaderFault, WalMode, AutoVacuum, Ragged, TooLarge, DiskFault as DiskFails, OutOfMemory as MemoryEnds}
+use Rattle.index_report.specs.Report.{index_summary}
+use Rattle.sqlcipher_tool.specs.Agree.{agree_answer, agree_answers}
 use Rattle.sqlcipher_tool.specs.Answer.{Answer, done, refused}
 use Rattle.sqlcipher_tool.specs.Export.{content_answers}
 use Rattle.sqlcipher_tool.specs.Reading.{job_answers}
@@ -21,13 +23,13 @@ use Rattle.sqlcipher_tool.specs.Migrate.{migrate_answers, migrate_due}
 use Rattle.sqlcipher_tool.specs.Opening.{open_answer, opened_with}
 use Rattle.sqlcipher_tool.specs.Plain.{IsClean, Opens, content_of, refused_in_use}
 use Rattle.sqlcipher_tool.specs.Rekey.{rekey_answers, rekey_due}
-use Rattle.sqlcipher_tool.specs.Reported.{CanBeMigrated, CanBeRekeyed, IsExported, IsVerified}
+use Rattle.sqlcipher_tool.specs.Reported.{CanBeMigrated, CanBeRekeyed, IsAgreed, IsExported, IsVerified}
 use Rattle.sqlcipher_tool.specs.Tags.{tags_of}
 use Rattle.sqlcipher_tool.specs.Text.{migrated_report, rekeyed_report, verify_report}
 use Rattle.sqlcipher_tool.specs.Verify.{else_answers, opened_answers, pages_answers, rest_answers, stop_answers, tags_or}
-use Rattle.sqlcipher_tool.specs.declared.reading.Job.TheVariants.{Verify, Export}
+use Rattle.sqlcipher_tool.specs.declared.reading.Job.TheVariants.{Verify, Export, Agree}
 use Rattle.sqlcipher_tool.specs.declared.status.Refusal.{Refusal}
-use Rattle.sqlcipher_tool.specs.declared.status.Refusal.TheVariants.{PageTag, Defect as RefusedDefect, TooManyPages}
+use Rattle.sqlcipher_tool.specs.declared.status.Refusal.TheVariants.{IndexesDiffer, PageTag, Defect as RefusedDefect, TooManyPages}
 use Rattle.sqlcipher_tool.specs.declared.status.Status.TheVariants.{Done, Refused}
 use Rattle.sqlcipher_tool.proofs.Completeness.{one_is}
 use Rattle.sqlcipher_tool.proofs.OpenedParts.{open_count, open_parts}
@@ -180,6 +182,29 @@ done_exports profile secret file answer h is =
     let held = content_of keys file opens.0.count in
     let whole = whole_if (opened_pages keys file opens.0.count) (done (export_report held) ∷ []) answer opens.2 is in
     (held, opens_to keys file opens.0 opens.1 whole.0, text_is (export_report held) answer whole.1)
+
+-- so the indexes agree, which is what the text says
+agreeing_by : (agree : Bool) (refusal : Refusal) → (if agree then Done else Refused refusal) ≡ Done → agree ≡ true
+agreeing_by true refusal is = refl
+agreeing_by false refusal is = cc
+
+pub done_agrees : (profile : Profile) (secret : Secret) (file : List ℕ) (answer : Answer) → Contains (job_answers Agree profile secret file) answer
+    → answer.status ≡ Done → IsAgreed profile secret file answer.text
+done_agrees profile secret file answer h is =
+    let keys = keys_of profile secret file in
+    let opens = opened_done (opened_with profile secret file) (λ count. agree_answers (opened_pages keys file count)) answer h is in
+    let pages = opened_pages keys file opens.0.count in
+    let found = index_summary pages in
+    let whole = whole_if pages (agree_answer pages ∷ []) answer opens.2 is in
+    let same : agree_answer pages ≡ answer = one_is (agree_answer pages) answer whole.1 in (
+      record {
+        opened = opens.0;
+        opens = opens.1;
+        sound = whole.0;
+        agree = agreeing_by (found.differing == 0) (IndexesDiffer found.differing found.checked) (status_same (agree_answer pages) answer same is);
+      },
+      sym (ap (λ (a : Answer). a.text) same),
+    )
 
 pub done_rekeys : (profile : Profile) (secret : Secret) (file : List ℕ) (answer : Answer) → Contains (rekey_answers profile secret file) answer
     → answer.status ≡ Done → CanBeRekeyed (keys_of profile secret file) file answer.text

@@ -7,7 +7,9 @@ pub mod Answered
 pub mod Batches
 pub mod Openings
 pub mod SomeDue
+pub mod PartsPut
 pub mod Exported
+pub mod Agreed
 pub mod Verified
 pub mod FindAnswers
 pub mod NearNames

@@ -20,7 +20,7 @@ use Rattle.pager.proofs.BatchLemmas.{number_is}
 use Rattle.sqlcipher_tool.specs.declared.command.Command.{Command}
 use Rattle.sqlcipher_tool.specs.declared.command.Command.TheVariants.{Probe, Recover, Read, Change as ChangeFile, Make}
 use Rattle.sqlcipher_tool.specs.declared.change.Change.TheVariants.{Stamp, Rekey, Migrate}
-use Rattle.sqlcipher_tool.specs.declared.reading.Job.TheVariants.{Verify, Export, Find}
+use Rattle.sqlcipher_tool.specs.declared.reading.Job.TheVariants.{Verify, Export, Agree, Find}
 use Rattle.sqlcipher_tool.specs.declared.reading.Reading.TheVariants.{Tags, Header, Salvage, OnPages}
 use Rattle.sqlcipher_tool.specs.Opening.{opened_with}
 use Rattle.sqlcipher_tool.specs.Plain.{IsClean}
@@ -83,6 +83,7 @@ module _ (profile : Profile) (secret : Secret) (rows : ℕ) (file : File) (fresh
       subst (λ (p : Profile). IsServable (Read p (OnPages Verify)) (secret ∷ second ∷ []) (standing file fresh)) (sym is) (record { recovers = refl; holds = clean })
   made_servable second (Read other (OnPages Export)) is =
       subst (λ (p : Profile). IsServable (Read p (OnPages Export)) (secret ∷ second ∷ []) (standing file fresh)) (sym is) (record { recovers = refl; holds = (clean.held, clean.opens) })
+  made_servable second (Read other (OnPages Agree)) is = absurd is
   made_servable second (Read other (OnPages (Find name low high))) is = absurd is
   made_servable second (ChangeFile other (Stamp field value)) is =
       subst (λ (p : Profile). IsServable (ChangeFile p (Stamp field value)) (secret ∷ second ∷ []) (standing file fresh)) (sym is) (record { recovers = refl; holds = opens })

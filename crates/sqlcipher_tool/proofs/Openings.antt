@@ -1,13 +1,10 @@
 -- What a file that is opened comes to.
 use Rattle.std.proofs.Common.{◌≡◌, ◌⊎◌, ⊎_elim, inl, inr, ℕ, List, Some, Result, Ok, Err, refl, sym, ap, ◌∙◌}
-use Rattle.cipher_profile.specs.declared.keys.Secret.{Secret}
-use Rattle.cipher_profile.specs.declared.profile.Profile.{Profile}
-use Rattle.page_codec.specs.Page.{FileKeys, keys_of}
-use Rattle.pager.specs.Opening.{Opened, IsRefusedBy, file_opened}
+use Rattle.pager.specs.Opening.{Opened, IsRefusedBy}
 use Rattle.pager.specs.declared.opening.OpenError.{OpenError}
 use Rattle.pager.specs.declared.opening.OpenError.TheVariants.{Empty, Short, KeyRefused as NoKey, HeaderFault, WalMode, AutoVacuum, Ragged, TooLarge, DiskFault as DiskFails, OutOfMemory as MemoryEnds}
 use Rattle.sqlcipher_tool.specs.Header.{opened_answer}
-use Rattle.sqlcipher_tool.specs.Opening.{open_answer, opened_with, unopened_answer}
+use Rattle.sqlcipher_tool.specs.Opening.{open_answer, unopened_answer}
 use Rattle.sqlcipher_tool.specs.Stop.{IsOutside, outcome_answer, stop_answer, stop_of}
 use Rattle.sqlcipher_tool.specs.declared.opening.Stop.{Stop}
 use Rattle.sqlcipher_tool.specs.declared.opening.Stop.TheVariants.{Refused as StopRefused, KeyRefused as StopKey, DiskFault as StopDisk, OutOfMemory as StopMemory}

@@ -27,7 +27,7 @@ use Rattle.sqlcipher_tool.specs.declared.status.Status.{Status}
 use Rattle.sqlcipher_tool.specs.declared.status.Status.TheVariants.{Done, KeyRefused, OutputFault}
 use Rattle.sqlcipher_tool.proofs.Answered.{printed_one}
 use Rattle.sqlcipher_tool.proofs.Changed.{silent_one, the_only}
-use Rattle.sqlcipher_tool.proofs.Exported.{put_so}
+use Rattle.sqlcipher_tool.proofs.PartsPut.{put_so}
 use Rattle.sqlcipher_tool.proofs.Numbers.{lt_true, true_lt}
 use Rattle.sqlcipher_tool.proofs.Recoveries.{IsOfFile}
 

@@ -17,6 +17,7 @@ use Rattle.pager.specs.Pages.{opened_pages}
 use Rattle.pager.specs.declared.opening.OpenError.{OpenError}
 use Rattle.rollback_journal.specs.declared.recovery.Recovery.{Recovery}
 use Rattle.rollback_journal.specs.declared.recovery.RecoverError.{RecoverError}
+use Rattle.sqlcipher_tool.specs.Agree.{agree_answer}
 use Rattle.sqlcipher_tool.specs.Answer.{Answer, done, refused}
 use Rattle.export_rows.specs.Report.{export_report}
 use Rattle.sqlcipher_tool.specs.Export.{content_answers}
@@ -26,7 +27,7 @@ use Rattle.sqlcipher_tool.specs.Due.{change_answers}
 use Rattle.sqlcipher_tool.specs.declared.change.Change.{Change}
 use Rattle.sqlcipher_tool.specs.declared.change.Change.TheVariants.{Stamp, Rekey, Migrate}
 use Rattle.sqlcipher_tool.specs.declared.reading.Job.{Job}
-use Rattle.sqlcipher_tool.specs.declared.reading.Job.TheVariants.{Verify, Export, Find}
+use Rattle.sqlcipher_tool.specs.declared.reading.Job.TheVariants.{Verify, Export, Agree, Find}
 use Rattle.sqlcipher_tool.specs.declared.reading.Reading.{Reading}
 use Rattle.sqlcipher_tool.specs.declared.reading.Reading.TheVariants.{Tags, Header, Salvage, OnPages}
 use Rattle.sqlcipher_tool.specs.Make.{made_answers, make_answers}
@@ -88,6 +89,7 @@ find_some pages name low high =
 pub job_some : (job : Job) (pages : Pages) → 0 < length (job_due job pages)
 job_some Verify pages = pages_some pages
 job_some Export pages = content_some pages
+job_some Agree pages = parts_some pages (agree_answer pages)
 job_some (Find name low high) pages = find_some pages name low high
 
 -- to a reading

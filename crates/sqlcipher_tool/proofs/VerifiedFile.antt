@@ -1,5 +1,5 @@
 -- What `verify` answers of a file, from what it answers of its pages.
-use Rattle.std.proofs.Common.{◌≡◌, ◌⊎◌, ⊎_elim, ℕ, ℤ, zero, suc, ◌≤◌, ◌<◌, Bool, true, false, is_some, List, [], ◌∷◌, length, Some, None, Result, Ok, Err, if◌then◌else◌, sym, ap, ◌∙◌, subst, arith}
+use Rattle.std.proofs.Common.{◌≡◌, ◌⊎◌, ⊎_elim, ℕ, ℤ, zero, suc, ◌≤◌, ◌<◌, ◌==◌, Bool, true, false, is_some, List, [], ◌∷◌, length, Some, None, Result, Ok, Err, if◌then◌else◌, sym, ap, ◌∙◌, subst, arith}
 use Rattle.std.specs.Prelude.{nat_lt, slice_index_or}
 use Rattle.std.specs.List.{Contains}
 use Rattle.std.proofs.lemmas.Bool.{le-leb}
@@ -20,6 +20,7 @@ use Rattle.pager.specs.declared.opening.OpenError.TheVariants.{Empty, Short, Key
 use Rattle.rollback_journal.specs.declared.recovery.Recovery.{Recovery}
 use Rattle.rollback_journal.specs.declared.recovery.RecoverError.{RecoverError}
 use Rattle.edge_model.specs.Files.{Files}
+use Rattle.sqlcipher_tool.specs.Agree.{agree_answer, agree_answers}
 use Rattle.sqlcipher_tool.specs.Answer.{Answer, IsFault, done, refused}
 use Rattle.db_maker.specs.Pages.{made_pages}
 use Rattle.fresh_file.specs.State.{most_pages}
@@ -27,7 +28,10 @@ use Rattle.migrate_job.specs.Bound.{pages_at_most}
 use Rattle.sqlcipher_tool.specs.Make.{made_answers, make_answers}
 use Rattle.sqlcipher_tool.specs.Migrate.{migrate_due, too_many}
 use Rattle.sqlcipher_tool.specs.Renewal.{Renewal}
-use Rattle.sqlcipher_tool.specs.declared.status.Refusal.TheVariants.{FileThere, JournalThere, TooManyPages}
+use Rattle.sqlcipher_tool.specs.declared.status.Refusal.TheVariants.{FileThere, IndexesDiffer, JournalThere, TooManyPages}
+use Rattle.sqlcipher_tool.specs.declared.status.Refusal.{Refusal}
+use Rattle.sqlcipher_tool.specs.declared.status.Status.TheVariants.{Done, Refused}
+use Rattle.index_report.specs.Report.{index_summary}
 use Rattle.btree_model.specs.Content.{content}
 use Rattle.btree_model.specs.Plain.{with_zeros}
 use Rattle.btree_model.specs.Schema.{schema_part}
@@ -38,7 +42,7 @@ use Rattle.sqlcipher_tool.specs.Export.{content_answers}
 use Rattle.sqlcipher_tool.specs.Find.{before_stop, ended_answer, find_answers, first_stop, table_answer}
 use Rattle.sqlcipher_tool.specs.Reading.{job_due}
 use Rattle.sqlcipher_tool.specs.declared.reading.Job.{Job}
-use Rattle.sqlcipher_tool.specs.declared.reading.Job.TheVariants.{Verify, Export, Find}
+use Rattle.sqlcipher_tool.specs.declared.reading.Job.TheVariants.{Verify, Export, Agree, Find}
 use Rattle.sqlcipher_tool.specs.Opening.{open_answer, unopened_answer}
 use Rattle.sqlcipher_tool.specs.Plain.{refused_in_use}
 use Rattle.sqlcipher_tool.specs.Promises.{AnswersOne, IsUnrecovered}
@@ -164,6 +168,18 @@ content_of_file pages =
     else_of_file (stop_answers (first_faults (parts pages)) (first_refusals (parts pages))) (done (export_report (content (with_zeros pages))) ∷ [])
     (defects_of_file (first_faults (parts pages)) (first_refusals (parts pages))) ((λ is. is), tt)
 
+-- that indexes differ is no answer of a recovery
+differ_of_file : (agree : Bool) (refusal : Refusal) → (IsUnrecovered (Refused refusal) → ⊥) → IsUnrecovered (if agree then Done else Refused refusal) → ⊥
+differ_of_file true refusal other is = is
+differ_of_file false refusal other is = other is
+
+agree_of_file : (pages : Pages) → AreOfFile (agree_answers pages)
+agree_of_file pages =
+    let found = index_summary pages in
+    else_of_file (stop_answers (first_faults (parts pages)) (first_refusals (parts pages))) (agree_answer pages ∷ [])
+    (defects_of_file (first_faults (parts pages)) (first_refusals (parts pages)))
+    (differ_of_file (found.differing == 0) (IndexesDiffer found.differing found.checked) (λ is. is), tt)
+
 met_of_file : (all found : List Finding) → IsOfFile (ended_answer found (first_stop all))
 met_of_file [] found is = is
 met_of_file (place n ∷ rest) found is = met_of_file rest found is
@@ -188,6 +204,7 @@ find_of_file pages name low high =
 job_of_file : (job : Job) (pages : Pages) → AreOfFile (job_due job pages)
 job_of_file Verify pages = pages_of_file pages
 job_of_file Export pages = content_of_file pages
+job_of_file Agree pages = agree_of_file pages
 job_of_file (Find name low high) pages = find_of_file pages name low high
 
 open_of_file : (error : OpenError) → IsOfFile (open_answer error)

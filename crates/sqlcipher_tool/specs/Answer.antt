@@ -3,7 +3,7 @@ use Rattle.std.specs.Prelude.{◌≡◌, ◌⊎◌, ◌≤◌, ℕ, Bool, true, 
 use Rattle.edge_model.specs.Causes.{Rose}
 use Rattle.text_lines.specs.Text.{PutsPart}
 use Rattle.sqlcipher_tool.specs.declared.status.Refusal.{Refusal}
-use Rattle.sqlcipher_tool.specs.declared.status.Refusal.TheVariants.{NoTags, LayoutDiffers, KeyMissing, KeyEmpty, KeyTooLong, KeyForm, FileThere, JournalThere, Empty, Short, HeaderFault, WalMode, AutoVacuum, Ragged, TooLarge, PageTag, JournalPageSize, SuperJournal, Defect, TooManyPages, NoTable, ScriptLine, LineTooLong, TooManyLines}
+use Rattle.sqlcipher_tool.specs.declared.status.Refusal.TheVariants.{NoTags, LayoutDiffers, KeyMissing, KeyEmpty, KeyTooLong, KeyForm, FileThere, JournalThere, Empty, Short, HeaderFault, WalMode, AutoVacuum, Ragged, TooLarge, PageTag, JournalPageSize, SuperJournal, Defect, TooManyPages, NoTable, IndexesDiffer, ScriptLine, LineTooLong, TooManyLines}
 use Rattle.sqlcipher_tool.specs.declared.status.Status.{Status}
 use Rattle.sqlcipher_tool.specs.declared.status.Status.TheVariants.{Done, Usage, Refused, KeyRefused, DiskFault, OutputFault, InputFault, EntropyFault, OutOfMemory}
 use Rattle.sqlcipher_tool.specs.Text.{refusal_line, usage_line, key_refused_line}
@@ -107,42 +107,44 @@ is_early_refusal SuperJournal = false
 is_early_refusal (Defect defect) = false
 is_early_refusal (TooManyPages limit) = false
 is_early_refusal NoTable = false
+is_early_refusal (IndexesDiffer differing checked) = false
 is_early_refusal (ScriptLine line) = false
 is_early_refusal (LineTooLong line) = false
 is_early_refusal TooManyLines = false
 
--- it is a page whose tag does not hold
-abbrev pub is_page_refusal : Refusal → Bool
-is_page_refusal NoTags = false
-is_page_refusal LayoutDiffers = false
-is_page_refusal KeyMissing = false
-is_page_refusal KeyEmpty = false
-is_page_refusal KeyTooLong = false
-is_page_refusal KeyForm = false
-is_page_refusal FileThere = false
-is_page_refusal JournalThere = false
-is_page_refusal Empty = false
-is_page_refusal (Short len) = false
-is_page_refusal (HeaderFault offset found) = false
-is_page_refusal WalMode = false
-is_page_refusal AutoVacuum = false
-is_page_refusal (Ragged len) = false
-is_page_refusal (TooLarge pages) = false
-is_page_refusal (PageTag page) = true
-is_page_refusal (JournalPageSize found) = false
-is_page_refusal SuperJournal = false
-is_page_refusal (Defect defect) = false
-is_page_refusal (TooManyPages limit) = false
-is_page_refusal NoTable = false
-is_page_refusal (ScriptLine line) = false
-is_page_refusal (LineTooLong line) = false
-is_page_refusal TooManyLines = false
+-- it may have other lines before its own: those of pages whose tags do not hold, or of indexes that differ
+abbrev pub has_lines_before : Refusal → Bool
+has_lines_before NoTags = false
+has_lines_before LayoutDiffers = false
+has_lines_before KeyMissing = false
+has_lines_before KeyEmpty = false
+has_lines_before KeyTooLong = false
+has_lines_before KeyForm = false
+has_lines_before FileThere = false
+has_lines_before JournalThere = false
+has_lines_before Empty = false
+has_lines_before (Short len) = false
+has_lines_before (HeaderFault offset found) = false
+has_lines_before WalMode = false
+has_lines_before AutoVacuum = false
+has_lines_before (Ragged len) = false
+has_lines_before (TooLarge pages) = false
+has_lines_before (PageTag page) = true
+has_lines_before (JournalPageSize found) = false
+has_lines_before SuperJournal = false
+has_lines_before (Defect defect) = false
+has_lines_before (TooManyPages limit) = false
+has_lines_before NoTable = false
+has_lines_before (IndexesDiffer differing checked) = true
+has_lines_before (ScriptLine line) = false
+has_lines_before (LineTooLong line) = false
+has_lines_before TooManyLines = false
 
--- the one line of an answer that has one; pages whose tags do not hold have a line each
+-- the one line of an answer that has one
 abbrev pub status_line : Status → Option (List ℕ)
 status_line Done = None
 status_line Usage = Some usage_line
-status_line (Refused refusal) = if is_page_refusal refusal then None else Some (refusal_line refusal)
+status_line (Refused refusal) = if has_lines_before refusal then None else Some (refusal_line refusal)
 status_line KeyRefused = Some key_refused_line
 status_line DiskFault = None
 status_line OutputFault = None

@@ -1,6 +1,6 @@
 -- `play`: a script of sessions on the recovered file. It takes no key line, its answers come of the run and not of words, input and files
 -- alone, and it changes the file more than once: so it has promises of its own in place of those of a command.
-use Rattle.std.specs.Prelude.{◌≡◌, ◌⊎◌, ◌<◌, ◌≤◌, ℕ, Bool, true, false, IsTrue, IsOk, IsSome, List, [], ◌∷◌, ◌++◌, All, drop, length, Option, Some, None, Result, Ok, Err}
+use Rattle.std.specs.Prelude.{◌≡◌, ◌⊎◌, ◌≤◌, ℕ, Bool, false, IsTrue, IsOk, IsSome, List, [], All, drop, length, Some, None, Result, Ok, Err}
 use Rattle.cipher_profile.specs.Profile.{is_plain}
 use Rattle.cipher_profile.specs.declared.profile.Profile.{Profile}
 use Rattle.edge_model.specs.Files.{Files, main_of}

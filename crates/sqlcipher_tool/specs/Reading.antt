@@ -5,6 +5,7 @@ use Rattle.cipher_profile.specs.declared.profile.Profile.{Profile}
 use Rattle.db_format.specs.Pages.{Pages}
 use Rattle.page_codec.specs.Page.{keys_of}
 use Rattle.pager.specs.Pages.{opened_pages}
+use Rattle.sqlcipher_tool.specs.Agree.{agree_answers}
 use Rattle.sqlcipher_tool.specs.Answer.{Answer}
 use Rattle.sqlcipher_tool.specs.Export.{content_answers}
 use Rattle.sqlcipher_tool.specs.Find.{find_answers}
@@ -14,7 +15,7 @@ use Rattle.sqlcipher_tool.specs.Salvage.{salvage_answer}
 use Rattle.sqlcipher_tool.specs.Tags.{tags_answer}
 use Rattle.sqlcipher_tool.specs.Verify.{opened_answers, pages_answers}
 use Rattle.sqlcipher_tool.specs.declared.reading.Job.{Job}
-use Rattle.sqlcipher_tool.specs.declared.reading.Job.TheVariants.{Verify, Export, Find}
+use Rattle.sqlcipher_tool.specs.declared.reading.Job.TheVariants.{Verify, Export, Agree, Find}
 use Rattle.sqlcipher_tool.specs.declared.reading.Reading.{Reading}
 use Rattle.sqlcipher_tool.specs.declared.reading.Reading.TheVariants.{Tags, Header, Salvage, OnPages}
 
@@ -22,6 +23,7 @@ use Rattle.sqlcipher_tool.specs.declared.reading.Reading.TheVariants.{Tags, Head
 abbrev pub job_due : Job → Pages → List Answer
 job_due Verify pages = pages_answers pages
 job_due Export pages = content_answers pages
+job_due Agree pages = agree_answers pages
 job_due (Find name low high) pages = find_answers pages name low high
 
 -- the answers to a job on this file with this secret

@@ -2,6 +2,7 @@
 use Rattle.std.specs.Prelude.{◌≡◌, ◌⊎◌, ◌<◌, ◌≤◌, ◌*◌, ℕ, true, false, List, [], ◌∷◌, IsOk, Option, Some, None, Ok}
 use Rattle.btree_model.specs.Content.{Content}
 use Rattle.btree_model.specs.Finding.{is_sound}
+use Rattle.btree_model.specs.Parts.{is_database}
 use Rattle.btree_model.specs.Records.{tree_part}
 use Rattle.btree_model.specs.Schema.{schema_part}
 use Rattle.btree_page.specs.declared.kind.Family.TheVariants.{Table}
@@ -20,12 +21,13 @@ use Rattle.pager.specs.File.{page_stored, whole_pages}
 use Rattle.pager.specs.Opening.{Opened}
 use Rattle.pager.specs.Pages.{is_page_number, opened_pages}
 use Rattle.rowid_find.specs.Table.{at_root, schema_rows, table_of}
+use Rattle.sqlcipher_tool.specs.Agree.{is_agreeing}
 use Rattle.sqlcipher_tool.specs.Answer.{Answer, done}
 use Rattle.sqlcipher_tool.specs.declared.command.Command.{Command}
 use Rattle.sqlcipher_tool.specs.declared.command.Command.TheVariants.{Probe, Recover, Read, Change as ChangeFile, Make}
 use Rattle.sqlcipher_tool.specs.declared.change.Change.{Change}
 use Rattle.sqlcipher_tool.specs.declared.change.Change.TheVariants.{Stamp, Rekey, Migrate}
-use Rattle.sqlcipher_tool.specs.declared.reading.Job.TheVariants.{Verify, Export, Find}
+use Rattle.sqlcipher_tool.specs.declared.reading.Job.TheVariants.{Verify, Export, Agree, Find}
 use Rattle.sqlcipher_tool.specs.declared.reading.Reading.{Reading}
 use Rattle.sqlcipher_tool.specs.declared.reading.Reading.TheVariants.{Tags, Header, Salvage, OnPages}
 use Rattle.sqlcipher_tool.specs.declared.status.Status.{Status}
@@ -97,6 +99,13 @@ pub record HasTable (profile : Profile) (secret : Secret) (name : List ℕ) (fil
   pub table : table_of (opened_pages (keys_of profile secret file) file opened.count) name (schema_rows (opened_pages (keys_of profile secret file) file opened.count)) ≡ at_root root
   pub tree : is_sound (tree_part (opened_pages (keys_of profile secret file) file opened.count) Table nothing root) ≡ true
 
+-- the file opens, no part of its database has a defect, and each index that is checked agrees with its table
+pub record HasAgreeingIndexes (profile : Profile) (secret : Secret) (file : List ℕ) : Type 0 where
+  pub opened : Opened
+  pub opens : opened_with profile secret file ≡ Ok opened
+  pub sound : is_database (opened_pages (keys_of profile secret file) file opened.count) ≡ true
+  pub agree : is_agreeing (opened_pages (keys_of profile secret file) file opened.count) ≡ true
+
 -- nothing stands in the way of a reading of the recovered file
 abbrev pub IsReadable : Reading → Profile → Secret → List ℕ → Type 0
 IsReadable Tags profile secret file = HasTags profile secret file
@@ -104,6 +113,7 @@ IsReadable Header profile secret file = IsOk (opened_with profile secret file)
 IsReadable Salvage profile secret file = HasServablePages profile secret file
 IsReadable (OnPages Verify) profile secret file = IsClean (keys_of profile secret file) file
 IsReadable (OnPages Export) profile secret file = (held : Content) × Opens (keys_of profile secret file) file held
+IsReadable (OnPages Agree) profile secret file = HasAgreeingIndexes profile secret file
 IsReadable (OnPages (Find name low high)) profile secret file = HasTable profile secret name file
 
 -- nor of a change of it
@@ -144,6 +154,7 @@ IsForAnySize profile (Read other Header) = other ≡ profile
 IsForAnySize profile (Read other Salvage) = other ≡ profile
 IsForAnySize profile (Read other (OnPages Verify)) = other ≡ profile
 IsForAnySize profile (Read other (OnPages Export)) = other ≡ profile
+IsForAnySize profile (Read other (OnPages Agree)) = ⊥
 IsForAnySize profile (Read other (OnPages (Find name low high))) = ⊥
 IsForAnySize profile (ChangeFile old (Stamp field value)) = old ≡ profile
 IsForAnySize profile (ChangeFile old (Rekey new)) = old ≡ profile

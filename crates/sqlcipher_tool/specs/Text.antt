@@ -11,7 +11,7 @@ use Rattle.rollback_journal.specs.declared.recovery.Recovery.{Recovery}
 use Rattle.rollback_journal.specs.declared.recovery.Recovery.TheVariants.{Nothing, Cold, Played}
 use Rattle.text_lines.specs.Text.{line, field_line}
 use Rattle.sqlcipher_tool.specs.declared.status.Refusal.{Refusal}
-use Rattle.sqlcipher_tool.specs.declared.status.Refusal.TheVariants.{NoTags, LayoutDiffers, KeyMissing, KeyEmpty, KeyTooLong, KeyForm, FileThere, JournalThere, Empty, Short, HeaderFault, WalMode, AutoVacuum, Ragged, TooLarge, PageTag, JournalPageSize, SuperJournal, Defect as RefusedDefect, TooManyPages, NoTable, ScriptLine, LineTooLong, TooManyLines}
+use Rattle.sqlcipher_tool.specs.declared.status.Refusal.TheVariants.{NoTags, LayoutDiffers, KeyMissing, KeyEmpty, KeyTooLong, KeyForm, FileThere, JournalThere, Empty, Short, HeaderFault, WalMode, AutoVacuum, Ragged, TooLarge, PageTag, JournalPageSize, SuperJournal, Defect as RefusedDefect, TooManyPages, NoTable, IndexesDiffer, ScriptLine, LineTooLong, TooManyLines}
 
 -- what is said of a page
 abbrev pub of_page : ℕ → List ℕ → List ℕ
@@ -56,6 +56,7 @@ refusal_text SuperJournal = codes "journal names a super-journal"
 refusal_text (RefusedDefect defect) = defect_text defect
 refusal_text (TooManyPages limit) = codes "too many pages: limit " ++ decimal limit
 refusal_text NoTable = codes "no such table"
+refusal_text (IndexesDiffer differing checked) = codes "indexes differ: " ++ decimal differing ++ codes " of " ++ decimal checked
 refusal_text (ScriptLine number) = codes "line " ++ decimal number ++ codes ": no step"
 refusal_text (LineTooLong number) = codes "line " ++ decimal number ++ codes ": too long"
 refusal_text TooManyLines = codes "more than 100000 lines"

@@ -10,6 +10,7 @@
 -- | `salvage P`                | Read profile P, Salvage               |
 -- | `verify P`                 | Read profile P, OnPages Verify        |
 -- | `export P`                 | Read profile P, OnPages Export        |
+-- | `agree P`                  | Read profile P, OnPages Agree         |
 -- | `find P NAME LOW HIGH`     | Read profile P, OnPages (Find NAME LOW HIGH) |
 -- | `stamp P user-version N`   | Change profile P, Stamp UserVersion N |
 -- | `stamp P application-id N` | Change profile P, Stamp ApplicationId N |
@@ -34,7 +35,7 @@ use Rattle.sqlcipher_tool.specs.declared.command.Field.TheVariants.{UserVersion,
 use Rattle.sqlcipher_tool.specs.declared.change.Change.{Change}
 use Rattle.sqlcipher_tool.specs.declared.change.Change.TheVariants.{Stamp, Rekey, Migrate}
 use Rattle.sqlcipher_tool.specs.declared.reading.Job.{Job}
-use Rattle.sqlcipher_tool.specs.declared.reading.Job.TheVariants.{Verify, Export, Find}
+use Rattle.sqlcipher_tool.specs.declared.reading.Job.TheVariants.{Verify, Export, Agree, Find}
 use Rattle.sqlcipher_tool.specs.declared.reading.Reading.{Reading}
 use Rattle.sqlcipher_tool.specs.declared.reading.Reading.TheVariants.{Tags, Header, Salvage, OnPages}
 
@@ -94,8 +95,9 @@ form (name ∷ word ∷ []) =
     else (if bytes_eq name (codes "header") then option_map (λ profile. Read profile Header) (profile_named word)
     else (if bytes_eq name (codes "verify") then option_map (λ profile. Read profile (OnPages Verify)) (profile_named word)
     else (if bytes_eq name (codes "export") then option_map (λ profile. Read profile (OnPages Export)) (profile_named word)
+    else (if bytes_eq name (codes "agree") then option_map (λ profile. Read profile (OnPages Agree)) (profile_named word)
     else (if bytes_eq name (codes "salvage") then option_map (λ profile. Read profile Salvage) (profile_named word)
-    else (if bytes_eq name (codes "recover") then option_map Recover (profile_named word) else None)))))
+    else (if bytes_eq name (codes "recover") then option_map Recover (profile_named word) else None))))))
 form (name ∷ first ∷ second ∷ []) =
     if bytes_eq name (codes "rekey") then two_profiles Rekey first second
     else (if bytes_eq name (codes "migrate") then two_profiles Migrate first second
@@ -148,6 +150,7 @@ asks_tags profile (OnPages job) = false
 abbrev pub prints_rows : Job → Bool
 prints_rows Verify = false
 prints_rows Export = false
+prints_rows Agree = false
 prints_rows (Find name low high) = true
 
 abbrev pub shows_rows : Reading → Bool

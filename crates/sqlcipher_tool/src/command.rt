@@ -176,6 +176,9 @@ fn command_on<'w>(name: &str, word: &str) -> Option<Command<'w>>
     if name == "export" {
         return Some(Command::Read(profile?, Reading::OnPages(Job::Export)));
     }
+    if name == "agree" {
+        return Some(Command::Read(profile?, Reading::OnPages(Job::Agree)));
+    }
     if name == "salvage" {
         return Some(Command::Read(profile?, Reading::Salvage));
     }

@@ -9,6 +9,7 @@ ghost use Rattle.cipher_profile.specs.declared.keys.Secret.{Secret};
 ghost use Rattle.cipher_profile.specs.declared.profile.Profile.{Profile};
 ghost use Rattle.cipher_profile.specs.Profile.{IsListed, usable};
 ghost use Rattle.export_rows.specs.Report.{export_report};
+ghost use Rattle.index_report.specs.Report.{index_text};
 ghost use Rattle.db_format.specs.Pages.{Pages, nothing};
 ghost use Rattle.edge_model.specs.Files.{Files};
 ghost use Rattle.fresh_file.specs.State.{most_pages};
@@ -30,12 +31,12 @@ ghost use Rattle.sqlcipher_tool.specs.Opening.{opened_with};
 ghost use Rattle.sqlcipher_tool.specs.Plain.{HaveSamePages, IsClean, IsSameInUse, Opens};
 ghost use Rattle.sqlcipher_tool.specs.Promises.{AnswersOne};
 ghost use Rattle.sqlcipher_tool.specs.Rekey.{rekey_answers};
-ghost use Rattle.sqlcipher_tool.specs.Reported.{CanBeMigrated, CanBeRekeyed, IsExported, IsVerified, Reports};
-ghost use Rattle.sqlcipher_tool.specs.Servable.{HasTable};
+ghost use Rattle.sqlcipher_tool.specs.Reported.{CanBeMigrated, CanBeRekeyed, IsAgreed, IsExported, IsVerified, Reports};
+ghost use Rattle.sqlcipher_tool.specs.Servable.{HasAgreeingIndexes, HasTable};
 ghost use Rattle.sqlcipher_tool.specs.Text.{migrated_report, rekeyed_report, verify_report};
 ghost use Rattle.sqlcipher_tool.specs.Words.{asked_keys, form};
 ghost use Rattle.sqlcipher_tool.specs.declared.command.Command.TheVariants.{Read};
-ghost use Rattle.sqlcipher_tool.specs.declared.reading.Job.TheVariants.{Export, Find, Verify};
+ghost use Rattle.sqlcipher_tool.specs.declared.reading.Job.TheVariants.{Agree, Export, Find, Verify};
 ghost use Rattle.sqlcipher_tool.specs.declared.reading.Reading.TheVariants.{OnPages};
 ghost use Rattle.sqlcipher_tool.specs.declared.status.Status.TheVariants.{Done};
 
@@ -76,6 +77,27 @@ pub fn verify_run_law()
 pub fn export_done_law()
     ensures { (profile : Profile) (secret : Secret) (file : List ℕ) (opened : Opened) (held : Content) → opened_with profile secret file ≡ Ok opened
         → Opens (keys_of profile secret file) file held → job_answers Export profile secret file ≡ done (export_report held) ∷ [] }
+{}
+
+/// Of a file that opens, whose database has no defect and whose indexes agree with their tables, nothing but the text that says so is due
+/// to `agree`.
+pub fn agree_done_law()
+    ensures { (profile : Profile) (secret : Secret) (file : List ℕ) (has : HasAgreeingIndexes profile secret file)
+        → job_answers Agree profile secret file ≡ done (index_text (opened_pages (keys_of profile secret file) file has.opened.count)) ∷ [] }
+{}
+
+/// Where `agree` may be done, the file opens, its database has no defect, each index that is checked agrees with its table, and the text
+/// says so.
+pub fn agree_law()
+    ensures { (profile : Profile) (secret : Secret) (file : List ℕ) (answer : Answer) → Contains (job_answers Agree profile secret file) answer
+        → answer.status ≡ Done → IsAgreed profile secret file answer.text }
+{}
+
+/// So where `agree` was done, each index of the recovered file that is checked agrees with its table, and the text that says so was printed.
+pub fn agree_run_law()
+    ensures { (words : List (List ℕ)) (left : List ℕ) (files after : Files) (profile : Profile) (secret : Secret) (rest : List Secret) (tells : Bool) (was now : List ℕ)
+        → form words ≡ Some (Read profile (OnPages Agree)) → key_lines (asked_keys (Read profile (OnPages Agree))) left ≡ Ok (secret ∷ rest)
+        → AnswersOne (due words left files after) Done tells was now → Reports profile files (IsAgreed profile secret) tells was now }
 {}
 
 /// Of a file that opens, whose schema has no defect and the table, and whose tree of that table has none, nothing but the rows of the range and

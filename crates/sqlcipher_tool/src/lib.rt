@@ -1,6 +1,7 @@
 //! The top call: what the program does with its words, its input and the files.
 #![tactic(auto)]
 
+mod agree;
 mod change;
 mod command;
 mod complete;
@@ -34,10 +35,10 @@ pub use complete::{
     complete_law, key_lines_law, made_migrates_law, made_servable_law, nothing_servable_law,
 };
 pub use laws::{
-    export_done_law, export_opens_law, export_run_law, find_done_law, made_clean_law,
-    migrate_done_law, migrate_fits_law, migrate_opens_law, migrate_source_law, opens_law,
-    rekey_clean_law, rekey_done_law, rekey_opens_law, unread_leaves_law, verify_clean_law,
-    verify_done_law, verify_run_law,
+    agree_done_law, agree_law, agree_run_law, export_done_law, export_opens_law, export_run_law,
+    find_done_law, made_clean_law, migrate_done_law, migrate_fits_law, migrate_opens_law,
+    migrate_source_law, opens_law, rekey_clean_law, rekey_done_law, rekey_opens_law,
+    unread_leaves_law, verify_clean_law, verify_done_law, verify_run_law,
 };
 pub use names::near_names;
 pub use opening::Stop;

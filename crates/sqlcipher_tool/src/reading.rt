@@ -21,6 +21,7 @@ ghost use Rattle.sqlcipher_tool.specs.Reading.{job_due, reading_answers};
 ghost use Rattle.sqlcipher_tool.specs.Untouched.{HasNoFile, IsUnwritten};
 ghost use Rattle.sqlcipher_tool.specs.Words.{asks_tags, prints_rows, shows_rows};
 
+use crate::agree::agree_pages;
 use crate::command::Name;
 use crate::conclusion::conclude_stop;
 use crate::export::export_pages;
@@ -44,6 +45,8 @@ pub enum Job<'w> {
     Verify,
     /// Print all rows and entries.
     Export,
+    /// Compare each index with its table.
+    Agree,
     /// Print the rows of a table whose rowids lie in a range.
     Find {
         /// The table's name.
@@ -187,6 +190,7 @@ fn job_on_pages<S: Sink, E: Entropy, D: Disk>(
     match job {
         Job::Verify => verify_pages(alloc, pager, out),
         Job::Export => export_pages(alloc, pager, out),
+        Job::Agree => agree_pages(alloc, pager, out),
         Job::Find { name, low, high } => find_pages(alloc, pager, &name, low, high, out),
     }
 }

@@ -72,6 +72,13 @@ pub enum Refusal {
     },
     /// The schema has no table of this name whose rows have rowids.
     NoTable,
+    /// So many of the indexes that were checked do not agree with their table.
+    IndexesDiffer {
+        /// How many differ.
+        differing: u64,
+        /// How many were checked.
+        checked: u64,
+    },
     /// This line of a script is no step.
     ScriptLine {
         /// The line, counted from 1.

@@ -87,6 +87,10 @@ fn refusal_text(refusal: &Refusal) -> Text
             text.push_number(u64::from(*limit));
         }
         Refusal::NoTable => text.push(b"no such table"),
+        Refusal::IndexesDiffer { differing, checked } => {
+            text.push_around(b"indexes differ: ", *differing, b" of ");
+            text.push_number(*checked);
+        }
         Refusal::ScriptLine { line } => text.push_around(b"line ", u64::from(*line), b": no step"),
         Refusal::LineTooLong { line } => {
             text.push_around(b"line ", u64::from(*line), b": too long");

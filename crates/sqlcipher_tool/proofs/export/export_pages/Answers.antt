@@ -1,10 +1,16 @@
-use Rattle.std.proofs.Common.{◌≡◌, ⊎_elim, inl, inr, true, ap, ◌∙◌}
+use Rattle.std.proofs.Common.{◌≡◌, ◌++◌, ℕ, List, ⊎_elim, inl, inr, true, refl, sym, ap, ◌∙◌}
+use Rattle.btree_model.specs.Content.{content}
+use Rattle.btree_model.specs.Plain.{with_zeros}
+use Rattle.export_rows.specs.Report.{export_report}
+use Rattle.sqlcipher_tool.specs.Answer.{done}
+use Rattle.sqlcipher_tool.specs.declared.status.Status.TheVariants.{Done}
 use Rattle.btree_model.specs.Parts.{is_database}
 use Rattle.export_rows.specs.Causes.{is_export_defect}
 use Rattle.migrate_job.proofs.WalkStops.{given_stop}
 use Rattle.edge_model.specs.Files.{main_of}
 use Rattle.pager.specs.Pages.{opened_pages}
-use Rattle.sqlcipher_tool.proofs.Exported.{causes_of, done_one, failed_one, line_one, of_walk, stopped_one}
+use Rattle.sqlcipher_tool.proofs.Exported.{export_text}
+use Rattle.sqlcipher_tool.proofs.PartsPut.{causes_of, ended_one, failed_one, line_one, of_walk, stopped_one}
 use Rattle.sqlcipher_tool.proofs.export.export_pages.Goals as goal
 
 pub walk_stop-requires : goal.walk_stop-requires
@@ -15,7 +21,10 @@ pub returns-in-Ok-clause-answer : goal.returns-in-Ok-clause-answer
 returns-in-Ok-clause-answer g c = λ told.
     let start = c.args.pager.now in
     let pages = opened_pages start.codec (main_of (g.D.Disk.reads start.disk.now)) start.count in
-    done_one pages g.S.Sink.tells (g.S.Sink.taken c.args.out.now) (g.S.Sink.taken c.export.new.out) (c.in-Ok.ensures.sound told) (λ printed. c.in-Ok.ensures.text told printed)
+    let before = g.S.Sink.taken c.args.out.now in
+    ended_one pages (done (export_report (content (with_zeros pages)))) (export_report (content pages)) (export_text pages) Done g.S.Sink.tells before (g.S.Sink.taken c.export.new.out)
+    (c.in-Ok.ensures.sound told) refl
+    (λ printed. c.in-Ok.ensures.text told printed ∙ ap (λ (l : List ℕ). before ++ l) (sym ((export_text pages).text (c.in-Ok.ensures.sound told))))
 
 pub returns-in-Err-Walk-clause-answer : goal.returns-in-Err-Walk-clause-answer
 returns-in-Err-Walk-clause-answer g c = λ told.
@@ -23,7 +32,7 @@ returns-in-Err-Walk-clause-answer g c = λ told.
     let pages = opened_pages start.codec (main_of (g.D.Disk.reads start.disk.now)) start.count in
     let before = g.S.Sink.taken c.args.out.now in
     let mid = g.S.Sink.taken c.export.new.out in
-    stopped_one g.D.Disk.tells pages c.in-Err-Walk.error c.walk_stop.result c.conclude_stop.result g.S.Sink.tells before mid (g.S.Sink.taken c.conclude_stop.new.out) told
+    stopped_one pages (done (export_report (content (with_zeros pages)))) (export_report (content pages)) (export_text pages) g.D.Disk.tells c.in-Err-Walk.error c.walk_stop.result c.conclude_stop.result g.S.Sink.tells before mid (g.S.Sink.taken c.conclude_stop.new.out) told
     c.walk_stop.ensures
     (causes_of g.D.Disk.tells pages c.in-Err-Walk.field-0 c.in-Err-Walk.error c.in-Err-Walk.field-0-is told c.in-Err-Walk.ensures.causes)
     (λ is. ap g.S.Sink.taken (c.in-Err-Walk.ensures.defect (ap is_export_defect c.in-Err-Walk.field-0-is ∙ is)))
@@ -46,6 +55,6 @@ pub returns-in-Err-OutputFault-clause-answer : goal.returns-in-Err-OutputFault-c
 returns-in-Err-OutputFault-clause-answer g c = λ told.
     let start = c.args.pager.now in
     let pages = opened_pages start.codec (main_of (g.D.Disk.reads start.disk.now)) start.count in
-    failed_one pages _ g.S.Sink.tells (g.S.Sink.taken c.args.out.now) (g.S.Sink.taken c.export.new.out) tt
+    failed_one pages (done (export_report (content (with_zeros pages)))) (export_report (content pages)) (export_text pages) _ g.S.Sink.tells (g.S.Sink.taken c.args.out.now) (g.S.Sink.taken c.export.new.out) tt
     (λ printed. c.in-Err-OutputFault.ensures.part told printed)
     (⊎_elim (λ same. inl (ap g.S.Sink.taken same)) (λ (sound : is_database pages ≡ true). inr sound) (c.in-Err-OutputFault.ensures.checked told))

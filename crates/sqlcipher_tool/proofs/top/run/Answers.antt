@@ -1,5 +1,4 @@
-use Rattle.std.proofs.Common.{◌≡◌, ◌≢◌, ◌⊎◌, ⊎_elim, inl, inr, Bool, true, false, List, ℕ, Option, Some, None, refl, sym, ◌∙◌, ap, subst}
-use Rattle.cipher_profile.specs.Profile.{is_plain}
+use Rattle.std.proofs.Common.{◌≡◌, inl, inr, Bool, true, false, List, ℕ, Option, Some, None, refl, sym, ◌∙◌, subst}
 use Rattle.cipher_profile.specs.declared.profile.Profile.{Profile}
 use Rattle.sqlcipher_tool.specs.Answer.{IsEarly, Puts, usage}
 use Rattle.sqlcipher_tool.specs.Due.{asked_answers, command_answers, word_refusal}
@@ -12,7 +11,7 @@ use Rattle.sqlcipher_tool.specs.Servable.{IsDoneAlone}
 use Rattle.sqlcipher_tool.specs.Words.{draws, play_form, texts}
 use Rattle.sqlcipher_tool.specs.declared.command.Command.{Command as Asked}
 use Rattle.sqlcipher_tool.specs.declared.status.Status.{Status}
-use Rattle.sqlcipher_tool.specs.declared.status.Status.TheVariants.{Usage, EntropyFault}
+use Rattle.sqlcipher_tool.specs.declared.status.Status.TheVariants.{Usage}
 use Rattle.sqlcipher_tool.proofs.Answered.{printed_one}
 use Rattle.sqlcipher_tool.proofs.Completeness.{complete, done_or_starved}
 use Rattle.sqlcipher_tool.proofs.Playing.{draws_or_plain, no_command, not_none, one_profile, play_done}
