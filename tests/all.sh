@@ -26,6 +26,7 @@ company.py
 stamp.sh
 hostile_files.sh
 find.sh
+agree.sh
 salvage.sh
 two_runs.sh
 first_use.sh

@@ -94,7 +94,7 @@ judge() {
         [ "$status" -eq "$wanted" ] || say "$case: ended with $status, and $wanted is wanted: $(head -n 1 "$folder/errors")"
         case ${words[0]} in
             # Rows go out as they are read, and answers as they are given: what is printed is how the whole text begins.
-            export | find | salvage | play)
+            export | agree | find | salvage | play)
                 head -c "$(stat -c %s "$folder/said")" "$folder/whole.said" | cmp -s - "$folder/said" || say "$case: what is printed is no beginning of the text" ;;
             *) [ "$status" -eq 5 ] || [ ! -s "$folder/said" ] || say "$case: status $status, and $(head -n 1 "$folder/said") is printed" ;;
         esac
@@ -265,6 +265,7 @@ if ${CC:-cc} -shared -fPIC -O1 -o "$scratch/refuse.so" "$top/tests/faults/refuse
     refused "rekey 3 3" plain 3 rekey 3 3 &
     refused "migrate 3 $later_version" plain "$later_version" migrate 3 "$later_version" &
     refused "export 3" plain recovered export 3 &
+    refused "agree 3" plain recovered agree 3 &
     refused "find 3" plain recovered find 3 items 7 30 &
     refused "salvage 3" plain recovered salvage 3 &
     stride=$sparse refused "play 3" plain played play 3 &

@@ -26,7 +26,7 @@ sub SHARED () { (1 << 30) + 2 }
 sub TURNS () { 40 }
 sub TURN () { 0.05 }
 
-my %reads = map { $_ => 1 } qw(tags header verify export find salvage);
+my %reads = map { $_ => 1 } qw(tags header verify export agree find salvage);
 my %changes = map { $_ => 1 } qw(recover stamp rekey migrate play);
 
 my ($program, @words) = @ARGV;

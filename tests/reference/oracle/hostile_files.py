@@ -28,6 +28,7 @@ from hostile_pages import KEY, SALT, Maker, Parts
 from sqlcipher_formats import (
     JOURNAL_MAGIC, JOURNAL_MARK, PLAIN, PROFILES, WORDS, Codec, Database, Refused, be, draw_source, export_lines, find_lines, header_text,
     journal_checksum, journal_sector, journal_segments, probe_line, recover, tag_lines, verify_lines, whole_main)
+from sqlcipher_indexes import agree_lines
 from sqlcipher_oracle import blank_plain, make_plain
 from sqlcipher_salvage import salvage_lines
 
@@ -371,6 +372,15 @@ class Answers:
         try:
             text = "".join(f"{line}\n" for line in export_lines(Database(self.recovered, self.codec)))
             return 0, [text]
+        except Refused as refusal:
+            return self.with_first(str(refusal), database.walk_answers(), "ok: ")
+
+    def allowed_agree(self):
+        self.ready()
+        database = self.database()
+        try:
+            lines, status = agree_lines(Database(self.recovered, self.codec))
+            return status, ["".join(f"{line}\n" for line in lines)]
         except Refused as refusal:
             return self.with_first(str(refusal), database.walk_answers(), "ok: ")
 
