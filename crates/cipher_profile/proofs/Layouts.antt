@@ -1,7 +1,7 @@
 -- What holds of each of the profiles.
 use Rattle.std.proofs.Common.{◌≤◌, ◌≡◌, ◌<◌, ◌%◌, ℕ, zero, suc, List, [], ◌∷◌, length, slice_index_or, arith, refl, inl, inr, lit≤, subst, sym}
 use Rattle.cipher_profile.specs.declared.profile.Profile.{Profile}
-use Rattle.cipher_profile.specs.Profile.{IsLaidOut, IsListed, IsPlainSize, IsSize4, plain_of, sqlcipher_1, sqlcipher_2, sqlcipher_3, sqlcipher_4_of}
+use Rattle.cipher_profile.specs.Profile.{IsLaidOut, IsListed, IsPlainSize, IsSize4, plain_of, sqlcipher_1, sqlcipher_2, sqlcipher_3, sqlcipher_4_of, without_log}
 
 laid_out_1 : IsLaidOut sqlcipher_1
 laid_out_1 = record { least = lit≤ tt; most = lit≤ tt; content = lit≤ tt; reserve = lit≤ tt; whole = refl; room = λ ciphered. lit≤ tt; unreserved = λ plain. cc; blocks = refl; stride = refl; salt = lit≤ tt; tag = lit≤ tt; tagged = λ some. refl; untagged = λ ciphered none. refl }
@@ -79,15 +79,33 @@ laid_out_plain size one =
       untagged = λ ciphered none. cc;
     }
 
+-- the setting changes none of it
+laid_out_set : (profile : Profile) → IsLaidOut (without_log profile) → IsLaidOut profile
+laid_out_set profile is = record {
+  least = is.least;
+  most = is.most;
+  content = is.content;
+  reserve = is.reserve;
+  whole = is.whole;
+  room = is.room;
+  unreserved = is.unreserved;
+  blocks = is.blocks;
+  stride = is.stride;
+  salt = is.salt;
+  tag = is.tag;
+  tagged = is.tagged;
+  untagged = is.untagged;
+}
+
 pub IsListed-laid_out : (profile : Profile) → IsListed profile → IsLaidOut profile
 unfolding IsListed
-IsListed-laid_out profile listed = elim listed [
+IsListed-laid_out profile listed = laid_out_set profile (elim listed [
   | inl is ↦ subst IsLaidOut (sym is) laid_out_1
   | inr (inl is) ↦ subst IsLaidOut (sym is) laid_out_2
   | inr (inr (inl is)) ↦ subst IsLaidOut (sym is) laid_out_3
   | inr (inr (inr (inl both))) ↦ subst IsLaidOut (sym both.1) (laid_out_4 profile.page_size both.0)
   | inr (inr (inr (inr both))) ↦ subst IsLaidOut (sym both.1) (laid_out_plain profile.page_size both.0)
-]
+])
 
 -- what holds of a family of profiles with each of these sizes
 each_size : (of : ℕ → Profile) (P : Profile → Type 0) → P (of 1024) → P (of 2048) → P (of 4096) → P (of 8192) → P (of 16384) → P (of 32768) → P (of 65536)
@@ -102,13 +120,13 @@ each_size of P a b d e f g h size one = elim one [
   | inr (inr (inr (inr (inr (inr is))))) ↦ subst (λ (n : ℕ). P (of n)) (sym is) h
 ]
 
--- what holds of each profile, one by one, holds of all
-pub IsListed-each : (P : Profile → Type 0) → P sqlcipher_1 → P sqlcipher_2 → P sqlcipher_3
+-- what holds of each profile, one by one, and does not ask for the setting, holds of all
+pub IsListed-each : (P : Profile → Type 0) → ((profile : Profile) → P (without_log profile) → P profile) → P sqlcipher_1 → P sqlcipher_2 → P sqlcipher_3
     → P (sqlcipher_4_of 1024) → P (sqlcipher_4_of 2048) → P (sqlcipher_4_of 4096) → P (sqlcipher_4_of 8192) → P (sqlcipher_4_of 16384) → P (sqlcipher_4_of 32768) → P (sqlcipher_4_of 65536)
     → P (plain_of 512) → P (plain_of 1024) → P (plain_of 2048) → P (plain_of 4096) → P (plain_of 8192) → P (plain_of 16384) → P (plain_of 32768) → P (plain_of 65536)
     → (profile : Profile) → IsListed profile → P profile
 unfolding IsListed
-IsListed-each P one two three a b d e f g h p q r s t u v w profile listed = elim listed [
+IsListed-each P set one two three a b d e f g h p q r s t u v w profile listed = set profile (elim listed [
   | inl is ↦ subst P (sym is) one
   | inr (inl is) ↦ subst P (sym is) two
   | inr (inr (inl is)) ↦ subst P (sym is) three
@@ -117,7 +135,7 @@ IsListed-each P one two three a b d e f g h p q r s t u v w profile listed = eli
     | inl is ↦ subst (λ (n : ℕ). P (plain_of n)) (sym is) p
     | inr one ↦ each_size plain_of P q r s t u v w profile.page_size one
   ])
-]
+])
 
 -- profiles of which each is listed, one by one
 pub none_listed : (k : ℕ) (d : Profile) → k < 0 → IsListed (slice_index_or [] k d)

@@ -3,3 +3,4 @@ pub mod Layouts
 pub mod Lines
 pub mod Literals
 pub mod Names
+pub mod Settings

@@ -1,6 +1,7 @@
 -- Profiles: the page layouts and key derivations of SQLCipher's versions (SQLCipher API, "cipher_compatibility"), and plain files
 -- of SQLite.
-use Rattle.std.specs.Prelude.{◌≡◌, ◌⊎◌, ◌≤◌, ℕ, ◌+◌, ◌-◌, ◌%◌, ◌<◌, ◌==◌, ◌||◌, Bool, true, false, List, [], ◌∷◌, Option, Some, None, codes, if◌then◌else◌}
+use Rattle.std.specs.Prelude.{◌≡◌, ◌⊎◌, ◌≤◌, length, take, drop, ℕ, ◌+◌, ◌-◌, ◌%◌, ◌<◌, ◌==◌, ◌||◌, Bool, true, false, List, [], ◌∷◌, Option, Some, None, codes, if◌then◌else◌}
+use Rattle.std.specs.Option.{option_map}
 use Rattle.std.specs.Str.{bytes_eq}
 use Rattle.cipher_profile.specs.declared.profile.Profile.{Profile}
 use Rattle.cipher_profile.specs.declared.profile.HashKind.TheVariants.{Sha1, Sha512}
@@ -8,19 +9,19 @@ use Rattle.cipher_profile.specs.Hashes.{digest_len}
 
 -- compatibility 1: pages of 1,024 bytes without a tag
 abbrev pub sqlcipher_1 : Profile
-sqlcipher_1 = record { version = 1; page_size = 1024; reserve = 16; hash = Sha1; rounds = 4000; tag_len = 0 }
+sqlcipher_1 = record { version = 1; page_size = 1024; reserve = 16; hash = Sha1; rounds = 4000; tag_len = 0; reads_log = false }
 
 -- compatibility 2: HMAC-SHA-1, PBKDF2 with 4,000 rounds
 abbrev pub sqlcipher_2 : Profile
-sqlcipher_2 = record { version = 2; page_size = 1024; reserve = 48; hash = Sha1; rounds = 4000; tag_len = 20 }
+sqlcipher_2 = record { version = 2; page_size = 1024; reserve = 48; hash = Sha1; rounds = 4000; tag_len = 20; reads_log = false }
 
 -- compatibility 3: as 2, with 64,000 rounds
 abbrev pub sqlcipher_3 : Profile
-sqlcipher_3 = record { version = 3; page_size = 1024; reserve = 48; hash = Sha1; rounds = 64000; tag_len = 20 }
+sqlcipher_3 = record { version = 3; page_size = 1024; reserve = 48; hash = Sha1; rounds = 64000; tag_len = 20; reads_log = false }
 
 -- compatibility 4 with pages of this size (SQLCipher API, "cipher_page_size"): HMAC-SHA-512, PBKDF2 with 256,000 rounds
 abbrev pub sqlcipher_4_of : ℕ → Profile
-sqlcipher_4_of size = record { version = 4; page_size = size; reserve = 80; hash = Sha512; rounds = 256000; tag_len = 64 }
+sqlcipher_4_of size = record { version = 4; page_size = size; reserve = 80; hash = Sha512; rounds = 256000; tag_len = 64; reads_log = false }
 
 -- and as it is by itself: pages of 4,096 bytes
 abbrev pub sqlcipher_4 : Profile
@@ -33,7 +34,7 @@ IsSize4 size =
 
 -- a plain file with pages of this size: nothing of a page is reserved, and the hash and its rounds serve nothing
 abbrev pub plain_of : ℕ → Profile
-plain_of size = record { version = 0; page_size = size; reserve = 0; hash = Sha1; rounds = 1; tag_len = 0 }
+plain_of size = record { version = 0; page_size = size; reserve = 0; hash = Sha1; rounds = 1; tag_len = 0; reads_log = false }
 
 -- the sizes of pages that SQLite knows, in bytes (SQLite file format, 1.3.2)
 abbrev pub IsPlainSize : ℕ → Type 0
@@ -43,7 +44,30 @@ IsPlainSize size = (size ≡ 512) ⊎ IsSize4 size
 abbrev pub is_plain : Profile → Bool
 is_plain profile = profile.version == 0
 
--- the profile that a word of the command line names. Every one is listed (`named_listed`)
+-- a profile with this setting: whether a file is read with its log, and only read
+abbrev pub set_log : Bool → Profile → Profile
+set_log reads profile = record {
+  version = profile.version;
+  page_size = profile.page_size;
+  reserve = profile.reserve;
+  hash = profile.hash;
+  rounds = profile.rounds;
+  tag_len = profile.tag_len;
+  reads_log = reads;
+}
+
+-- with it, and without
+abbrev pub with_log : Profile → Profile
+with_log profile = set_log true profile
+
+abbrev pub without_log : Profile → Profile
+without_log profile = set_log false profile
+
+-- the word ends with the setting, `:wal`
+abbrev pub has_log_setting : List ℕ → Bool
+has_log_setting word = bytes_eq (drop (length word - 4) word) (codes ":wal")
+
+-- the profile of a word without its setting. Every one is listed (`named_listed`)
 unfoldable pub profile_named : List ℕ → Option Profile
 profile_named word =
     if bytes_eq word (codes "1") then Some sqlcipher_1
@@ -65,12 +89,17 @@ profile_named word =
     else (if bytes_eq word (codes "plain:32768") then Some (plain_of 32768)
     else (if bytes_eq word (codes "plain:65536") then Some (plain_of 65536) else None)))))))))))))))))
 
--- one of the profiles. What holds of each of them is in `IsLaidOut`
+-- the profile that a word of the command line names, which may have the setting
+abbrev pub profile_set_named : List ℕ → Option Profile
+profile_set_named word =
+    if has_log_setting word then option_map with_log (profile_named (take (length word - 4) word)) else profile_named word
+
+-- one of the profiles, with the setting or without. What holds of each of them is in `IsLaidOut`
 unfoldable pub IsListed : Profile → Type 0
 IsListed profile =
-    (profile ≡ sqlcipher_1) ⊎ (profile ≡ sqlcipher_2) ⊎ (profile ≡ sqlcipher_3)
-    ⊎ (IsSize4 profile.page_size × (profile ≡ sqlcipher_4_of profile.page_size))
-    ⊎ (IsPlainSize profile.page_size × (profile ≡ plain_of profile.page_size))
+    (without_log profile ≡ sqlcipher_1) ⊎ (without_log profile ≡ sqlcipher_2) ⊎ (without_log profile ≡ sqlcipher_3)
+    ⊎ (IsSize4 profile.page_size × (without_log profile ≡ sqlcipher_4_of profile.page_size))
+    ⊎ (IsPlainSize profile.page_size × (without_log profile ≡ plain_of profile.page_size))
 
 -- the profiles in the order in which a file is tried with them
 abbrev pub probed_profiles : List Profile

@@ -1,6 +1,6 @@
 // The profiles of SQLCipher's versions and of plain files, as one table.
 ghost use Rattle.std.specs.Prelude.{◌≡◌, IfSome, All};
-ghost use Rattle.cipher_profile.specs.Profile.{IsLaidOut, IsListed, IsPlainSize, IsSize4, is_plain, plain_of, profile_named, probed_profiles, sqlcipher_4_of, usable};
+ghost use Rattle.cipher_profile.specs.Profile.{profile_set_named, with_log, IsLaidOut, IsListed, IsPlainSize, IsSize4, is_plain, plain_of, profile_named, probed_profiles, sqlcipher_4_of, usable};
 
 /// The hash of a profile.
 #[derive(Clone, Copy, Debug, PartialEq, Eq)]
@@ -26,6 +26,8 @@ pub struct Profile {
     pub rounds: u32,
     /// The length of a tag.
     pub tag_len: u32,
+    /// Whether a file is read with its log, and only read: the word ends with `:wal`.
+    pub reads_log: bool,
 }
 
 const SQLCIPHER_1: Profile = Profile {
@@ -35,6 +37,7 @@ const SQLCIPHER_1: Profile = Profile {
     hash: HashKind::Sha1,
     rounds: 4_000,
     tag_len: 0,
+    reads_log: false,
 };
 
 const SQLCIPHER_2: Profile = Profile {
@@ -44,6 +47,7 @@ const SQLCIPHER_2: Profile = Profile {
     hash: HashKind::Sha1,
     rounds: 4_000,
     tag_len: 20,
+    reads_log: false,
 };
 
 const SQLCIPHER_3: Profile = Profile {
@@ -53,6 +57,7 @@ const SQLCIPHER_3: Profile = Profile {
     hash: HashKind::Sha1,
     rounds: 64_000,
     tag_len: 20,
+    reads_log: false,
 };
 
 // Version 4 with pages of this size.
@@ -69,6 +74,7 @@ fn sqlcipher_4_of(page_size: u32) -> Profile
         hash: HashKind::Sha512,
         rounds: 256_000,
         tag_len: 64,
+        reads_log: false,
     }
 }
 
@@ -86,10 +92,38 @@ fn plain_of(page_size: u32) -> Profile
         hash: HashKind::Sha1,
         rounds: 1,
         tag_len: 0,
+        reads_log: false,
     }
 }
 
-/// The profile that a word of the command line names.
+/// The profile that a word of the command line names, where it may have the setting of a file that is read with its log.
+pub fn profile_with_setting(word: &str) -> Option<Profile>
+    ensures value { result ≡ profile_set_named word.now }
+    ensures listed { IfSome result IsListed }
+{
+    match word.strip_suffix(":wal") {
+        Some(front) => match profile_of(front) {
+            Some(profile) => Some(with_log(profile)),
+            None => None,
+        },
+        None => profile_of(word),
+    }
+}
+
+// The same for a file that is read with its log.
+#[tactic(auto, unfolding(crate::specs::Profile::IsListed))]
+fn with_log(profile: Profile) -> Profile
+    requires { IsListed profile }
+    ensures value { result ≡ with_log profile }
+    ensures listed { IsListed result }
+{
+    Profile {
+        reads_log: true,
+        ..profile
+    }
+}
+
+/// The profile that a word of the command line names, without a setting.
 #[tactic(auto, unfolding(crate::specs::Profile::IsListed, crate::specs::Profile::profile_named))]
 pub fn profile_of(word: &str) -> Option<Profile>
     ensures value { result ≡ profile_named word.now }

@@ -1,10 +1,13 @@
 -- A header that is written is read back.
-use Rattle.std.proofs.Common.{◌≡◌, ◌≤◌, ◌<◌, ◌^◌, ℕ, List, Ok, arith, ◌∙◌, ap, refl}
+use Rattle.std.proofs.Common.{◌≡◌, ◌≤◌, ◌<◌, ◌^◌, ℕ, Bool, true, false, List, [], ◌∷◌, Ok, arith, ◌∙◌, ap, refl}
+use Rattle.std.proofs.lemmas.Bool.{and_parts}
 use Rattle.std.proofs.lemmas.Bool.Decides.{nat_tests}
 use Rattle.std.specs.Int.{w16, w32, to_be_bytes}
+use Rattle.std.specs.Prelude.{◌&&◌, not}
 use Rattle.std.proofs.lemmas.Nat.{from_be_bytes-to_be_bytes_2, from_be_bytes-to_be_bytes_4}
 use Rattle.db_format.specs.Bytes.{u8_at, u16_at, u32_at}
-use Rattle.db_format.specs.Header.{IsPageSize, header_bytes, header_fields, header_read, page_size_of, stored_page_size}
+use Rattle.db_format.specs.Header.{IsPageSize, header_bytes, header_fields, header_read, header_read_as, header_rules, header_rules_as, page_size_of, stored_page_size}
+use Rattle.db_format.specs.Rules.{Rule, unless_broken}
 use Rattle.db_format.specs.declared.header.Header.{Header}
 
 -- the number in two bytes that were written
@@ -105,3 +108,54 @@ pub header_read-header_bytes : (header : Header) → IsPageSize header.page_size
     → header_read (header_bytes header) header.page_size header.reserve ≡ Ok header
 header_read-header_bytes header sized fits format encoding =
     header_read-held (header_bytes header) header (header_bytes-hold header sized fits) format encoding
+
+-- ---- where marks pass
+
+-- each rule of the second list is broken only where the one in its place is
+abbrev IsMilder : {E : Type 0} → List (Rule E) → List (Rule E) → Type 0
+IsMilder [] new = new ≡ []
+IsMilder ((a, e) ∷ old) [] = ⊥
+IsMilder ((a, e) ∷ old) ((b, f) ∷ new) = (b ≡ true → a ≡ true) × IsMilder old new
+
+milder_read : {E V : Type 0} (old new : List (Rule E)) (value : V) (v : V) → IsMilder old new
+    → unless_broken old value ≡ Ok v → unless_broken new value ≡ Ok v
+milder_read [] new value v none is = rw none is
+milder_read ((a, e) ∷ old) [] value v milder is = absurd milder
+milder_read ((true, e) ∷ old) ((b, f) ∷ new) value v milder is = cc is
+milder_read ((false, e) ∷ old) ((true, f) ∷ new) value v milder is = cc (milder.0 refl)
+milder_read ((false, e) ∷ old) ((false, f) ∷ new) value v milder is = milder_read old new value v milder.1 is
+
+broken_too : (a : Bool) → a ≡ true → a ≡ true
+broken_too a broken = broken
+
+never : (a : Bool) → false ≡ true → a ≡ true
+never a none = cc none
+
+-- a version that is refused where marks pass is refused where they don't
+version_too : (two other : Bool) → (not two && other) ≡ true → other ≡ true
+version_too two other both = (and_parts (not two) other both).1
+
+-- a header that is read where marks do not pass is the one that is read where they do
+pub header_read-passes : (plain : List ℕ) (size reserve : ℕ) (h : Header) → header_read plain size reserve ≡ Ok h → header_read_as true plain size reserve ≡ Ok h
+header_read-passes plain size reserve h is =
+    milder_read (header_rules plain size reserve) (header_rules_as true plain size reserve) (header_fields plain) h (
+      broken_too _,
+      (
+        never _,
+        (
+          version_too _ _,
+          (
+            never _,
+            (
+              version_too _ _,
+              (broken_too _, (broken_too _, (broken_too _, (broken_too _, (broken_too _, (never _, (broken_too _, refl))))))),
+            ),
+          ),
+        ),
+      ),
+    ) is
+
+-- and so it is, whether marks pass or not
+pub header_read-as : (passes : Bool) (plain : List ℕ) (size reserve : ℕ) (h : Header) → header_read plain size reserve ≡ Ok h → header_read_as passes plain size reserve ≡ Ok h
+header_read-as true plain size reserve h is = header_read-passes plain size reserve h is
+header_read-as false plain size reserve h is = is

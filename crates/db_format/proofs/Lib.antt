@@ -1,5 +1,5 @@
 pub mod Escapes
-mod HeaderLemmas
+pub mod HeaderLemmas
 pub mod RecordLemmas
 pub mod RelationLemmas
 pub mod RowLemmas

@@ -3,8 +3,8 @@
 -- | offset | length | field                                 | rule in reading                         |
 -- | 0      | 16     | magic: "SQLite format 3" and a zero   |                                         |
 -- | 16     | 2      | page size, 1 means 65,536             | HeaderFault unless the file's           |
--- | 18     | 1      | write version                         | 2 is WalMode, other than 1 HeaderFault  |
--- | 19     | 1      | read version                          | 2 is WalMode, other than 1 HeaderFault  |
+-- | 18     | 1      | write version                         | 2 is WalMode *, other than 1 HeaderFault |
+-- | 19     | 1      | read version                          | 2 is WalMode *, other than 1 HeaderFault |
 -- | 20     | 1      | reserve                               | HeaderFault unless the file's           |
 -- | 21     | 1      | greatest payload fraction             | HeaderFault unless 64                   |
 -- | 22     | 1      | least payload fraction                | HeaderFault unless 32                   |
@@ -16,7 +16,7 @@
 -- | 40     | 4      | schema cookie                         |                                         |
 -- | 44     | 4      | schema format                         | HeaderFault above 4                     |
 -- | 48     | 4      | cache size                            |                                         |
--- | 52     | 4      | largest root page, 0 for none         | AutoVacuum unless 0                     |
+-- | 52     | 4      | largest root page, 0 for none         | AutoVacuum * unless 0                   |
 -- | 56     | 4      | text encoding                         | HeaderFault above 3                     |
 -- | 60     | 4      | user version                          |                                         |
 -- | 64     | 4      | incremental vacuum                    |                                         |
@@ -25,9 +25,9 @@
 -- | 92     | 4      | version-valid-for                     | see Count                               |
 -- | 96     | 4      | SQLite's version number               |                                         |
 --
--- Numbers are big-endian. The rules are tried in the order of the offsets, and a HeaderFault carries the offset and the
+-- * unless marks pass. Numbers are big-endian. The rules are tried in the order of the offsets, and a HeaderFault carries the offset and the
 -- number that stands there.
-use Rattle.std.specs.Prelude.{IsTrue, ℕ, ◌≤◌, ◌^◌, ◌==◌, nat_lt, not, List, [], ◌∷◌, ◌++◌, replicate, codes, Result, if◌then◌else◌}
+use Rattle.std.specs.Prelude.{IsTrue, Bool, false, ◌&&◌, ℕ, ◌≤◌, ◌^◌, ◌==◌, nat_lt, not, List, [], ◌∷◌, ◌++◌, replicate, codes, Result, if◌then◌else◌}
 use Rattle.std.specs.List.{list_any}
 use Rattle.std.specs.Int.{w16, w32, to_be_bytes}
 use Rattle.db_format.specs.declared.header.Header.{Header}
@@ -58,22 +58,31 @@ must_be plain offset want = (not (u8_at plain offset == want), HeaderFault offse
 abbrev pub at_most : List ℕ → ℕ → ℕ → Rule HeaderRefusal
 at_most plain offset most = (nat_lt most (u32_at plain offset), HeaderFault offset (u32_at plain offset))
 
--- the rules of the table, in its order, for a file of this page size and reserve
-abbrev pub header_rules : List ℕ → ℕ → ℕ → List (Rule HeaderRefusal)
-header_rules plain page_size reserve =
+-- the rule that the byte at this offset is 1, or 2 where marks pass
+abbrev pub is_version : Bool → List ℕ → ℕ → Rule HeaderRefusal
+is_version passes plain at = (not (passes && u8_at plain at == 2) && not (u8_at plain at == 1), HeaderFault at (u8_at plain at))
+
+-- The rules of the table, in its order, for a file of this page size and reserve. Where marks pass, those of WAL mode and of auto-vacuum
+-- are no refusal.
+abbrev pub header_rules_as : Bool → List ℕ → ℕ → ℕ → List (Rule HeaderRefusal)
+header_rules_as passes plain page_size reserve =
     (not (page_size_of (u16_at plain 16) == page_size), HeaderFault 16 (u16_at plain 16))
-    ∷ (u8_at plain 18 == 2, WalMode)
-    ∷ must_be plain 18 1
-    ∷ (u8_at plain 19 == 2, WalMode)
-    ∷ must_be plain 19 1
+    ∷ (not passes && u8_at plain 18 == 2, WalMode)
+    ∷ is_version passes plain 18
+    ∷ (not passes && u8_at plain 19 == 2, WalMode)
+    ∷ is_version passes plain 19
     ∷ must_be plain 20 reserve
     ∷ must_be plain 21 64
     ∷ must_be plain 22 32
     ∷ must_be plain 23 32
     ∷ at_most plain 44 4
-    ∷ (not (u32_at plain 52 == 0), AutoVacuum)
+    ∷ (not passes && not (u32_at plain 52 == 0), AutoVacuum)
     ∷ at_most plain 56 3
     ∷ []
+
+-- the rules of a file that is no such one: all of them
+abbrev pub header_rules : List ℕ → ℕ → ℕ → List (Rule HeaderRefusal)
+header_rules plain page_size reserve = header_rules_as false plain page_size reserve
 
 -- the fields of the table
 abbrev pub header_fields : List ℕ → Header
@@ -94,7 +103,11 @@ header_fields plain = record {
   sqlite_number = u32_at plain 96;
 }
 
--- what page 1 of a file of this page size and reserve is read as
+-- what page 1 of a file of this page size and reserve is read as, where marks pass or not
+abbrev pub header_read_as : Bool → List ℕ → ℕ → ℕ → Result Header HeaderRefusal
+header_read_as passes plain page_size reserve = unless_broken (header_rules_as passes plain page_size reserve) (header_fields plain)
+
+-- and where they do not
 abbrev pub header_read : List ℕ → ℕ → ℕ → Result Header HeaderRefusal
 header_read plain page_size reserve =
     unless_broken (header_rules plain page_size reserve) (header_fields plain)

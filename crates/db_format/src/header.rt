@@ -1,9 +1,9 @@
 // The database header, section 1.3.
-ghost use Rattle.std.specs.Prelude.{◌≡◌, ◌≤◌, ◌<◌, ◌+◌, ◌^◌, ◌==◌, [], ◌∷◌, length, Ok, IfOk};
+ghost use Rattle.std.specs.Prelude.{◌≡◌, ◌≤◌, ◌<◌, ◌+◌, ◌^◌, ◌==◌, ◌&&◌, not, [], ◌∷◌, length, Ok, IfOk};
 ghost use Rattle.std.specs.Int.{w16, w32, to_be_bytes};
 ghost use Rattle.std.specs.List.{splice};
 ghost use Rattle.db_format.specs.Bytes.{u8_at, u32_at};
-ghost use Rattle.db_format.specs.Header.{IsPageSize, header_bytes, header_fields, header_read, page_size_of, stored_page_size, must_be, at_most};
+ghost use Rattle.db_format.specs.Header.{IsPageSize, header_bytes, header_fields, header_read, header_read_as, is_version, page_size_of, stored_page_size, must_be, at_most};
 ghost use Rattle.db_format.specs.Rules.{unless_broken};
 
 use number_fields::{u16_at, u16_bytes, u32_at, u32_bytes};
@@ -70,10 +70,16 @@ pub const VALID_FOR_AT: usize = 92;
 /// What a header begins with (section 1.3.1).
 const MAGIC: &[u8; 16] = b"SQLite format 3\0";
 
-/// The header at the start of a decrypted page 1. The file's page size and reserve are in bytes.
-pub fn read_header(plain: &[u8], page_size: u32, reserve: u32) -> Result<Header, HeaderRefusal>
+/// The header at the start of a decrypted page 1. The file's page size and reserve are in bytes. Where marks pass, those of WAL mode
+/// and of auto-vacuum are no refusal: the file is one that only is read.
+pub fn read_header(
+    plain: &[u8],
+    page_size: u32,
+    reserve: u32,
+    passes: bool,
+) -> Result<Header, HeaderRefusal>
     requires { 100 ≤ length plain.now }
-    ensures read { result ≡ header_read plain.now page_size reserve }
+    ensures read { result ≡ header_read_as passes plain.now page_size reserve }
     ensures fields { IfOk result (λ header. header ≡ header_fields plain.now) }
     ensures layout { IfOk result (λ header. (header.page_size ≡ page_size) × (header.reserve ≡ reserve)) }
     ensures limits { IfOk result (λ header. (header.format ≤ 4) × (header.encoding ≤ 3)) }
@@ -85,14 +91,14 @@ pub fn read_header(plain: &[u8], page_size: u32, reserve: u32) -> Result<Header,
             found: stored as u32,
         });
     }
-    check_version(plain, 18)?;
-    check_version(plain, 19)?;
+    check_version(plain, 18, passes)?;
+    check_version(plain, 19, passes)?;
     check_byte(plain, 20, reserve)?;
     check_byte(plain, 21, 64)?;
     check_byte(plain, 22, 32)?;
     check_byte(plain, 23, 32)?;
     check_at_most(plain, 44, 4)?;
-    if u32_at(plain, 52) != 0 {
+    if !passes && u32_at(plain, 52) != 0 {
         return Err(HeaderRefusal::AutoVacuum);
     }
     check_at_most(plain, 56, 3)?;
@@ -115,15 +121,18 @@ fn stored_page_size(size: u32) -> u16
 }
 
 // The write and the read version.
-fn check_version(plain: &[u8], at: usize) -> Result<(), HeaderRefusal>
+fn check_version(plain: &[u8], at: usize, passes: bool) -> Result<(), HeaderRefusal>
     requires place { at < 100 }
     requires long { 100 ≤ length plain.now }
-    ensures { result ≡ unless_broken ((u8_at plain.now at == 2, HeaderRefusal.WalMode) ∷ must_be plain.now at 1 ∷ []) tt }
+    ensures { result ≡ unless_broken ((not passes && u8_at plain.now at == 2, HeaderRefusal.WalMode) ∷ is_version passes plain.now at ∷ []) tt }
 {
-    if plain[at] == 2 {
-        return Err(HeaderRefusal::WalMode);
+    if plain[at] != 2 {
+        return check_byte(plain, at, 1);
     }
-    check_byte(plain, at, 1)
+    if passes {
+        return Ok(());
+    }
+    Err(HeaderRefusal::WalMode)
 }
 
 // A byte that is to have this value.

@@ -12,7 +12,7 @@ pub record IsLimited (profile : Profile) : Type 0 where
 
 pub listed_limited : (profile : Profile) → IsListed profile → IsLimited profile
 listed_limited =
-    IsListed-each IsLimited
+    IsListed-each IsLimited (λ profile is. record { least = is.least; most = is.most })
     (record { least = omega arith; most = omega arith })
     (record { least = omega arith; most = omega arith })
     (record { least = omega arith; most = omega arith })

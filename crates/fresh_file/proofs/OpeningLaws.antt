@@ -13,6 +13,7 @@ use Rattle.db_format.specs.Count.{count_of_pages, largest_database, size_counts}
 use Rattle.db_format.specs.Header.{header_bytes, header_read, stored_page_size}
 use Rattle.db_format.specs.Pages.{Pages}
 use Rattle.db_format.specs.declared.header.Header.{Header}
+use Rattle.db_format.proofs.HeaderLemmas.{header_read-as}
 use Rattle.page_codec.specs.Page.{FileKeys, accepts, bears_sign, fits, magic, opened}
 use Rattle.page_codec.proofs.Parts.{opened_plain_file}
 use Rattle.pager.specs.File.{first_page, page_stored, whole_pages}
@@ -85,7 +86,9 @@ signed header rest size reserve = sign_in_front header rest ∙ ap (λ (n : ℕ)
 
 key_fits : (header : Header) (rest : List ℕ) (accepted : Bool) (profile : Profile) → IsListed profile → accepted ≡ true → Fits header rest accepted profile
 key_fits header rest accepted profile listed yes =
-    IsListed-each (Fits header rest accepted) (λ ciphered for. signed header rest for.page_size for.reserve)
+    IsListed-each (Fits header rest accepted)
+    (λ profile fits ciphered for. fits ciphered (record { page_size = for.page_size; reserve = for.reserve; counts = for.counts }))
+    (λ ciphered for. signed header rest for.page_size for.reserve)
     (λ ciphered for. yes) (λ ciphered for. yes) (λ ciphered for. yes) (λ ciphered for. yes) (λ ciphered for. yes)
     (λ ciphered for. yes) (λ ciphered for. yes) (λ ciphered for. yes) (λ ciphered for. yes)
     (λ ciphered. cc) (λ ciphered. cc) (λ ciphered. cc) (λ ciphered. cc) (λ ciphered. cc) (λ ciphered. cc) (λ ciphered. cc) (λ ciphered. cc)
@@ -148,11 +151,12 @@ module _ (keys : FileKeys) (header : Header) (start : ℕ) (pages : Pages) (draw
 
     is_read : file_header keys file ≡ Ok new_header
     is_read =
+        header_read-as keys.profile.reads_log plain_1 keys.profile.page_size keys.profile.reserve new_header (
         ap (λ (l : List ℕ). header_read l keys.profile.page_size keys.profile.reserve) first
         ∙ read_in_front new_header rest keys.profile.page_size keys.profile.reserve
         ∙ ap (λ (n : ℕ). header_read head n keys.profile.reserve) (sym for.page_size)
         ∙ ap (λ (n : ℕ). header_read head header.page_size n) (sym for.reserve)
-        ∙ read
+        ∙ read)
 
     bytes_few : count * keys.profile.page_size ≤ 2 ^ 30
     bytes_few = omega (arith, mul-le-mul_right keys.profile.page_size most, div-mul-le_self (2 ^ 30) keys.profile.page_size)

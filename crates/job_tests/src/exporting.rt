@@ -148,7 +148,7 @@ where
     let Ok(()) = source.load(1) else {
         return Err(ExportError::OutputFault);
     };
-    let Ok(header) = read_header(source.loaded(), 512, 0) else {
+    let Ok(header) = read_header(source.loaded(), 512, 0, false) else {
         return Err(ExportError::OutputFault);
     };
     export(alloc, source, &header, out)

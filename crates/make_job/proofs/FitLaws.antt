@@ -15,7 +15,7 @@ record IsRoomy (profile : Profile) : Type 0 where
 
 roomy : (profile : Profile) → IsListed profile → IsRoomy profile
 roomy =
-    IsListed-each IsRoomy
+    IsListed-each IsRoomy (λ profile is. record { page = is.page; pages = is.pages; limit = is.limit })
     (record { page = omega arith; pages = omega arith; limit = omega arith })
     (record { page = omega arith; pages = omega arith; limit = omega arith })
     (record { page = omega arith; pages = omega arith; limit = omega arith })

@@ -31,7 +31,7 @@ page_is size page main long whole read = read (omega (arith, long, whole)) ∙ a
 -- the pages of each profile have a size of the format
 pub listed_page_size : (profile : Profile) → IsListed profile → IsPageSize profile.page_size
 listed_page_size =
-    IsListed-each (λ (p : Profile). IsPageSize p.page_size)
+    IsListed-each (λ (p : Profile). IsPageSize p.page_size) (λ profile is. is)
     (record { power = refl; least = omega arith; most = omega arith })
     (record { power = refl; least = omega arith; most = omega arith })
     (record { power = refl; least = omega arith; most = omega arith })

@@ -1,9 +1,9 @@
 -- The header of page 1 is its first 100 bytes.
-use Rattle.std.proofs.Common.{◌≡◌, ℕ, ◌+◌, ◌<◌, ◌≤◌, List, take, refl, sym, ap, ◌∙◌, arith}
+use Rattle.std.proofs.Common.{◌≡◌, ℕ, Bool, ◌+◌, ◌<◌, ◌≤◌, List, take, refl, sym, ap, ◌∙◌, arith}
 use Rattle.std.specs.Prelude.{slice_index}
 use Rattle.std.proofs.lemmas.List.{get_or-take}
 use Rattle.db_format.specs.Bytes.{u32_at}
-use Rattle.db_format.specs.Header.{header_read}
+use Rattle.db_format.specs.Header.{header_read_as}
 
 module _ (a b : List ℕ) (same : take 100 a ≡ take 100 b) where
   byte_same : (k : ℕ) → k < 100 → slice_index a k ≡ slice_index b k
@@ -19,8 +19,8 @@ module _ (a b : List ℕ) (same : take 100 a ≡ take 100 b) where
   )
 
   -- pages that begin alike have one header
-  pub header_same : (size reserve : ℕ) → header_read a size reserve ≡ header_read b size reserve
-  header_same size reserve = rw (
+  pub header_same : (passes : Bool) (size reserve : ℕ) → header_read_as passes a size reserve ≡ header_read_as passes b size reserve
+  header_same passes size reserve = rw (
     byte_same 16 (omega arith),
     byte_same 17 (omega arith),
     byte_same 18 (omega arith),

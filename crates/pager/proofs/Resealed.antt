@@ -5,7 +5,7 @@ use Rattle.std.specs.Prelude.{nat_lt}
 use Rattle.std.proofs.lemmas.List.{take-take}
 use Rattle.cipher_profile.specs.Profile.{IsListed, is_plain}
 use Rattle.cipher_profile.specs.declared.profile.Profile.{Profile}
-use Rattle.db_format.specs.Header.{header_read}
+use Rattle.db_format.specs.Header.{header_read_as}
 use Rattle.db_format.specs.declared.header.Header.{Header}
 use Rattle.db_format.specs.declared.header.HeaderRefusal.{HeaderRefusal}
 use Rattle.page_codec.specs.Page.{FileKeys, opened, salt_of}
@@ -20,7 +20,7 @@ use Rattle.pager.specs.UnderWay.{HasNewPages}
 use Rattle.pager.proofs.BatchLemmas.{number_is}
 use Rattle.pager.proofs.Cutting.{last_whole, one_page, page_whole}
 use Rattle.pager.proofs.Headers.{header_same}
-use Rattle.pager.proofs.TxnLemmas.{ciphered_alike, layout_same}
+use Rattle.pager.proofs.TxnLemmas.{ciphered_alike, layout_same, setting_same}
 use Rattle.atomic_commit.specs.Database.{stored_page}
 use Rattle.atomic_commit.specs.Draws.{drawn_at}
 
@@ -97,12 +97,16 @@ module _ (keys write : FileKeys) (count : ℕ) (old : List ℕ) (touched : ℕ �
   pub counts_same : (len : ℕ) → count_by write (page_stored write main 1) len ≡ count_by keys (page_stored keys old 1) len
   counts_same len = by_touch (touched 1) refl
     where
+      new_first : List ℕ
+      new_first = opened write 1 (page_stored write main 1)
+
       by_touch : (b : Bool) → touched 1 ≡ b → count_by write (page_stored write main 1) len ≡ count_by keys (page_stored keys old 1) len
       by_touch true anew =
-          ap (λ (s : ℕ). if nat_lt len s then None else counted len (header_read (opened write 1 (page_stored write main 1)) s write.profile.reserve)) size_is.0
-          ∙ ap (λ (r : ℕ). if nat_lt len keys.profile.page_size then None else counted len (header_read (opened write 1 (page_stored write main 1)) keys.profile.page_size r)) size_is.1
+          ap (λ (s : ℕ). if nat_lt len s then None else counted len (header_read_as write.profile.reads_log new_first s write.profile.reserve)) size_is.0
+          ∙ ap (λ (r : ℕ). if nat_lt len keys.profile.page_size then None else counted len (header_read_as write.profile.reads_log new_first keys.profile.page_size r)) size_is.1
+          ∙ ap (λ (b : Bool). if nat_lt len keys.profile.page_size then None else counted len (header_read_as b new_first keys.profile.page_size keys.profile.reserve)) (setting_same keys write layout)
           ∙ ap (λ (h : Result Header HeaderRefusal). if nat_lt len keys.profile.page_size then None else counted len h)
-          (header_same (opened write 1 (page_stored write main 1)) (opened keys 1 (page_stored keys old 1)) (ap (take 100) (has.opens 1 first anew) ∙ kept anew) keys.profile.page_size keys.profile.reserve)
+          (header_same new_first (opened keys 1 (page_stored keys old 1)) (ap (take 100) (has.opens 1 first anew) ∙ kept anew) keys.profile.reads_log keys.profile.page_size keys.profile.reserve)
       by_touch false is =
           ap (λ (page : List ℕ). count_by write page len) (has.others 1 first is)
           ∙ ap (λ (k : FileKeys). count_by k (page_stored k old 1) len) (same is)

@@ -1,6 +1,8 @@
 -- A transaction: what it begins with, and the first bytes of page 1.
 use Rattle.std.proofs.Common.{◌≡◌, ◌≢◌, ◌==◌, ℕ, ◌+◌, ◌*◌, ◌<◌, ◌≤◌, Bool, true, false, List, [], ◌++◌, length, take, drop, Option, Some, is_some, refl, sym, ap, subst, ◌∙◌, arith, rules, ne_eqb, length-take, take-take}
-use Rattle.std.specs.Prelude.{unwrap_or, if◌then◌else◌}
+use Rattle.std.specs.Prelude.{◌&&◌, unwrap_or, if◌then◌else◌}
+use Rattle.std.specs.Bool.{beq}
+use Rattle.std.specs.Str.{bytes_eq}
 use Rattle.std.proofs.Math.Nat.{le-mul_of_pos_right}
 use Rattle.std.proofs.lemmas.List.{take-append-le}
 use Rattle.std.proofs.Math.Seq.{drop-append_seam}
@@ -19,6 +21,23 @@ use Rattle.pager.proofs.Filling.{same_number}
 pub layout_same : (read write : FileKeys) → same_layout read write ≡ true
     → (write.profile.page_size ≡ read.profile.page_size) × (write.profile.reserve ≡ read.profile.reserve)
 layout_same read write same = search (rules, same)
+
+pub setting_same : (read write : FileKeys) → same_layout read write ≡ true → write.profile.reads_log ≡ read.profile.reads_log
+setting_same read write same =
+    one read.profile.reads_log write.profile.reads_log
+    (third (read.profile.page_size == write.profile.page_size) (read.profile.reserve == write.profile.reserve) (beq read.profile.reads_log write.profile.reads_log) (bytes_eq read.salt write.salt) same)
+  where
+    one : (a b : Bool) → beq a b ≡ true → b ≡ a
+    one true true is = refl
+    one true false is = is
+    one false true is = sym is
+    one false false is = refl
+
+    third : (a b d e : Bool) → (a && b && d && e) ≡ true → d ≡ true
+    third false b d e is = cc
+    third true false d e is = cc
+    third true true false e is = cc
+    third true true true e is = refl
 
 pub listed_large : (p : Profile) → IsListed p → 512 ≤ p.page_size
 listed_large p listed = let least = (IsListed-laid_out p listed).least in omega (arith, least)

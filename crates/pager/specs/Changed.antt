@@ -1,5 +1,6 @@
 -- The pages that a transaction changed, and what its pages are.
 use Rattle.std.specs.Prelude.{ℕ, ◌≡◌, ◌≢◌, ◌≤◌, ◌<◌, ◌+◌, ◌*◌, ◌==◌, ◌&&◌, Bool, true, false, List, [], ◌∷◌, ◌++◌, length, take, drop, slice_index, IsTrue, if◌then◌else◌}
+use Rattle.std.specs.Bool.{beq}
 use Rattle.std.specs.List.{AllByRecursion}
 use Rattle.std.specs.Str.{bytes_eq}
 use Rattle.cipher_profile.specs.Profile.{usable}
@@ -76,7 +77,8 @@ pub record IsDrawn (tells : Bool) (before after : List ℕ) (count : ℕ) (draws
   pub many : length draws ≡ count
   pub told : IsTrue tells → after ≡ before ++ draws
 
--- the layout of both is the same: page size, reserve and salt
+-- the layout of both is the same: page size, reserve and salt, and whether a file is read with its log
 abbrev pub same_layout : FileKeys → FileKeys → Bool
 same_layout read write =
-    (read.profile.page_size == write.profile.page_size) && (read.profile.reserve == write.profile.reserve) && bytes_eq read.salt write.salt
+    (read.profile.page_size == write.profile.page_size) && (read.profile.reserve == write.profile.reserve)
+    && beq read.profile.reads_log write.profile.reads_log && bytes_eq read.salt write.salt

@@ -5,7 +5,7 @@ use Rattle.db_format.specs.Count.{count_of_pages}
 use Rattle.db_format.specs.declared.count.CountRefusal.{CountRefusal}
 use Rattle.db_format.specs.declared.header.Header.{Header}
 use Rattle.db_format.specs.declared.header.HeaderRefusal.{HeaderRefusal}
-use Rattle.db_format.specs.Header.{header_read}
+use Rattle.db_format.specs.Header.{header_read_as}
 use Rattle.page_codec.specs.Page.{FileKeys, opened}
 use Rattle.pager.specs.File.{page_stored}
 
@@ -21,7 +21,7 @@ counted len (Ok header) = ok_count (count_of_pages header len)
 abbrev pub count_by : FileKeys → List ℕ → ℕ → Option ℕ
 count_by keys first len =
     if nat_lt len keys.profile.page_size then None
-    else counted len (header_read (opened keys 1 first) keys.profile.page_size keys.profile.reserve)
+    else counted len (header_read_as keys.profile.reads_log (opened keys 1 first) keys.profile.page_size keys.profile.reserve)
 
 abbrev pub count_of : FileKeys → List ℕ → Option ℕ
 count_of keys file = count_by keys (page_stored keys file 1) (length file)

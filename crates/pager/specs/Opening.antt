@@ -9,7 +9,7 @@
 use Rattle.std.specs.Prelude.{ℕ, ◌≡◌, ◌==◌, ◌⊎◌, not, nat_lt, List, [], ◌∷◌, length, IsOk, Option, Some, None, Result, Ok, Err, if◌then◌else◌}
 use Rattle.edge_model.specs.Files.{Files}
 use Rattle.db_format.specs.Count.{count_of_pages}
-use Rattle.db_format.specs.Header.{header_read}
+use Rattle.db_format.specs.Header.{header_read_as}
 use Rattle.db_format.specs.Rules.{Rule}
 use Rattle.db_format.specs.declared.count.CountRefusal.{CountRefusal}
 use Rattle.db_format.specs.declared.count.CountRefusal.TheVariants as count
@@ -49,7 +49,7 @@ with_header len (Err refusal) = Err (header_error refusal)
 
 -- the header of a file under these keys
 abbrev pub file_header : FileKeys → List ℕ → Result Header HeaderRefusal
-file_header keys file = header_read (opened keys 1 (first_page keys.profile file)) keys.profile.page_size keys.profile.reserve
+file_header keys file = header_read_as keys.profile.reads_log (opened keys 1 (first_page keys.profile file)) keys.profile.page_size keys.profile.reserve
 
 -- what is looked at before the header, each with its answer
 abbrev pub length_rules : ℕ → List ℕ → List (Rule OpenError)
@@ -70,7 +70,7 @@ unless (Some error) opened = Err error
 -- what opening a file of this many bytes comes to, where this is its stored page 1
 abbrev pub first_opened : FileKeys → List ℕ → ℕ → Result Opened OpenError
 first_opened keys first len =
-    if not (fits keys first) then Err KeyRefused else with_header len (header_read (opened keys 1 first) keys.profile.page_size keys.profile.reserve)
+    if not (fits keys first) then Err KeyRefused else with_header len (header_read_as keys.profile.reads_log (opened keys 1 first) keys.profile.page_size keys.profile.reserve)
 
 -- what opening the file comes to
 abbrev pub file_opened : FileKeys → List ℕ → Result Opened OpenError

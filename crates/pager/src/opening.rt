@@ -200,7 +200,7 @@ fn open_first(codec: &Codec, page: &mut [u8], len: u64) -> Result<Counted, OpenE
     }
     let profile = codec.profile();
     let plain = &page[..profile.usable()];
-    match read_header(plain, profile.page_size, profile.reserve) {
+    match read_header(plain, profile.page_size, profile.reserve, profile.reads_log) {
         Ok(header) => count_main(header, len),
         Err(refusal) => Err(header_error(refusal)),
     }

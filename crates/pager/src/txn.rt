@@ -34,7 +34,7 @@ use std::alloc::Global;
 /// Why a transaction was not begun.
 #[derive(Clone, Copy, Debug, PartialEq, Eq)]
 pub enum BeginError {
-    /// The codec for writing has pages of another length, another reserve or another salt.
+    /// The codec for writing has pages of another length, another reserve, another salt or another setting.
     LayoutDiffers,
     /// Memory ran out.
     OutOfMemory,
@@ -80,12 +80,15 @@ pub struct Txn<'d, D: Disk, E: Entropy> {
     ghost before: { IsTrue D.tells → IsAhead read (main_of (D.reads disk.now)) window ahead.items } by { λ f g i told. IsAhead-prop read (main_of (D.reads disk.now)) window ahead.items (f told) (g told) i },
 }
 
-/// Whether both codecs have pages of one length, one reserve and one salt.
+/// Whether both codecs have pages of one length, one reserve and one salt, and the setting of both is one.
 pub fn is_same_layout(read: &Codec, write: &Codec) -> bool
     ensures { result ≡ same_layout read.now write.now }
 {
     let (old, new) = (*read.profile(), *write.profile());
-    old.page_size == new.page_size && old.reserve == new.reserve && read.salt() == write.salt()
+    old.page_size == new.page_size
+        && old.reserve == new.reserve
+        && old.reads_log == new.reads_log
+        && read.salt() == write.salt()
 }
 
 impl<'d, D: Disk, E: Entropy> Txn<'d, D, E> {

@@ -4,7 +4,7 @@ use Rattle.std.proofs.Math.Nat.{mul-div_cancel, mul-le-mul_right, mul-mod_left}
 use Rattle.std.specs.Prelude.{nat_lt}
 use Rattle.db_format.specs.Bytes.{u16_at}
 use Rattle.db_format.specs.Count.{count_of_pages, largest_database, page_count as pages_by, size_counts}
-use Rattle.db_format.specs.Header.{header_fields, header_read, header_rules, page_size_of}
+use Rattle.db_format.specs.Header.{header_fields, header_read_as, header_rules_as, page_size_of}
 use Rattle.db_format.specs.Rules.{Rule, unless_broken}
 use Rattle.db_format.specs.declared.count.CountRefusal.{CountRefusal}
 use Rattle.db_format.specs.declared.count.CountRefusal.TheVariants.{Ragged, TooLarge, Short as LengthShort}
@@ -49,10 +49,10 @@ none_broken ((true, refusal) ∷ later) v x is = cc
 none_broken ((false, refusal) ∷ later) v x is = none_broken later v x is
 
 -- the page size in it is that of the keys
-header_size : (plain : List ℕ) (size reserve : ℕ) (h : Header) → header_read plain size reserve ≡ Ok h → h.page_size ≡ size
-header_size plain size reserve h is =
-    let fields = none_broken (header_rules plain size reserve) (header_fields plain) h is in
-    let first = first_passed (not (page_size_of (u16_at plain 16) == size)) (HeaderFault 16 (u16_at plain 16)) (later_of (header_rules plain size reserve)) (header_fields plain) h is in
+header_size : (passes : Bool) (plain : List ℕ) (size reserve : ℕ) (h : Header) → header_read_as passes plain size reserve ≡ Ok h → h.page_size ≡ size
+header_size passes plain size reserve h is =
+    let fields = none_broken (header_rules_as passes plain size reserve) (header_fields plain) h is in
+    let first = first_passed (not (page_size_of (u16_at plain 16) == size)) (HeaderFault 16 (u16_at plain 16)) (later_of (header_rules_as passes plain size reserve)) (header_fields plain) h is in
     ap (λ (h : Header). h.page_size) (sym fields) ∙ same (page_size_of (u16_at plain 16)) size (not_not (page_size_of (u16_at plain 16) == size) first)
   where
     later_of : List (Rule HeaderRefusal) → List (Rule HeaderRefusal)
@@ -79,7 +79,7 @@ pub count_whole : (keys : FileKeys) (file : List ℕ) (n : ℕ) → counted_page
 count_whole keys file n is =
     let was = counted_open (file_opened keys file) n is in
     opened_whole keys file was.0 n was.1
-    (header_size (opened keys 1 (first_page keys.profile file)) keys.profile.page_size keys.profile.reserve was.0
+    (header_size keys.profile.reads_log (opened keys 1 (first_page keys.profile file)) keys.profile.page_size keys.profile.reserve was.0
     (header_of keys file (record { header = was.0; count = n }) was.1))
 
 -- and each of them
@@ -210,7 +210,7 @@ whole_counts keys file n is size some =
     let lengths = both_past (first_broken (length_rules page_size file)) _ x was.1 in
     let key = both_past (first_broken (key_rules keys file)) _ x lengths.1 in
     let read = header_of keys file x was.1 in
-    let sized : was.0.page_size ≡ page_size = header_size (opened keys 1 (first_page keys.profile file)) page_size keys.profile.reserve was.0 read in
+    let sized : was.0.page_size ≡ page_size = header_size keys.profile.reads_log (opened keys 1 (first_page keys.profile file)) page_size keys.profile.reserve was.0 read in
     let counts : count_of_pages was.0 (n * page_size) ≡ Ok n =
     ap (λ (k : ℕ). count_of_pages was.0 (n * k)) (sym sized) ∙ whole_count was.0 (length file) n (subst (λ (k : ℕ). 1 ≤ k) (sym sized) size) (with_counts (length file) (file_header keys file) x key.1) in
     let long : nat_lt (n * page_size) page_size ≡ false = more_than page_size (n * page_size) (one_page n page_size some) in

@@ -14,6 +14,7 @@
 -- A step whose need is not met is answered Misuse, and changes nothing. Only where its need is met, and no other session is in the way, may the
 -- disk or the entropy fail, or memory be wanted. The state is then as it was, but for the file of a commit that failed.
 use Rattle.std.specs.Prelude.{◌≡◌, ◌≢◌, ◌⊎◌, ◌==◌, ◌≤◌, ◌-◌, ◌&&◌, ◌||◌, not, ℕ, Bool, true, false, List, [], Option, Some, None, unwrap_or, is_some, IsSome, Result, Ok, Err, nat_le, nat_lt, if◌then◌else◌, slice_set, ⊤}
+use Rattle.std.specs.Bool.{beq}
 use Rattle.std.specs.BTreeMap.{insert_entry}
 use Rattle.std.specs.Ordering.{nat_cmp}
 use Rattle.edge_model.specs.Files.{Files, main_of}
@@ -51,9 +52,10 @@ state files layout sessions page = record { file = main_of files; layout = layou
 abbrev pub with_session : HallState → ℕ → Session → HallState
 with_session s i session = record s { sessions = slice_set s.sessions i session }
 
--- a profile with pages of the hall's layout
+-- a profile with pages of the hall's layout, and with its setting
 abbrev pub is_laid : Profile → Profile → Bool
-is_laid layout profile = (profile.page_size == layout.page_size) && (profile.reserve == layout.reserve)
+is_laid layout profile =
+    (profile.page_size == layout.page_size) && (profile.reserve == layout.reserve) && beq profile.reads_log layout.reads_log
 
 -- a session may be under this: a profile of the hall's layout, with a secret exactly where its files are encrypted
 abbrev pub may_be_under : Profile → Access → Bool

@@ -37,7 +37,7 @@ pub struct Hall<'d, D: Disk, E: Entropy> {
     pub(crate) disk: &'d mut D,
     pub(crate) entropy: &'d mut E,
     pub(crate) alloc: Global,
-    // its page size and reserve are those of every session
+    // its page size, reserve and setting are those of every session
     pub(crate) layout: Profile,
     pub(crate) sessions: Vec<Session>,
     // the page that was read last
@@ -53,6 +53,7 @@ fn may_be_under(layout: &Profile, profile: &Profile, secret: &Secret) -> bool
 {
     profile.page_size == layout.page_size
         && profile.reserve == layout.reserve
+        && profile.reads_log == layout.reads_log
         && is_key_for(profile, secret)
 }
 

@@ -36,7 +36,7 @@ fn sample_bytes() -> [u8; 100] {
 
 #[test]
 fn the_sample_is_read_and_written(rt: HostRuntime) {
-    assert_eq!(rt; read_header(&sample_bytes(), 4_096, 80), Ok(SAMPLE));
+    assert_eq!(rt; read_header(&sample_bytes(), 4_096, 80, false), Ok(SAMPLE));
     let mut out = [0xff; 100];
     write_header(&SAMPLE, &mut out);
     assert_eq!(rt; out, sample_bytes());
@@ -62,7 +62,7 @@ fn each_field_has_its_place(rt: HostRuntime) {
         sqlite_number: 0x6061_6263,
         ..SAMPLE
     };
-    assert_eq!(rt; read_header(&plain, 4_096, 80), Ok(want));
+    assert_eq!(rt; read_header(&plain, 4_096, 80, false), Ok(want));
 }
 
 #[test]
@@ -73,7 +73,7 @@ fn one_means_the_largest_page(rt: HostRuntime) {
         page_size: 65_536,
         ..SAMPLE
     };
-    assert_eq!(rt; read_header(&plain, 65_536, 80), Ok(want));
+    assert_eq!(rt; read_header(&plain, 65_536, 80, false), Ok(want));
     let mut out = [0; 100];
     write_header(&want, &mut out);
     assert_eq!(rt; out, plain);
@@ -107,11 +107,11 @@ fn the_first_broken_rule_is_named(rt: HostRuntime) {
         plain[at] = byte;
         broken[at] = byte;
         assert!(rt;
-            read_header(&plain, 4_096, 80) == Err(want),
+            read_header(&plain, 4_096, 80, false) == Err(want),
             "{byte} at {at}"
         );
         assert!(rt;
-            read_header(&broken, 4_096, 80) == Err(want),
+            read_header(&broken, 4_096, 80, false) == Err(want),
             "{byte} at {at}, before other faults"
         );
     }
