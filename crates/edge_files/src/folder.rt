@@ -23,6 +23,7 @@ use crate::role_file::RoleFile;
 use crate::standard_error::warn_of_clear_rows;
 use crate::undo::Undo;
 use edge_model::Role;
+use journal_format::{read_header, sector_ok};
 use number_fields::u16_at;
 use std::alloc::AllocError;
 use std::fs::{self, File, Metadata};
@@ -67,6 +68,12 @@ pub struct Folder<'a> {
     log: &'a str,
     /// Whether the command only looks, so that others at the file do not stand in its way.
     is_probe: bool,
+    /// Whether the file is read with its log, which has the role Journal then. Nothing is written or synced.
+    reads_log: bool,
+    /// The rollback journal beside it.
+    beside: RoleFile<'a>,
+    /// The log as it was at the first look.
+    log_mark: Option<Mark>,
     is_entered: bool,
     main: RoleFile<'a>,
     journal: RoleFile<'a>,
@@ -105,7 +112,13 @@ impl<'a> Folder<'a> {
         paths: &'a Paths,
         progress: &'a Progress<'a>,
         is_probe: bool,
+        reads_log: bool,
     ) -> Result<Folder<'a>, AllocError> {
+        let journal = if reads_log {
+            paths.log.as_str()
+        } else {
+            paths.journal.as_str()
+        };
         let main = paths.main.as_str();
         let barred = match paths.unresolved {
             Some(error) => Some(crate::failure::failed(main, "resolve", error)),
@@ -117,10 +130,13 @@ impl<'a> Folder<'a> {
             path: paths.folder.as_str(),
             log: paths.log.as_str(),
             is_probe,
+            reads_log,
+            beside: RoleFile::new(paths.journal.as_str(), barred, false, true),
+            log_mark: None,
             is_entered: false,
-            main: RoleFile::new(main, barred, true),
-            journal: RoleFile::new(paths.journal.as_str(), barred, false),
-            fresh: RoleFile::new(paths.fresh.as_str(), barred, true),
+            main: RoleFile::new(main, barred, true, reads_log),
+            journal: RoleFile::new(journal, barred, false, reads_log),
+            fresh: RoleFile::new(paths.fresh.as_str(), barred, true, false),
             table: LockTable::new(process::id(rt.process())),
             lock: HeldLock::new(rt)?,
             held: Held::Nothing,
@@ -167,10 +183,14 @@ impl<'a> Folder<'a> {
                 self.require_mark()?;
                 count
             }
-            Role::Journal => self.journal.read_at(self.rt, at, buf)?,
+            Role::Journal => {
+                let count = self.journal.read_at(self.rt, at, buf)?;
+                self.require_log()?;
+                count
+            }
             Role::Fresh => self.fresh.read_at(self.rt, at, buf)?,
         };
-        if role == Role::Journal {
+        if role == Role::Journal && !self.reads_log {
             self.is_laying = true;
             if at == 0 && count > 0 {
                 self.gate = buf.first().copied();
@@ -204,6 +224,9 @@ impl<'a> Folder<'a> {
 
     pub fn sync(&mut self, role: Role) -> Result<(), Failure<'a>> {
         self.enter()?;
+        if self.reads_log {
+            return Ok(());
+        }
         let outcome = match role {
             Role::Main => self.sync_main(),
             Role::Journal => self.journal.sync(self.rt),
@@ -245,6 +268,9 @@ impl<'a> Folder<'a> {
 
     pub fn sync_folder(&mut self) -> Result<(), Failure<'a>> {
         self.enter()?;
+        if self.reads_log {
+            return Ok(());
+        }
         let outcome = self.sync_names();
         self.changed(outcome)
     }
@@ -260,7 +286,11 @@ impl<'a> Folder<'a> {
             return Ok(());
         }
         self.main.unbarred()?;
-        self.look_for_log()?;
+        if self.reads_log {
+            self.look_for_journal()?;
+        } else {
+            self.look_for_log()?;
+        }
         if self.main.length(self.rt)?.is_some() {
             self.require_main()?;
             self.take_lock_up()?;
@@ -324,6 +354,36 @@ impl<'a> Folder<'a> {
             ),
             _ => Ok(()),
         }
+    }
+
+    // A journal that would be played back comes before the log, and what only reads plays none.
+    fn look_for_journal(&mut self) -> Result<(), Failure<'a>> {
+        if self.beside.length(self.rt)?.is_none() {
+            return Ok(());
+        }
+        let mut head = [0u8; 28];
+        let count = self.beside.read_at(self.rt, 0, &mut head)?;
+        match read_header(&head[..count]) {
+            Some(header) if sector_ok(header.sector) => {
+                Err(Failure::of(self.beside.path(), Conflict::HotJournal))
+            }
+            _ => Ok(()),
+        }
+    }
+
+    // Nobody has written to the log since the first look.
+    fn require_log(&mut self) -> Result<(), Failure<'a>> {
+        if !self.reads_log {
+            return Ok(());
+        }
+        let mark = self.journal.mark()?;
+        if self.log_mark.is_none() {
+            self.log_mark = mark;
+        }
+        if self.log_mark == mark && self.journal.is_named(self.rt)? {
+            return Ok(());
+        }
+        Err(Failure::of(self.journal.path(), Conflict::Changed))
     }
 
     // Before a change: nobody else is at the files, or was since the last write.

@@ -25,6 +25,8 @@ pub struct RoleFile<'a> {
     barred: Option<Failure<'a>>,
     /// Whether another run of this program is kept from the file.
     is_locked: bool,
+    /// Whether it is opened for reading alone, so that no write can reach it.
+    is_only_read: bool,
     file: Option<File>,
     /// Which file is open.
     identity: Option<Identity>,
@@ -41,11 +43,17 @@ pub struct RoleFile<'a> {
 }
 
 impl<'a> RoleFile<'a> {
-    pub fn new(path: &'a str, barred: Option<Failure<'a>>, is_locked: bool) -> RoleFile<'a> {
+    pub fn new(
+        path: &'a str,
+        barred: Option<Failure<'a>>,
+        is_locked: bool,
+        is_only_read: bool,
+    ) -> RoleFile<'a> {
         RoleFile {
             path,
             barred,
             is_locked,
+            is_only_read,
             file: None,
             identity: None,
             read_only: None,
@@ -376,7 +384,7 @@ impl<'a> RoleFile<'a> {
         let path = self.path;
         if self.file.is_none() {
             self.found(rt)?;
-            let (file, read_only) = called(path, "open", open(rt, path))?;
+            let (file, read_only) = called(path, "open", open(rt, path, self.is_only_read))?;
             let known = self.known;
             self.keep(file, read_only)?;
             self.known = known;
@@ -398,8 +406,12 @@ impl<'a> RoleFile<'a> {
     }
 }
 
-// For reading and writing; where that fails for reading alone, and why.
-fn open(rt: &HostRuntime, path: &str) -> io::Result<(File, Option<io::Error>)> {
+// For reading and writing; where that fails, or is not wanted, for reading alone, and why.
+fn open(rt: &HostRuntime, path: &str, is_only_read: bool) -> io::Result<(File, Option<io::Error>)> {
+    if is_only_read {
+        let why = io::ErrorKind::PermissionDenied.into();
+        return Ok((File::open(rt, path)?, Some(why)));
+    }
     match OpenOptions::new().read(true).write(true).open(rt, path) {
         Ok(file) => Ok((file, None)),
         Err(error) => Ok((File::open(rt, path)?, Some(error))),
