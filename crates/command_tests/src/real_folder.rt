@@ -30,7 +30,7 @@ fn page(alloc: Global) -> Result<Vec<u8>, Fail> {
 fn answer(rt: &HostRuntime, alloc: Global, path: &str) -> Result<(Status, Vec<u8>), Fail> {
     let paths = Paths::new(rt, path)?;
     let progress = Progress::new(rt);
-    let mut disk = FolderDisk::new(rt, &paths, &progress, false)?;
+    let mut disk = FolderDisk::new(rt, &paths, &progress, false, false)?;
     let mut input = MemSource::new(alloc, KEY, &[])?;
     let mut out = MemSink::new(alloc, &[])?;
     let mut entropy = DeviceEntropy::new(rt);
@@ -82,6 +82,10 @@ fn seen<D: Disk>(disk: &mut D, role: Role, at: u64) -> Seen {
 }
 
 /// Writes in, at and past the end, cuts, changes of names, and calls on roles without a file.
+// The header of a journal with one page of 1,024 bytes.
+const HOT: &[u8] =
+    b"\xd9\xd5\x05\xf9\x20\xa1\x63\xd7\x00\x00\x00\x01\x00\x00\x00\x00\x00\x00\x00\x01\x00\x00\x02\x00\x00\x00\x04\x00";
+
 const STEPS: [Step; 24] = [
     Write(Main, 2, b"middle"),
     Write(Main, 17, b"after a gap"),
@@ -119,7 +123,7 @@ fn answers_as_in_memory(
     fs::write(rt, path, b"twelve bytes")?;
     let paths = Paths::new(rt, path)?;
     let progress = Progress::new(rt);
-    let mut real = FolderDisk::new(rt, &paths, &progress, false)?;
+    let mut real = FolderDisk::new(rt, &paths, &progress, false, false)?;
     let inner = MemDisk::with_files(alloc, Some(b"twelve bytes"), None, None);
     let mut told = SilentDisk {
         inner: inner.map_err(|_| AllocError)?,
@@ -130,7 +134,7 @@ fn answers_as_in_memory(
         if outcome.is_err() {
             // After a change that failed nothing more is called.
             assert_eq!(test; real.length(Main), Err(Failed));
-            real = FolderDisk::new(rt, &paths, &progress, false)?;
+            real = FolderDisk::new(rt, &paths, &progress, false, false)?;
         }
         for role in [Main, Journal, Fresh] {
             for at in [0, 6, 30] {
@@ -159,10 +163,10 @@ fn makes_files_as_main(
 ) -> Result<(), Fail> {
     let paths = Paths::new(rt, link)?;
     let progress = Progress::new(rt);
-    let mut disk = FolderDisk::new(rt, &paths, &progress, false)?;
+    let mut disk = FolderDisk::new(rt, &paths, &progress, false, false)?;
     assert_eq!(test; disk.create(Journal), Ok(()));
     assert_eq!(test; disk.create(Journal), Err(Failed));
-    disk = FolderDisk::new(rt, &paths, &progress, false)?;
+    disk = FolderDisk::new(rt, &paths, &progress, false, false)?;
     assert_eq!(test; mode_of(rt, paths.journal.as_str())?, 0o640);
     assert_eq!(test; disk.create(Fresh), Ok(()));
     // A journal beside Main would be played into the new file.
@@ -181,7 +185,7 @@ fn keeps_the_link(test: &impl Abort, rt: &HostRuntime, path: &str, link: &str) -
     fs::remove_file(rt, path)?;
     let paths = Paths::new(rt, link)?;
     let progress = Progress::new(rt);
-    let mut disk = FolderDisk::new(rt, &paths, &progress, false)?;
+    let mut disk = FolderDisk::new(rt, &paths, &progress, false, false)?;
     assert_eq!(test; disk.length(Main), Err(Failed));
     assert_eq!(test; disk.create(Main), Err(Failed));
     Ok(())
@@ -208,7 +212,7 @@ fn refuses(test: &impl Abort, rt: &HostRuntime, path: &str) -> Result<(), Fail> 
     fs::write(rt, path, b"twelve bytes")?;
     let paths = Paths::new(rt, path)?;
     let progress = Progress::new(rt);
-    let mut disk = FolderDisk::new(rt, &paths, &progress, false)?;
+    let mut disk = FolderDisk::new(rt, &paths, &progress, false, false)?;
     let mut buf = [0u8; 10];
     assert_eq!(test; disk.length(Main), Ok(Some(12)));
     fs::write(rt, path, b"twelve")?;
@@ -225,13 +229,13 @@ fn reads_alone(test: &impl Abort, rt: &HostRuntime, path: &str) -> Result<(), Fa
     fs::set_permissions(rt, path, permissions)?;
     let paths = Paths::new(rt, path)?;
     let progress = Progress::new(rt);
-    let mut disk = FolderDisk::new(rt, &paths, &progress, false)?;
+    let mut disk = FolderDisk::new(rt, &paths, &progress, false, false)?;
     // A privileged process may write it all the same.
     let denied = OpenOptions::new().write(true).open(rt, path).is_err();
     assert_eq!(test; disk.write_at(Main, 0, b"x").is_err(), denied);
-    disk = FolderDisk::new(rt, &paths, &progress, false)?;
+    disk = FolderDisk::new(rt, &paths, &progress, false, false)?;
     assert_eq!(test; disk.create(Journal).is_err(), denied);
-    disk = FolderDisk::new(rt, &paths, &progress, false)?;
+    disk = FolderDisk::new(rt, &paths, &progress, false, false)?;
     let journal = if denied { None } else { Some(0) };
     assert_eq!(test; disk.length(Journal), Ok(journal));
     assert_eq!(test; disk.remove(Journal).is_err(), denied);
@@ -244,10 +248,10 @@ fn keeps_others_out(test: &impl Abort, rt: &HostRuntime, path: &str) -> Result<(
     fs::write(rt, path, b"twelve bytes")?;
     let paths = Paths::new(rt, path)?;
     let progress = Progress::new(rt);
-    let mut disk = FolderDisk::new(rt, &paths, &progress, false)?;
+    let mut disk = FolderDisk::new(rt, &paths, &progress, false, false)?;
     assert_eq!(test; disk.length(Main), Ok(Some(12)));
     assert_eq!(test;
-        conflict_at(rt, &paths, &progress, false),
+        conflict_at(rt, &paths, &progress, false, false),
         Some(Conflict::OtherRun)
     );
     fs::write(rt, paths.fresh.as_str(), b"precious")?;
@@ -264,10 +268,20 @@ fn keeps_others_out(test: &impl Abort, rt: &HostRuntime, path: &str) -> Result<(
     assert!(test; disk.last.and_then(|last| last.conflict()) == Some(Conflict::Replaced));
     fs::write(rt, paths.log.as_str(), b"l")?;
     assert_eq!(test;
-        conflict_at(rt, &paths, &progress, false),
+        conflict_at(rt, &paths, &progress, false, false),
         Some(Conflict::Log)
     );
-    assert_eq!(test; conflict_at(rt, &paths, &progress, true), None);
+    assert_eq!(test; conflict_at(rt, &paths, &progress, true, false), None);
+    // With the log it is read, but not beside a journal that would be played back first.
+    assert_eq!(test; conflict_at(rt, &paths, &progress, false, true), None);
+    fs::write(rt, paths.journal.as_str(), b"\xd9\xd5\x05\xf9")?;
+    assert_eq!(test; conflict_at(rt, &paths, &progress, false, true), None);
+    fs::write(rt, paths.journal.as_str(), HOT)?;
+    assert_eq!(test;
+        conflict_at(rt, &paths, &progress, false, true),
+        Some(Conflict::HotJournal)
+    );
+    fs::remove_file(rt, paths.journal.as_str())?;
     fs::remove_file(rt, paths.log.as_str())?;
     fs::remove_file(rt, path)?;
     Ok(())
@@ -278,8 +292,9 @@ fn conflict_at(
     paths: &Paths,
     progress: &Progress,
     is_probe: bool,
+    reads_log: bool,
 ) -> Option<Conflict> {
-    let mut disk = FolderDisk::new(rt, paths, progress, is_probe).ok()?;
+    let mut disk = FolderDisk::new(rt, paths, progress, is_probe, reads_log).ok()?;
     let _ = disk.length(Main);
     disk.last?.conflict()
 }

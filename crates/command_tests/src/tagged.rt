@@ -139,8 +139,10 @@ const SALTED: &[u8] =
 
 const USAGE: &str = "usage\n";
 
+const ONLY_READ: &str = "a file with its log is only read\n";
+
 // What is refused without a call of the disk.
-const REFUSALS: [(&[&str], &[u8], &str, u8); 22] = [
+const REFUSALS: [(&[&str], &[u8], &str, u8); 30] = [
     (&["tags", "4"], b"", "key missing\n", 2),
     (&["tags", "4"], b"\n", "key empty\n", 2),
     (&["tags", "4"], &LONG, "key too long\n", 2),
@@ -148,6 +150,14 @@ const REFUSALS: [(&[&str], &[u8], &str, u8); 22] = [
     (&["migrate", "1", "4"], KEY, "key missing\n", 2),
     (&["tags", "1"], b"", "profile has no tags\n", 2),
     (&["rekey", "3", "4"], KEY, "layout differs\n", 2),
+    (&["recover", "3:wal"], b"", ONLY_READ, 2),
+    (&["stamp", "4:wal", "user-version", "7"], b"", ONLY_READ, 2),
+    (&["rekey", "4", "4:wal"], b"", ONLY_READ, 2),
+    (&["migrate", "plain:512:wal", "4"], b"", ONLY_READ, 2),
+    (&["make", "4:8192:wal", "0"], b"", ONLY_READ, 2),
+    (&["play", "4:wal"], b"", ONLY_READ, 2),
+    (&["tags", "4:wal:wal"], KEY, USAGE, 1),
+    (&["play", "4:wal", "4"], KEY, USAGE, 1),
     (&[], KEY, USAGE, 1),
     (&["tags"], KEY, USAGE, 1),
     (&["tags", "5"], KEY, USAGE, 1),

@@ -1,5 +1,6 @@
 -- What a command that was asked for keeps, changes and draws, by cases on the command.
 use Rattle.std.proofs.Common.{◌≡◌, ◌⊎◌, ⊎_elim, inl, ◌==◌, ◌&&◌, ◌||◌, not, if◌then◌else◌, rules, ℕ, Bool, true, false, List, [], ◌∷◌, Option, Some, None, Ok, IsTrue, refl, sym, ap, subst, ◌∙◌, arith}
+use Rattle.std.specs.Bool.{beq}
 use Rattle.cipher_profile.specs.declared.keys.Secret.{Secret}
 use Rattle.cipher_profile.specs.declared.profile.Profile.{Profile}
 use Rattle.cipher_profile.specs.Profile.{is_plain}
@@ -12,8 +13,8 @@ use Rattle.sqlcipher_tool.specs.Due.{key_lines, word_refusal}
 use Rattle.sqlcipher_tool.specs.declared.change.Change.{Change}
 use Rattle.sqlcipher_tool.specs.declared.change.Change.TheVariants.{Stamp, Rekey, Migrate}
 use Rattle.sqlcipher_tool.specs.Promises.{asks_some}
-use Rattle.sqlcipher_tool.specs.Words.{alters, changes_layout, is_in_place, lacks_tags, layouts_differ, writes_beside}
-use Rattle.sqlcipher_tool.specs.declared.status.Refusal.TheVariants.{NoTags, LayoutDiffers}
+use Rattle.sqlcipher_tool.specs.Words.{alters, changes_layout, is_in_place, is_only_read, lacks_tags, layouts_differ, writes_beside}
+use Rattle.sqlcipher_tool.specs.declared.status.Refusal.TheVariants.{NoTags, LayoutDiffers, OnlyRead}
 use Rattle.sqlcipher_tool.specs.declared.command.Command.{Command}
 use Rattle.sqlcipher_tool.specs.declared.command.Command.TheVariants.{Probe, Recover, Read, Change as ChangeFile, Make}
 use Rattle.sqlcipher_tool.specs.declared.status.Refusal.{Refusal}
@@ -87,19 +88,25 @@ undrawn status draws a b d e f g causes same = record {
 
 -- a command that they don't refuse has the tags that it asks for, and pages of one layout
 pub none_refused : (command : Command) → word_refusal command ≡ None → (lacks_tags command ≡ false) × (layouts_differ command ≡ false)
-none_refused command is = both (lacks_tags command) (layouts_differ command) is
+none_refused command is = both (is_only_read command) (lacks_tags command) (layouts_differ command) is
   where
-    both : (a b : Bool) → (if a then Some NoTags else (if b then Some LayoutDiffers else None)) ≡ None → (a ≡ false) × (b ≡ false)
-    both true b is = cc
-    both false true is = cc
-    both false false is = (refl, refl)
+    both : (read a b : Bool) → (if read then Some OnlyRead else (if a then Some NoTags else (if b then Some LayoutDiffers else None))) ≡ None
+        → (a ≡ false) × (b ≡ false)
+    both true a b is = cc
+    both false true b is = cc
+    both false false true is = cc
+    both false false false is = (refl, refl)
 
-pub same_layout : (old new : Profile) → changes_layout old (Rekey new) ≡ false → (new.page_size ≡ old.page_size) × (new.reserve ≡ old.reserve)
-same_layout old new is = equal (is_plain old) old.page_size new.page_size old.reserve new.reserve is
+pub same_layout : (old new : Profile) → changes_layout old (Rekey new) ≡ false
+    → (new.page_size ≡ old.page_size) × (new.reserve ≡ old.reserve) × (new.reads_log ≡ old.reads_log)
+same_layout old new is = equal (is_plain old) old.page_size new.page_size old.reserve new.reserve old.reads_log new.reads_log is
   where
-    equal : (plain : Bool) (a b d e : ℕ) → (plain || not (a == b && d == e)) ≡ false → (b ≡ a) × (e ≡ d)
-    equal true a b d e is = cc
-    equal false a b d e is = (search (rules, is), search (rules, is))
+    equal : (plain : Bool) (a b d e : ℕ) (p q : Bool) → (plain || not (a == b && d == e && beq p q)) ≡ false → (b ≡ a) × (e ≡ d) × (q ≡ p)
+    equal true a b d e p q is = cc
+    equal false a b d e true true is = (search (rules, is), search (rules, is), refl)
+    equal false a b d e true false is = absurd (search (rules, is))
+    equal false a b d e false true is = absurd (search (rules, is))
+    equal false a b d e false false is = (search (rules, is), search (rules, is), refl)
 
 -- ---- a change of a file
 

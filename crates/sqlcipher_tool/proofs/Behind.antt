@@ -22,14 +22,14 @@ use Rattle.sqlcipher_tool.specs.Holding.{DiskRun}
 use Rattle.sqlcipher_tool.specs.Migrate.{migrate_error}
 use Rattle.sqlcipher_tool.specs.Stop.{outcome_answer}
 use Rattle.sqlcipher_tool.specs.Untouched.{IsUnwritten}
-use Rattle.sqlcipher_tool.specs.Words.{lacks_tags, layouts_differ}
+use Rattle.sqlcipher_tool.specs.Words.{is_only_read, lacks_tags, layouts_differ}
 use Rattle.sqlcipher_tool.specs.declared.command.Command.{Command}
 use Rattle.sqlcipher_tool.specs.declared.opening.ChangeError.{ChangeError}
 use Rattle.sqlcipher_tool.specs.declared.opening.ChangeError.TheVariants.{Stopped, EntropyFault as EntropyFails}
 use Rattle.sqlcipher_tool.specs.declared.opening.Stop.{Stop}
 use Rattle.sqlcipher_tool.specs.declared.opening.Stop.TheVariants.{Refused as StopRefused, KeyRefused as StopKey, DiskFault as StopDisk, OutOfMemory as StopMemory}
 use Rattle.sqlcipher_tool.specs.declared.status.Refusal.{Refusal}
-use Rattle.sqlcipher_tool.specs.declared.status.Refusal.TheVariants.{NoTags, LayoutDiffers, KeyMissing as NoLine, KeyEmpty as EmptyLine, KeyTooLong as LongLine, KeyForm as BadLine}
+use Rattle.sqlcipher_tool.specs.declared.status.Refusal.TheVariants.{NoTags, LayoutDiffers, OnlyRead as ReadAlone, KeyMissing as NoLine, KeyEmpty as EmptyLine, KeyTooLong as LongLine, KeyForm as BadLine}
 use Rattle.sqlcipher_tool.specs.declared.status.Status.{Status}
 use Rattle.sqlcipher_tool.specs.declared.status.Status.TheVariants.{Done, Refused, DiskFault, OutputFault, InputFault, OutOfMemory}
 use Rattle.sqlcipher_tool.proofs.Changed.{stop_last}
@@ -117,15 +117,17 @@ key_last drawing SourceFault last refused failed has = subst (λ (s : Status). H
 
 pub word_last : (drawing : Bool) (command : Command) (refusal : Refusal) (last : Status) → word_refusal command ≡ Some refusal
     → (last ≡ Refused refusal) ⊎ (last ≡ OutputFault) → HasOnlyRead drawing last → ⊥
-word_last drawing command refusal last is refused has = early_last drawing refusal last (early (lacks_tags command) (layouts_differ command) is) refused has
+word_last drawing command refusal last is refused has = early_last drawing refusal last (early (is_only_read command) (lacks_tags command) (layouts_differ command) is) refused has
   where
     some_is : (a b : Refusal) → given a ≡ given b → a ≡ b
     some_is a b same = cc
 
-    early : (a b : Bool) → (if a then Some NoTags else (if b then Some LayoutDiffers else None)) ≡ Some refusal → is_early_refusal refusal ≡ true
-    early true b is = subst (λ (r : Refusal). is_early_refusal r ≡ true) (some_is NoTags refusal is) refl
-    early false true is = subst (λ (r : Refusal). is_early_refusal r ≡ true) (some_is LayoutDiffers refusal is) refl
-    early false false is = cc
+    early : (read a b : Bool) → (if read then Some ReadAlone else (if a then Some NoTags else (if b then Some LayoutDiffers else None))) ≡ Some refusal
+        → is_early_refusal refusal ≡ true
+    early true a b is = subst (λ (r : Refusal). is_early_refusal r ≡ true) (some_is ReadAlone refusal is) refl
+    early false true b is = subst (λ (r : Refusal). is_early_refusal r ≡ true) (some_is NoTags refusal is) refl
+    early false false true is = subst (λ (r : Refusal). is_early_refusal r ≡ true) (some_is LayoutDiffers refusal is) refl
+    early false false false is = cc
 
 -- then nothing is said
 pub unread : (status : Status) (alters : Bool) (profile : Option Profile) (run : DiskRun) → (HasOnlyRead alters status → ⊥) → IsUnwritten run → LeavesRecovered status alters profile run

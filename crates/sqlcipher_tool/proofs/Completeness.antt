@@ -8,8 +8,9 @@ use Rattle.btree_model.specs.Content.{Content}
 use Rattle.btree_model.specs.Parts.{counts}
 use Rattle.cipher_profile.specs.declared.key_line.KeyError.{KeyError}
 use Rattle.cipher_profile.specs.declared.keys.Secret.{Secret}
+use Rattle.cipher_profile.specs.declared.keys.Secret.TheVariants.{Raw, Pass, NoKey}
 use Rattle.cipher_profile.specs.declared.profile.Profile.{Profile}
-use Rattle.cipher_profile.specs.Profile.{IsListed, is_plain, probed_profiles, sqlcipher_1, sqlcipher_2, sqlcipher_3, sqlcipher_4, sqlcipher_4_of}
+use Rattle.cipher_profile.specs.Profile.{IsListed, is_plain, probed_profiles, sqlcipher_1, sqlcipher_2, sqlcipher_3, sqlcipher_4, sqlcipher_4_of, without_log}
 use Rattle.cipher_profile.proofs.Layouts.{IsListed-each}
 use Rattle.db_format.specs.Count.{count_of_pages, largest_database}
 use Rattle.db_format.specs.declared.count.CountRefusal.{CountRefusal}
@@ -20,7 +21,7 @@ use Rattle.edge_model.specs.Causes.{Rose}
 use Rattle.edge_model.specs.Files.{Files, main_of}
 use Rattle.export_rows.specs.Report.{export_report}
 use Rattle.index_report.specs.Report.{index_text}
-use Rattle.page_codec.specs.Page.{FileKeys, accepts, fits, keys_of}
+use Rattle.page_codec.specs.Page.{FileKeys, accepts, deciphered, fits, keys_of, opened}
 use Rattle.pager.proofs.TxnLemmas.{listed_large}
 use Rattle.pager.specs.Database.{count_of, counted, ok_count}
 use Rattle.pager.specs.File.{page_stored, whole_pages}
@@ -66,7 +67,7 @@ use Rattle.sqlcipher_tool.specs.Stamp.{stamped_answer}
 use Rattle.sqlcipher_tool.specs.Tags.{file_answer, is_refused, pages_answer, refused_pages, tags_answer, tags_causes}
 use Rattle.sqlcipher_tool.specs.Text.{header_report, made_report, migrated_report, probe_report, recovery_line, rekeyed_report, stamped_report, tags_report, verify_report}
 use Rattle.sqlcipher_tool.specs.Verify.{opened_answers}
-use Rattle.sqlcipher_tool.specs.Words.{IsServed}
+use Rattle.sqlcipher_tool.specs.Words.{IsServed, plays_with_log}
 use Rattle.sqlcipher_tool.proofs.DoneAnswers.{agree_done, export_done, made_fits, migrate_done, migrate_fits, rekey_done, verify_done}
 use Rattle.sqlcipher_tool.proofs.FindAnswers.{find_done}
 use Rattle.sqlcipher_tool.proofs.Numbers.{no_more, true_le}
@@ -311,9 +312,11 @@ module _ (test : Profile → Bool) where
   found_at (first ∷ xs) (suc k) profile there is = finds_later (test first) first (find test xs) (found_at xs k profile there is)
 
   -- the profiles that may be found, by their places in the order
-  listed_found : (profile : Profile) → IsListed profile → is_plain profile ≡ false → test profile ≡ true → is_some (find test probed_profiles) ≡ true
-  listed_found =
+  listed_found : ((profile : Profile) → test profile ≡ true → test (without_log profile) ≡ true)
+      → (profile : Profile) → IsListed profile → is_plain profile ≡ false → test profile ≡ true → is_some (find test probed_profiles) ≡ true
+  listed_found set =
       IsListed-each (λ (p : Profile). is_plain p ≡ false → test p ≡ true → is_some (find test probed_profiles) ≡ true)
+      (λ profile found ciphered is. found ciphered (set profile is))
       (λ ciphered. found_at probed_profiles 9 sqlcipher_1 refl)
       (λ ciphered. found_at probed_profiles 8 sqlcipher_2 refl)
       (λ ciphered. found_at probed_profiles 7 sqlcipher_3 refl)
@@ -339,9 +342,16 @@ none_of_two true b x y one two = cc
 none_of_two false true x y one two = cc
 none_of_two false false x y one two = refl
 
+-- a key fits with the setting where it fits without
+fits_set : (secret : Secret) (file : List ℕ) (profile : Profile) → is_fitting secret file profile ≡ true → is_fitting secret file (without_log profile) ≡ true
+unfolding accepts deciphered opened
+fits_set (Raw key) file profile is = is
+fits_set (Pass passphrase) file profile is = is
+fits_set NoKey file profile is = is
+
 first_found : (secret : Secret) (file : List ℕ) (profile : Profile) → IsListed profile → is_plain profile ≡ false → is_fitting secret file profile ≡ true → is_some (first_fitting secret file) ≡ true
 unfolding first_fitting
-first_found secret file profile listed ciphered fit = listed_found (is_fitting secret file) profile listed ciphered fit
+first_found secret file profile listed ciphered fit = listed_found (is_fitting secret file) (fits_set secret file) profile listed ciphered fit
 
 probe_alone : (secret : Secret) (files : Files) → IsProbed secret files → IsDoneAlone (probe_answer secret files ∷ [])
 probe_alone secret files way = subst (λ (a : Answer). IsDoneAlone (a ∷ [])) (sym due_is) (found_alone found (first_found secret main way.profile way.listed way.ciphered way.fit))
@@ -419,7 +429,7 @@ servable_done (Make profile rows) secrets files after served = one_secret secret
 pub complete : (words : List (List ℕ)) (left : List ℕ) (files after : Files) → CanBeServed words left files → IsDoneAlone (due words left files after)
 complete words left files after can =
     let served : IsServed can.command = form_served words can.command can.is_form in
-    subst (λ (command : Option Command). IsDoneAlone (command_answers command left files after)) (sym can.is_form)
+    subst (λ (command : Option Command). IsDoneAlone (command_answers (plays_with_log words) command left files after)) (sym can.is_form)
     (subst (λ (refusal : Option Refusal). IsDoneAlone (asked_answers refusal can.command left files after)) (sym can.no_refusal)
     (subst (λ (lines : Result (List Secret) KeyError). IsDoneAlone (keyed_answers can.command lines files after)) (sym can.gave)
     (servable_done can.command can.secrets files after served can.servable)))

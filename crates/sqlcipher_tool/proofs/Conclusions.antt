@@ -3,11 +3,11 @@ use Rattle.std.proofs.Common.{◌≡◌, ◌⊎◌, ⊎_elim, inl, inr, ℕ, Lis
 use Rattle.rollback_journal.specs.declared.recovery.Recovery.{Recovery}
 use Rattle.rollback_journal.specs.declared.recovery.RecoverError.{RecoverError}
 use Rattle.text_lines.specs.Text.{PutsPart}
-use Rattle.sqlcipher_tool.specs.Answer.{Answer, Puts, refused, key_refused}
+use Rattle.sqlcipher_tool.specs.Answer.{Answer, IsAnswered, IsFault, Puts, refused, key_refused}
 use Rattle.sqlcipher_tool.specs.declared.opening.Stop.{Stop}
 use Rattle.sqlcipher_tool.specs.declared.opening.Stop.TheVariants.{Refused as StopRefused, KeyRefused as StopKey, DiskFault as StopDisk, OutOfMemory as StopMemory}
 use Rattle.sqlcipher_tool.specs.declared.status.Status.{Status}
-use Rattle.sqlcipher_tool.specs.declared.status.Status.TheVariants.{DiskFault, OutOfMemory}
+use Rattle.sqlcipher_tool.specs.declared.status.Status.TheVariants.{DiskFault, OutputFault, OutOfMemory}
 use Rattle.sqlcipher_tool.specs.Recovered.{recovery_answer, refused_answer}
 use Rattle.sqlcipher_tool.specs.Stop.{IsOutside, stop_answer, outcome_answer}
 
@@ -54,6 +54,18 @@ outcome_text outcome due status before after is text failed starved =
     ⊎_elim (λ (disk : outcome ≡ Err StopDisk). nothing_put due.text before after status (failed disk))
     (λ rest. ⊎_elim (λ (memory : outcome ≡ Err StopMemory). nothing_fed due.text before after status (starved memory))
     (λ (same : outcome_answer outcome ≡ Some due). text due same) rest) is
+
+-- and its status
+pub outcome_status : (outcome : Result (List ℕ) Stop) (due : Answer) (status : Status)
+    → (outcome ≡ Err StopDisk) ⊎ ((outcome ≡ Err StopMemory) ⊎ (outcome_answer outcome ≡ Some due))
+    → ((answer : Answer) → outcome_answer outcome ≡ Some answer → (status ≡ answer.status) ⊎ (status ≡ OutputFault))
+    → (outcome ≡ Err StopDisk → status ≡ DiskFault)
+    → (outcome ≡ Err StopMemory → status ≡ OutOfMemory)
+    → IsAnswered status due
+outcome_status outcome due status is answers failed starved =
+    ⊎_elim (λ (disk : outcome ≡ Err StopDisk). inr (subst IsFault (sym (failed disk)) tt))
+    (λ rest. ⊎_elim (λ (memory : outcome ≡ Err StopMemory). inr (subst IsFault (sym (starved memory)) tt))
+    (λ (same : outcome_answer outcome ≡ Some due). ⊎_elim (λ (is : status ≡ due.status). inl is) (λ (out : status ≡ OutputFault). inr (subst IsFault (sym out) tt)) (answers due same)) rest) is
 
 -- what a recovery that stops comes to
 pub stop_told : (stop : Stop) (r : Result Recovery RecoverError) → IsOutside stop ⊎ (stop_answer stop ≡ refused_answer r)

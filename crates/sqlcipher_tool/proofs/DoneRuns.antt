@@ -15,7 +15,7 @@ use Rattle.sqlcipher_tool.specs.Reading.{job_answers}
 use Rattle.sqlcipher_tool.specs.Promises.{AnswersOne}
 use Rattle.sqlcipher_tool.specs.Recovered.{answers_after, recovered_answers, recovered_main, recovery_answer, recovery_of}
 use Rattle.sqlcipher_tool.specs.Reported.{IsAgreed, IsExported, IsVerified, Reports}
-use Rattle.sqlcipher_tool.specs.Words.{asked_keys, form}
+use Rattle.sqlcipher_tool.specs.Words.{asked_keys, form, plays_with_log}
 use Rattle.sqlcipher_tool.specs.declared.command.Command.{Command}
 use Rattle.sqlcipher_tool.specs.declared.command.Command.TheVariants.{Read}
 use Rattle.sqlcipher_tool.specs.declared.reading.Reading.TheVariants.{OnPages}
@@ -30,7 +30,7 @@ use Rattle.sqlcipher_tool.proofs.DueReports.{done_agrees, done_exports, done_ver
 one_due : (words : List (List ℕ)) (left : List ℕ) (files after : Files) (command : Command) (secret : Secret) (rest : List Secret) → word_refusal command ≡ None → form words ≡ Some command
     → key_lines (asked_keys command) left ≡ Ok (secret ∷ rest) → due words left files after ≡ secret_answers command (secret ∷ rest) files after
 one_due words left files after command secret rest unrefused is gave =
-    ap (λ (c : Option Command). command_answers c left files after) is
+    ap (λ (c : Option Command). command_answers (plays_with_log words) c left files after) is
     ∙ ap (λ (r : Option Refusal). asked_answers r command left files after) unrefused
     ∙ ap (λ (lines : Result (List Secret) KeyError). keyed_answers command lines files after) gave
 

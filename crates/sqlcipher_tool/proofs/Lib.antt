@@ -43,6 +43,7 @@ pub mod Served
 pub mod Salvaging
 pub mod Readings
 pub mod Completeness
+pub mod Unset
 pub mod Playing
 pub mod MadeServable
 pub mod MigrateServable

@@ -36,7 +36,7 @@ fits_whole len most size other few none =
 
 no_chain : (new : Profile) → IsListed new → (len : ℕ) → len ≤ 262 → overflow_pages Table (usable new) len ≡ 0
 no_chain new listed len few =
-    IsListed-each (λ (p : Profile). overflow_pages Table (usable p) len ≡ 0)
+    IsListed-each (λ (p : Profile). overflow_pages Table (usable p) len ≡ 0) (λ profile is. is)
     (fits_whole len 973 1004 _ (omega (arith, few)) refl)
     (fits_whole len 941 972 _ (omega (arith, few)) refl)
     (fits_whole len 941 972 _ (omega (arith, few)) refl)

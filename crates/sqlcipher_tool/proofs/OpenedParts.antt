@@ -6,7 +6,7 @@ use Rattle.cipher_profile.proofs.Layouts.{IsListed-laid_out}
 use Rattle.cipher_profile.specs.Profile.{IsListed, is_plain}
 use Rattle.db_format.specs.Bytes.{u16_at}
 use Rattle.db_format.specs.Count.{count_of_pages}
-use Rattle.db_format.specs.Header.{header_fields, header_read, header_rules, page_size_of}
+use Rattle.db_format.specs.Header.{header_fields, header_read_as, header_rules_as, page_size_of}
 use Rattle.db_format.specs.Rules.{Rule, unless_broken}
 use Rattle.db_format.specs.declared.count.CountRefusal.{CountRefusal}
 use Rattle.db_format.specs.declared.header.Header.{Header}
@@ -26,7 +26,7 @@ use Rattle.sqlcipher_tool.proofs.Numbers.{no_less}
 pub record IsOpen (keys : FileKeys) (file : List ℕ) (header : Header) (n : ℕ) : Type 0 where
   pub long : keys.profile.page_size ≤ length file
   pub fit : fits keys (page_stored keys file 1) ≡ true
-  pub read : header_read (opened keys 1 (page_stored keys file 1)) keys.profile.page_size keys.profile.reserve ≡ Ok header
+  pub read : header_read_as keys.profile.reads_log (opened keys 1 (page_stored keys file 1)) keys.profile.page_size keys.profile.reserve ≡ Ok header
   pub counts : count_of_pages header (length file) ≡ Ok n
 
 pub past : (o : Option OpenError) (r : Result Opened OpenError) (x : Opened) → unless o r ≡ Ok x → (o ≡ None) × (r ≡ Ok x)
@@ -111,10 +111,10 @@ open_accepts keys file header n listed is_open = by_tag (keys.profile.tag_len ==
         accepted
 
 -- the page size in a header that is read is the file's
-pub header_size : (plain : List ℕ) (size reserve : ℕ) (h : Header) → header_read plain size reserve ≡ Ok h → (header_fields plain ≡ h) × (h.page_size ≡ size)
-header_size plain size reserve h is =
-    let fields = none_broken (header_rules plain size reserve) (header_fields plain) h (header_fields plain) is in
-    let first = first_passed (not (page_size_of (u16_at plain 16) == size)) (HeaderFault 16 (u16_at plain 16)) (later_of (header_rules plain size reserve)) (header_fields plain) h is in
+pub header_size : (passes : Bool) (plain : List ℕ) (size reserve : ℕ) (h : Header) → header_read_as passes plain size reserve ≡ Ok h → (header_fields plain ≡ h) × (h.page_size ≡ size)
+header_size passes plain size reserve h is =
+    let fields = none_broken (header_rules_as passes plain size reserve) (header_fields plain) h (header_fields plain) is in
+    let first = first_passed (not (page_size_of (u16_at plain 16) == size)) (HeaderFault 16 (u16_at plain 16)) (later_of (header_rules_as passes plain size reserve)) (header_fields plain) h is in
     (fields.0, ap (λ (h : Header). h.page_size) (sym fields.0) ∙ same (page_size_of (u16_at plain 16)) size (not_not (page_size_of (u16_at plain 16) == size) first))
   where
     later_of : List (Rule HeaderRefusal) → List (Rule HeaderRefusal)

@@ -2,8 +2,9 @@
 use Rattle.std.proofs.Common.{◌≡◌, ◌≢◌, ◌⊎◌, ⊎_elim, inl, inr, ℕ, ◌<◌, ◌≤◌, ◌+◌, Bool, true, false, List, [], ◌∷◌, ◌++◌, length, map, Option, Some, None, Result, Ok, Err, IsTrue, if◌then◌else◌, refl, sym, ap, subst, ◌∙◌, arith}
 use Rattle.std.specs.Prelude.{IsOk, IsSome, All, codes, slice_index_or}
 use Rattle.std.specs.Str.{bytes_eq}
+use Rattle.std.proofs.lemmas.Bool.{and_parts}
 use Rattle.std.proofs.lemmas.Slice.Eq.{bytes_eq-Decides}
-use Rattle.cipher_profile.specs.Profile.{is_plain, profile_named}
+use Rattle.cipher_profile.specs.Profile.{is_plain, profile_named, profile_set_named}
 use Rattle.cipher_profile.specs.declared.profile.Profile.{Profile}
 use Rattle.edge_model.specs.Causes.{Rose}
 use Rattle.atomic_commit.specs.Facts.{SameFresh}
@@ -27,7 +28,7 @@ use Rattle.sqlcipher_tool.specs.Promises.{IsUnrecovered}
 use Rattle.sqlcipher_tool.specs.Recovered.{recovery_of, refused_answer}
 use Rattle.sqlcipher_tool.specs.Servable.{IsDoneOrStarved, NoneRose}
 use Rattle.sqlcipher_tool.specs.Stop.{IsOutside, stop_answer}
-use Rattle.sqlcipher_tool.specs.Words.{form, play_form}
+use Rattle.sqlcipher_tool.specs.Words.{form, play_form, plays_with_log, reads_log_of}
 use Rattle.sqlcipher_tool.specs.declared.command.Command.{Command}
 use Rattle.sqlcipher_tool.specs.declared.opening.Stop.{Stop}
 use Rattle.sqlcipher_tool.specs.declared.opening.Stop.TheVariants.{Refused as StopRefused, KeyRefused as StopKey, DiskFault as StopDisk, OutOfMemory as StopMemory}
@@ -35,6 +36,7 @@ use Rattle.sqlcipher_tool.specs.declared.status.Refusal.{Refusal}
 use Rattle.sqlcipher_tool.specs.declared.status.Status.{Status}
 use Rattle.sqlcipher_tool.specs.declared.status.Status.TheVariants.{DiskFault, OutputFault, InputFault, EntropyFault, OutOfMemory}
 use Rattle.sqlcipher_tool.proofs.Completeness.{faulted}
+use Rattle.sqlcipher_tool.proofs.Unset.{named_unset}
 
 -- ---- the words
 
@@ -55,6 +57,29 @@ no_command (name ∷ word ∷ []) profile command is formed = named (bytes_eq na
     named true same =
         none_some command (sym other ∙ (ap (λ (n : List ℕ). form (n ∷ word ∷ [])) (sym ((bytes_eq-Decides name (codes "play")).0 same)) ∙ formed))
 no_command (name ∷ word ∷ next ∷ rest) profile command is formed = none_some profile is
+
+-- nor is a `play` that is refused a command
+pub no_refused : (words : List (List ℕ)) (command : Command) → plays_with_log words ≡ true → form words ≡ Some command → ⊥
+no_refused [] command is formed = cc is
+no_refused (name ∷ []) command is formed = cc is
+no_refused (name ∷ word ∷ []) command is formed =
+    none_some command (sym other ∙ (ap (λ (n : List ℕ). form (n ∷ word ∷ [])) (sym ((bytes_eq-Decides name (codes "play")).0 (and_parts (bytes_eq name (codes "play")) (reads_log_of (profile_set_named word)) is).0)) ∙ formed))
+  where
+    other : form (codes "play" ∷ word ∷ []) ≡ None
+    other = refl
+no_refused (name ∷ word ∷ next ∷ rest) command is formed = cc is
+
+-- and a `play` that is served is none that is refused
+pub served_unset : (words : List (List ℕ)) (profile : Profile) → play_form words ≡ Some profile → plays_with_log words ≡ true → ⊥
+served_unset [] profile is set = none_some profile is
+served_unset (name ∷ []) profile is set = none_some profile is
+served_unset (name ∷ word ∷ []) profile is set =
+    let parts = and_parts (bytes_eq name (codes "play")) (reads_log_of (profile_set_named word)) set in
+    differ (sym (named_unset word profile (sym (ap (λ (t : Bool). if t then profile_named word else None) parts.0) ∙ is)) ∙ parts.1)
+  where
+    differ : false ≡ true → ⊥
+    differ is = cc is
+served_unset (name ∷ word ∷ next ∷ rest) profile is set = none_some profile is
 
 -- nor are they no words
 pub not_none : (words : List (List ℕ)) (profile : Profile) → play_form words ≡ Some profile → play_form words ≡ None → ⊥

@@ -14,7 +14,7 @@ use Rattle.cipher_profile.specs.Profile.{IsListed, is_plain}
 use Rattle.cipher_profile.proofs.Layouts.{IsListed-laid_out, reserve_untagged, untagged_reserve}
 use Rattle.cipher_profile.specs.declared.profile.Profile.{Profile}
 use Rattle.db_format.specs.Count.{count_of_pages, size_counts}
-use Rattle.db_format.specs.Header.{header_read}
+use Rattle.db_format.specs.Header.{header_read_as}
 use Rattle.db_format.specs.Pages.{Pages, nothing}
 use Rattle.db_format.specs.declared.count.CountRefusal.{CountRefusal}
 use Rattle.db_format.specs.declared.header.Header.{Header}
@@ -59,17 +59,17 @@ counted_some h len n size long is = subst (λ (k : ℕ). 1 ≤ k) (counted_pages
 record HasHeader (keys : FileKeys) (first : List ℕ) (len n : ℕ) : Type 0 where
   long : keys.profile.page_size ≤ len
   header : Header
-  read : header_read (opened keys 1 first) keys.profile.page_size keys.profile.reserve ≡ Ok header
+  read : header_read_as keys.profile.reads_log (opened keys 1 first) keys.profile.page_size keys.profile.reserve ≡ Ok header
   counts : count_of_pages header len ≡ Ok n
 
 has_header : (keys : FileKeys) (first : List ℕ) (len n : ℕ) → count_by keys first len ≡ Some n → HasHeader keys first len n
-has_header keys first len n is = by_length (nat_lt len keys.profile.page_size) refl (header_read (opened keys 1 first) keys.profile.page_size keys.profile.reserve) refl is
+has_header keys first len n is = by_length (nat_lt len keys.profile.page_size) refl (header_read_as keys.profile.reads_log (opened keys 1 first) keys.profile.page_size keys.profile.reserve) refl is
   where
     by_count : (header : Header) (c : Result ℕ CountRefusal) → ok_count c ≡ Some n → c ≡ Ok n
     by_count header (Ok m) is = ap (λ (k : ℕ). Ok k) (some_is m n is)
     by_count header (Err refusal) is = cc
 
-    by_length : (b : Bool) → nat_lt len keys.profile.page_size ≡ b → (r : Result Header HeaderRefusal) → header_read (opened keys 1 first) keys.profile.page_size keys.profile.reserve ≡ r
+    by_length : (b : Bool) → nat_lt len keys.profile.page_size ≡ b → (r : Result Header HeaderRefusal) → header_read_as keys.profile.reads_log (opened keys 1 first) keys.profile.page_size keys.profile.reserve ≡ r
         → (if b then None else counted len r) ≡ Some n → HasHeader keys first len n
     by_length true less r read is = cc
     by_length false less (Err refusal) read is = cc
@@ -78,7 +78,7 @@ has_header keys first len n is = by_length (nat_lt len keys.profile.page_size) r
 pub count_some : (keys : FileKeys) (file : List ℕ) (n : ℕ) → 1 ≤ keys.profile.page_size → count_of keys file ≡ Some n → 1 ≤ n
 count_some keys file n size is =
     let has = has_header keys (page_stored keys file 1) (length file) n is in
-    let same = (header_size (opened keys 1 (page_stored keys file 1)) keys.profile.page_size keys.profile.reserve has.header has.read).1 in
+    let same = (header_size keys.profile.reads_log (opened keys 1 (page_stored keys file 1)) keys.profile.page_size keys.profile.reserve has.header has.read).1 in
     counted_some has.header (length file) n (subst (λ (k : ℕ). 1 ≤ k) (sym same) size) (subst (λ (k : ℕ). k ≤ length file) (sym same) has.long) has.counts
 
 -- ---- a file whose pages are clean

@@ -1,5 +1,6 @@
 -- What `rekey` answers, and a transaction that seals every page under other keys, as its disk shows it.
 use Rattle.std.proofs.Common.{◌≡◌, ◌⊎◌, ⊎_elim, inl, ◌≤◌, ◌<◌, ◌*◌, ◌+◌, ◌&&◌, ℕ, suc, zero, Bool, true, false, List, [], ◌∷◌, length, Option, Some, None, Ok, Err, refl, sym, ap, subst, ◌∙◌, arith, rules, if◌then◌else◌}
+use Rattle.std.specs.Bool.{beq}
 use Rattle.std.specs.Prelude.{◌==◌, nat_lt, unwrap_or}
 use Rattle.std.specs.List.{Contains, filter}
 use Rattle.std.specs.Str.{bytes_eq}
@@ -7,7 +8,7 @@ use Rattle.std.proofs.lemmas.Slice.Eq.{bytes_eq-Decides}
 use Rattle.std.proofs.lemmas.List.Elements.{Contains-append_left, Contains-append_right}
 use Rattle.btree_model.specs.Parts.{first_faults, first_refusals, is_database, parts}
 use Rattle.btree_model.specs.Plain.{is_leaf}
-use Rattle.db_format.specs.Header.{header_read}
+use Rattle.db_format.specs.Header.{header_read_as}
 use Rattle.db_format.specs.Pages.{Pages, Test, is_page}
 use Rattle.db_format.specs.declared.header.Header.{Header}
 use Rattle.fresh_disk.specs.Published.{IsAlone}
@@ -129,38 +130,45 @@ rekey_late RekeyEntropy = tt
 rekey_late RekeyMemory = tt
 
 -- the layouts do not differ
-pub same_laid : (read write : FileKeys) → write.profile.page_size ≡ read.profile.page_size → write.profile.reserve ≡ read.profile.reserve → write.salt ≡ read.salt
-    → same_layout read write ≡ true
-same_laid read write sizes reserves salts =
-    all_three (read.profile.page_size == write.profile.page_size) (read.profile.reserve == write.profile.reserve) (bytes_eq read.salt write.salt)
+pub same_laid : (read write : FileKeys) → write.profile.page_size ≡ read.profile.page_size → write.profile.reserve ≡ read.profile.reserve
+    → write.profile.reads_log ≡ read.profile.reads_log → write.salt ≡ read.salt → same_layout read write ≡ true
+same_laid read write sizes reserves settings salts =
+    all_four (read.profile.page_size == write.profile.page_size) (read.profile.reserve == write.profile.reserve) (beq read.profile.reads_log write.profile.reads_log) (bytes_eq read.salt write.salt)
     (equal read.profile.page_size write.profile.page_size (sym sizes)) (equal read.profile.reserve write.profile.reserve (sym reserves))
-    ((bytes_eq-Decides read.salt write.salt).1 (sym salts))
+    (same_bool read.profile.reads_log write.profile.reads_log (sym settings)) ((bytes_eq-Decides read.salt write.salt).1 (sym salts))
   where
     equal : (a b : ℕ) → a ≡ b → (a == b) ≡ true
     equal a b is = search (rules, is)
 
-    all_three : (a b d : Bool) → a ≡ true → b ≡ true → d ≡ true → (a && b && d) ≡ true
-    all_three a b d one two three = search (rules, one, two, three)
+    same_bool : (a b : Bool) → a ≡ b → beq a b ≡ true
+    same_bool true true is = refl
+    same_bool true false is = cc
+    same_bool false true is = cc
+    same_bool false false is = refl
+
+    all_four : (a b d e : Bool) → a ≡ true → b ≡ true → d ≡ true → e ≡ true → (a && b && d && e) ≡ true
+    all_four a b d e one two three four = search (rules, one, two, three, four)
 
 -- ---- the database
 
 -- keys of one layout count the pages alike where page 1 is the same
-same_count : (one two : FileKeys) (x y : List ℕ) (len : ℕ) → one.profile.page_size ≡ two.profile.page_size → one.profile.reserve ≡ two.profile.reserve → opened one 1 x ≡ opened two 1 y
-    → count_by one x len ≡ count_by two y len
-same_count one two x y len sizes reserves plain =
-    ap (λ (size : ℕ). if nat_lt len size then None else counted len (header_read (opened one 1 x) size one.profile.reserve)) sizes
-    ∙ (ap (λ (reserve : ℕ). if nat_lt len two.profile.page_size then None else counted len (header_read (opened one 1 x) two.profile.page_size reserve)) reserves
-    ∙ ap (λ (page : List ℕ). if nat_lt len two.profile.page_size then None else counted len (header_read page two.profile.page_size two.profile.reserve)) plain)
+same_count : (one two : FileKeys) (x y : List ℕ) (len : ℕ) → one.profile.page_size ≡ two.profile.page_size → one.profile.reserve ≡ two.profile.reserve
+    → one.profile.reads_log ≡ two.profile.reads_log → opened one 1 x ≡ opened two 1 y → count_by one x len ≡ count_by two y len
+same_count one two x y len sizes reserves settings plain =
+    ap (λ (size : ℕ). if nat_lt len size then None else counted len (header_read_as one.profile.reads_log (opened one 1 x) size one.profile.reserve)) sizes
+    ∙ (ap (λ (reserve : ℕ). if nat_lt len two.profile.page_size then None else counted len (header_read_as one.profile.reads_log (opened one 1 x) two.profile.page_size reserve)) reserves
+    ∙ (ap (λ (passes : Bool). if nat_lt len two.profile.page_size then None else counted len (header_read_as passes (opened one 1 x) two.profile.page_size two.profile.reserve)) settings
+    ∙ ap (λ (page : List ℕ). if nat_lt len two.profile.page_size then None else counted len (header_read_as two.profile.reads_log page two.profile.page_size two.profile.reserve)) plain))
 
 -- an image that holds the pages of a rekeyed file holds its database
 holds_rekeyed : (keys write : FileKeys) (file new : List ℕ) (n : ℕ) (image : Files) → 1 ≤ n → write.profile.page_size ≡ keys.profile.page_size → write.profile.reserve ≡ keys.profile.reserve
-    → IsRekeyed keys write n file new → HoldsPages (base_of keys file n) (stored_pages keys.profile.page_size n new) image → HoldsOnly (held_by write new) image
-holds_rekeyed keys write file new n image some sizes reserves rekeyed holds = record {
+    → write.profile.reads_log ≡ keys.profile.reads_log → IsRekeyed keys write n file new → HoldsPages (base_of keys file n) (stored_pages keys.profile.page_size n new) image → HoldsOnly (held_by write new) image
+holds_rekeyed keys write file new n image some sizes reserves settings rekeyed holds = record {
   some = (holds.some.0, subst (λ (s : ℕ). at s holds.some.0) (sym sizes) holds.some.1);
   only = λ other to.
       let db = holds.only other (subst (λ (s : ℕ). at s other) sizes to) in
       same_database write new other n some rekeyed.is
-      (same_count write keys (page_stored write new 1) (page_stored keys file 1) (length other) sizes reserves rekeyed.first
+      (same_count write keys (page_stored write new 1) (page_stored keys file 1) (length other) sizes reserves settings rekeyed.first
       ∙ count_is n (count_by keys (page_stored keys file 1) (length other)) db.counted)
       (subst (λ (s : ℕ). stored_pages s n other ≡ stored_pages s n new) (sym sizes) db.pages_are);
 }
@@ -173,7 +181,7 @@ pub main_there : (keys : FileKeys) (files : Files) (n : ℕ) → 1 ≤ keys.prof
 main_there keys files n sized is = by_file files.main (omega (arith, sized, long (nat_lt (length (main_of files)) keys.profile.page_size) refl is))
   where
     long : (b : Bool) → nat_lt (length (main_of files)) keys.profile.page_size ≡ b
-        → (if b then None else counted (length (main_of files)) (header_read (opened keys 1 (page_stored keys (main_of files) 1)) keys.profile.page_size keys.profile.reserve)) ≡ Some n
+        → (if b then None else counted (length (main_of files)) (header_read_as keys.profile.reads_log (opened keys 1 (page_stored keys (main_of files) 1)) keys.profile.page_size keys.profile.reserve)) ≡ Some n
         → keys.profile.page_size ≤ length (main_of files)
     long true less is = cc
     long false less is = no_less (length (main_of files)) keys.profile.page_size less
@@ -196,7 +204,8 @@ module _ {D : Type 0} (reads : D → Files) (images : D → Files → Type 0) (m
     (counts_now : (disk : D) (t : ℕ) (c : Files) → t ≤ moment disk → images disk c → since disk t c)
     (only_now : (disk : D) (c : Files) → since disk (moment disk) c → images disk c)
     (keys write : FileKeys) (file : List ℕ) (header : Header) (n : ℕ) (opens : file_opened keys file ≡ Ok (record { header = header; count = n })) (some : 1 ≤ n) (sized : 1 ≤ keys.profile.page_size)
-    (sizes : write.profile.page_size ≡ keys.profile.page_size) (reserves : write.profile.reserve ≡ keys.profile.reserve) (old new : D) (alone : Each (images old) (IsAlone file))
+    (sizes : write.profile.page_size ≡ keys.profile.page_size) (reserves : write.profile.reserve ≡ keys.profile.reserve)
+    (settings : write.profile.reads_log ≡ keys.profile.reads_log) (old new : D) (alone : Each (images old) (IsAlone file))
     (tells : Bool) (own : List ℕ → Type 0) where
   abbrev pub Old : Files → Type 0
   Old image = HoldsOnly (held_by keys file) image
@@ -215,7 +224,7 @@ module _ {D : Type 0} (reads : D → Files) (images : D → Files → Type 0) (m
   counts = open_count keys file header n parts_open
 
   within : n * keys.profile.page_size ≤ length file
-  within = subst (λ (k : ℕ). n * k ≤ length file) (header_size (opened keys 1 (page_stored keys file 1)) keys.profile.page_size keys.profile.reserve header parts_open.read).1
+  within = subst (λ (k : ℕ). n * k ≤ length file) (header_size keys.profile.reads_log (opened keys 1 (page_stored keys file 1)) keys.profile.page_size keys.profile.reserve header parts_open.read).1
       (counted_pages header (length file) n parts_open.counts).within
 
   -- what the transaction asks of the images
@@ -241,7 +250,7 @@ module _ {D : Type 0} (reads : D → Files) (images : D → Files → Type 0) (m
   before = started only_now old Old at_start
 
   holds : (main : List ℕ) → IsOne main → (c : Files) → HoldsPages (base_of keys file n) (stored_pages keys.profile.page_size n main) c → New main c
-  holds main one c is = holds_rekeyed keys write file main n c some sizes reserves one.0 is
+  holds main one c is = holds_rekeyed keys write file main n c some sizes reserves settings one.0 is
 
   -- it was done
   pub done_rekey : (main : List ℕ) → IsOne main → Each (images new) (IsCommitted (base_of keys file n) main)

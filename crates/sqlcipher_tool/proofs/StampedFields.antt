@@ -7,7 +7,7 @@ use Rattle.std.proofs.lemmas.List.{get_or-append_right, get_or-take, get_or-drop
 use Rattle.std.proofs.lemmas.Nat.{from_be_bytes-to_be_bytes_4}
 use Rattle.db_format.specs.Bytes.{u32_at}
 use Rattle.db_format.specs.Count.{count_of_pages, largest_database, page_count, size_counts}
-use Rattle.db_format.specs.Header.{header_fields, header_read, header_rules}
+use Rattle.db_format.specs.Header.{header_fields, header_read_as, header_rules_as}
 use Rattle.db_format.specs.Rules.{Rule, unless_broken}
 use Rattle.db_format.specs.declared.count.CountRefusal.{CountRefusal}
 use Rattle.db_format.specs.declared.count.CountRefusal.TheVariants.{Ragged, TooLarge, Short}
@@ -81,11 +81,11 @@ none_broken [] v x w is = (cc, refl)
 none_broken ((true, refusal) ∷ later) v x w is = cc
 none_broken ((false, refusal) ∷ later) v x w is = none_broken later v x w is
 
-rules_same : (a b : List ℕ) (size reserve : ℕ) → slice_index a 16 ≡ slice_index b 16 → slice_index a 17 ≡ slice_index b 17 → slice_index a 18 ≡ slice_index b 18
+rules_same : (passes : Bool) (a b : List ℕ) (size reserve : ℕ) → slice_index a 16 ≡ slice_index b 16 → slice_index a 17 ≡ slice_index b 17 → slice_index a 18 ≡ slice_index b 18
     → slice_index a 19 ≡ slice_index b 19 → slice_index a 20 ≡ slice_index b 20 → slice_index a 21 ≡ slice_index b 21 → slice_index a 22 ≡ slice_index b 22
     → slice_index a 23 ≡ slice_index b 23 → u32_at a 44 ≡ u32_at b 44 → u32_at a 52 ≡ u32_at b 52 → u32_at a 56 ≡ u32_at b 56
-    → header_rules a size reserve ≡ header_rules b size reserve
-rules_same a b size reserve b16 b17 b18 b19 b20 b21 b22 b23 f44 f52 f56 = rw (b16, b17, b18, b19, b20, b21, b22, b23, f44, f52, f56) refl
+    → header_rules_as passes a size reserve ≡ header_rules_as passes b size reserve
+rules_same passes a b size reserve b16 b17 b18 b19 b20 b21 b22 b23 f44 f52 f56 = rw (b16, b17, b18, b19, b20, b21, b22, b23, f44, f52, f56) refl
 
 -- a size field that counts
 counted_by : (h : Header) (len count : ℕ) → 1 ≤ count → h.size_field ≡ count → h.change ≡ h.valid_for → count * h.page_size ≤ largest_database
@@ -160,8 +160,8 @@ module _ (at value count change : ℕ) (plain : List ℕ) (from : 60 ≤ at) (to
   )
 
   -- the rules of the header look at none of the fields
-  pub stamped_rules : (size reserve : ℕ) → header_rules stamped size reserve ≡ header_rules plain size reserve
-  stamped_rules size reserve =
+  pub stamped_rules : (passes : Bool) (size reserve : ℕ) → header_rules_as passes stamped size reserve ≡ header_rules_as passes plain size reserve
+  stamped_rules passes size reserve =
       let b16 = stamped_byte 16 (inl (omega arith)) in
       let b17 = stamped_byte 17 (inl (omega arith)) in
       let b18 = stamped_byte 18 (inl (omega arith)) in
@@ -173,25 +173,25 @@ module _ (at value count change : ℕ) (plain : List ℕ) (from : 60 ≤ at) (to
       let f44 = field_outside 44 (omega arith, omega arith) in
       let f52 = field_outside 52 (omega arith, omega arith) in
       let f56 = field_outside 56 (omega arith, omega arith) in
-      rules_same stamped plain size reserve b16 b17 b18 b19 b20 b21 b22 b23 f44 f52 f56
+      rules_same passes stamped plain size reserve b16 b17 b18 b19 b20 b21 b22 b23 f44 f52 f56
 
   pub same_page_size : (header_fields stamped).page_size ≡ (header_fields plain).page_size
   same_page_size = rw (stamped_byte 16 (inl (omega arith)), stamped_byte 17 (inl (omega arith))) refl
 
 -- ---- the header and the count of pages
 
-module _ (at value count change size reserve : ℕ) (plain : List ℕ) (header : Header) (from : 60 ≤ at) (to : at ≤ 68) (long : 100 ≤ length plain) (few : count < 2 ^ 32) (fits : change < 2 ^ 32)
-    (was : header_read plain size reserve ≡ Ok header) where
+module _ (passes : Bool) (at value count change size reserve : ℕ) (plain : List ℕ) (header : Header) (from : 60 ≤ at) (to : at ≤ 68) (long : 100 ≤ length plain) (few : count < 2 ^ 32) (fits : change < 2 ^ 32)
+    (was : header_read_as passes plain size reserve ≡ Ok header) where
   abbrev page : List ℕ
   page = stamped at value count change plain from to long few fits
 
-  past : (header_fields plain ≡ header) × (unless_broken (header_rules plain size reserve) (header_fields page) ≡ Ok (header_fields page))
-  past = none_broken (header_rules plain size reserve) (header_fields plain) header (header_fields page) was
+  past : (header_fields plain ≡ header) × (unless_broken (header_rules_as passes plain size reserve) (header_fields page) ≡ Ok (header_fields page))
+  past = none_broken (header_rules_as passes plain size reserve) (header_fields plain) header (header_fields page) was
 
   -- the stamped page is read
-  pub stamped_read : header_read page size reserve ≡ Ok (header_fields page)
+  pub stamped_read : header_read_as passes page size reserve ≡ Ok (header_fields page)
   stamped_read =
-      ap (λ (rules : List (Rule HeaderRefusal)). unless_broken rules (header_fields page)) (stamped_rules at value count change plain from to long few fits size reserve)
+      ap (λ (rules : List (Rule HeaderRefusal)). unless_broken rules (header_fields page)) (stamped_rules at value count change plain from to long few fits passes size reserve)
       ∙ past.1
 
   page_size_is : (header_fields page).page_size ≡ header.page_size

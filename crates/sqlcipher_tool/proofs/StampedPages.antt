@@ -5,7 +5,7 @@ use Rattle.std.specs.Cmp.Derive.{both_true}
 use Rattle.cipher_profile.specs.Profile.{is_plain, usable}
 use Rattle.db_format.specs.Bytes.{u32_at}
 use Rattle.db_format.specs.Count.{count_of_pages, largest_database}
-use Rattle.db_format.specs.Header.{header_fields, header_read}
+use Rattle.db_format.specs.Header.{header_fields, header_read_as}
 use Rattle.db_format.specs.declared.header.Header.{Header}
 use Rattle.db_format.specs.declared.header.HeaderRefusal.{HeaderRefusal}
 use Rattle.page_codec.proofs.Parts.{opened_plain_file}
@@ -70,7 +70,7 @@ one_page n size len some there =
 
 -- a page 1 that is read and counts
 pub count_read : (keys : FileKeys) (first : List ℕ) (len : ℕ) → keys.profile.page_size ≤ len → (h : Header) (n : ℕ)
-    → header_read (opened keys 1 first) keys.profile.page_size keys.profile.reserve ≡ Ok h → count_of_pages h len ≡ Ok n → count_by keys first len ≡ Some n
+    → header_read_as keys.profile.reads_log (opened keys 1 first) keys.profile.page_size keys.profile.reserve ≡ Ok h → count_of_pages h len ≡ Ok n → count_by keys first len ≡ Some n
 count_read keys first len long h n read counts =
     let enough : Rattle.std.specs.Prelude.nat_lt len keys.profile.page_size ≡ false = more len keys.profile.page_size long in
     rw enough (ap (λ (r : Result Header HeaderRefusal). counted len r) read ∙ ap ok_count counts)
@@ -151,7 +151,7 @@ module _ (keys : FileKeys) (field : Field) (value n : ℕ) (file : List ℕ) (he
   fits = Rattle.std.proofs.Math.Nat.mod-lt (u32_at plain 24 + 1) (omega arith)
 
   sized : (header_fields plain ≡ header) × (header.page_size ≡ keys.profile.page_size)
-  sized = header_size plain keys.profile.page_size keys.profile.reserve header is_open.read
+  sized = header_size keys.profile.reads_log plain keys.profile.page_size keys.profile.reserve header is_open.read
 
   small : n * header.page_size ≤ largest_database
   small = (counted_pages header (length file) n is_open.counts).small
@@ -165,9 +165,9 @@ module _ (keys : FileKeys) (field : Field) (value n : ℕ) (file : List ℕ) (he
   -- the new page 1 counts as many pages in each file that has them
   pub new_count : (len : ℕ) → n * keys.profile.page_size ≤ len → count_by keys first len ≡ Some n
   new_count len there =
-      let read = ap (λ (page : List ℕ). header_read page keys.profile.page_size keys.profile.reserve) first_opened
-      ∙ stamped_read (field_at field) value n change keys.profile.page_size keys.profile.reserve plain header place.0 place.1 long few fits is_open.read in
-      let counts = stamped_count (field_at field) value n change keys.profile.page_size keys.profile.reserve plain header place.0 place.1 long few fits is_open.read
+      let read = ap (λ (page : List ℕ). header_read_as keys.profile.reads_log page keys.profile.page_size keys.profile.reserve) first_opened
+      ∙ stamped_read keys.profile.reads_log (field_at field) value n change keys.profile.page_size keys.profile.reserve plain header place.0 place.1 long few fits is_open.read in
+      let counts = stamped_count keys.profile.reads_log (field_at field) value n change keys.profile.page_size keys.profile.reserve plain header place.0 place.1 long few fits is_open.read
       len some small (subst (λ (k : ℕ). n * k ≤ len) (sym sized.1) there) in
       let enough : keys.profile.page_size ≤ len = one_page n keys.profile.page_size len some there in
       count_read keys first len enough _ n read counts

@@ -1,5 +1,6 @@
 -- A transaction that stamps page 1, as its disk shows it.
 use Rattle.std.proofs.Common.{◌≡◌, ◌≤◌, ◌*◌, ℕ, Bool, List, [], length, drop, Option, Some, None, Result, Ok, Err, IsTrue, refl, sym, ap, subst, ◌∙◌, arith, rules}
+use Rattle.std.specs.Bool.{beq}
 use Rattle.std.specs.Prelude.{OnOk, if◌then◌else◌, ◌&&◌, ◌==◌, true, false}
 use Rattle.std.specs.Str.{bytes_eq}
 use Rattle.std.proofs.lemmas.Slice.Eq.{bytes_eq-Decides}
@@ -61,7 +62,7 @@ some_file (Some file) some = refl
 pub whole_counts : (keys : FileKeys) (file : List ℕ) (header : Header) (n : ℕ) → IsOpen keys file header n → 1 ≤ keys.profile.page_size → 1 ≤ n
     → count_by keys (page_stored keys file 1) (n * keys.profile.page_size) ≡ Some n
 whole_counts keys file header n is_open size some =
-    let sized = header_size (opened keys 1 (page_stored keys file 1)) keys.profile.page_size keys.profile.reserve header is_open.read in
+    let sized = header_size keys.profile.reads_log (opened keys 1 (page_stored keys file 1)) keys.profile.page_size keys.profile.reserve header is_open.read in
     let long : keys.profile.page_size ≤ n * keys.profile.page_size = one_page n keys.profile.page_size some in
     count_read keys (page_stored keys file 1) (n * keys.profile.page_size) long header n is_open.read
     (ap (λ (k : ℕ). Rattle.db_format.specs.Count.count_of_pages header (n * k)) (sym sized.1) ∙ whole_count header (length file) n (subst (λ (k : ℕ). 1 ≤ k) (sym sized.1) size) is_open.counts)
@@ -76,7 +77,7 @@ pub starts : (tells : Bool) (keys : FileKeys) (file : List ℕ) (header : Header
     → (IsTrue tells → file_opened keys file ≡ Ok (record { header = header; count = n })) → IsBase (any_base tells keys file n)
 starts tells keys file header n size some opens = is_base tells keys file n size some (λ told.
     let is_open = open_parts keys file header n (opens told) in
-    let sized = header_size (opened keys 1 (page_stored keys file 1)) keys.profile.page_size keys.profile.reserve header is_open.read in
+    let sized = header_size keys.profile.reads_log (opened keys 1 (page_stored keys file 1)) keys.profile.page_size keys.profile.reserve header is_open.read in
     (subst (λ (k : ℕ). n * k ≤ length file) sized.1 (counted_pages header (length file) n is_open.counts).within, whole_counts keys file header n is_open size some))
 
 -- ---- what is written, and what a refused page stops
@@ -132,7 +133,7 @@ page_is keys file seen header fields n pages change field value opens first same
 
     next : change ≡ next_change (Rattle.db_format.specs.Bytes.u32_at plain 24)
     next = is ∙ ap (λ (h : Header). next_change h.change)
-        (same ∙ sym (header_size plain keys.profile.page_size keys.profile.reserve header (open_parts keys file header n opens).read).0)
+        (same ∙ sym (header_size keys.profile.reads_log plain keys.profile.page_size keys.profile.reserve header (open_parts keys file header n opens).read).0)
 
 pub differ : true ≡ false → ⊥
 differ is = cc
@@ -165,11 +166,16 @@ refused_later tells first now a b d e f h AllPinned same accepted disk entropy w
 
 -- a codec has the layout of itself
 pub layout_same : (keys : FileKeys) → same_layout keys keys ≡ true
-layout_same keys = parts (keys.profile.page_size == keys.profile.page_size) (keys.profile.reserve == keys.profile.reserve) (bytes_eq keys.salt keys.salt)
-    (search rules) (search rules) ((bytes_eq-Decides keys.salt keys.salt).1 refl)
+layout_same keys =
+    parts (keys.profile.page_size == keys.profile.page_size) (keys.profile.reserve == keys.profile.reserve) (beq keys.profile.reads_log keys.profile.reads_log) (bytes_eq keys.salt keys.salt)
+    (search rules) (search rules) (same_bool keys.profile.reads_log) ((bytes_eq-Decides keys.salt keys.salt).1 refl)
   where
-    parts : (a b d : Bool) → a ≡ true → b ≡ true → d ≡ true → (a && b && d) ≡ true
-    parts a b d one two three = search (rules, one, two, three)
+    same_bool : (a : Bool) → beq a a ≡ true
+    same_bool true = refl
+    same_bool false = refl
+
+    parts : (a b d e : Bool) → a ≡ true → b ≡ true → d ≡ true → e ≡ true → (a && b && d && e) ≡ true
+    parts a b d e one two three four = search (rules, one, two, three, four)
 
 -- ---- a file that does not open
 

@@ -3,7 +3,7 @@ use Rattle.std.proofs.Common.{◌≡◌, ◌⊎◌, ⊎_elim, ℕ, ℤ, zero, su
 use Rattle.std.specs.Prelude.{nat_lt, slice_index_or}
 use Rattle.std.specs.List.{Contains}
 use Rattle.std.proofs.lemmas.Bool.{le-leb}
-use Rattle.db_format.specs.Header.{header_fields, header_rules}
+use Rattle.db_format.specs.Header.{header_fields, header_rules_as}
 use Rattle.db_format.specs.Pages.{Pages, nothing}
 use Rattle.db_format.specs.Rules.{Rule, unless_broken}
 use Rattle.db_format.specs.declared.defect.Defect.{Defect}
@@ -83,7 +83,7 @@ opened_fields keys file header n is =
     let last = past (first_broken (key_rules keys file)) _ x inner.1 in
     let read = (with_both (length file) (file_header keys file) x last.1).0 in
     let plain = opened keys 1 (first_page keys.profile file) in
-    unbroken (header_rules plain keys.profile.page_size keys.profile.reserve) (header_fields plain) header read
+    unbroken (header_rules_as keys.profile.reads_log plain keys.profile.page_size keys.profile.reserve) (header_fields plain) header read
 
 first_is : (keys : FileKeys) (file : List ℕ) (n : ℕ) → 1 ≤ n → (opened_pages keys file n).page 1 ≡ opened keys 1 (first_page keys.profile file)
 first_is keys file n some = ap (λ b. if b then opened keys 1 (first_page keys.profile file) else []) (le-leb 1 n some)

@@ -3,7 +3,7 @@ use Rattle.std.specs.Prelude.{◌≡◌, ◌⊎◌, ◌≤◌, ℕ, Bool, true, 
 use Rattle.edge_model.specs.Causes.{Rose}
 use Rattle.text_lines.specs.Text.{PutsPart}
 use Rattle.sqlcipher_tool.specs.declared.status.Refusal.{Refusal}
-use Rattle.sqlcipher_tool.specs.declared.status.Refusal.TheVariants.{NoTags, LayoutDiffers, KeyMissing, KeyEmpty, KeyTooLong, KeyForm, FileThere, JournalThere, Empty, Short, HeaderFault, WalMode, AutoVacuum, Ragged, TooLarge, PageTag, JournalPageSize, SuperJournal, Defect, TooManyPages, NoTable, IndexesDiffer, ScriptLine, LineTooLong, TooManyLines}
+use Rattle.sqlcipher_tool.specs.declared.status.Refusal.TheVariants.{NoTags, LayoutDiffers, OnlyRead, LogVersion, LogPageSize, LogShort, LogTooLarge, KeyMissing, KeyEmpty, KeyTooLong, KeyForm, FileThere, JournalThere, Empty, Short, HeaderFault, WalMode, AutoVacuum, Ragged, TooLarge, PageTag, JournalPageSize, SuperJournal, Defect, TooManyPages, NoTable, IndexesDiffer, ScriptLine, LineTooLong, TooManyLines}
 use Rattle.sqlcipher_tool.specs.declared.status.Status.{Status}
 use Rattle.sqlcipher_tool.specs.declared.status.Status.TheVariants.{Done, Usage, Refused, KeyRefused, DiskFault, OutputFault, InputFault, EntropyFault, OutOfMemory}
 use Rattle.sqlcipher_tool.specs.Text.{refusal_line, usage_line, key_refused_line}
@@ -88,6 +88,7 @@ code_of OutOfMemory = 8
 abbrev pub is_early_refusal : Refusal → Bool
 is_early_refusal NoTags = true
 is_early_refusal LayoutDiffers = true
+is_early_refusal OnlyRead = true
 is_early_refusal KeyMissing = true
 is_early_refusal KeyEmpty = true
 is_early_refusal KeyTooLong = true
@@ -104,6 +105,10 @@ is_early_refusal (TooLarge pages) = false
 is_early_refusal (PageTag page) = false
 is_early_refusal (JournalPageSize found) = false
 is_early_refusal SuperJournal = false
+is_early_refusal (LogVersion found) = false
+is_early_refusal (LogPageSize found) = false
+is_early_refusal (LogShort pages) = false
+is_early_refusal LogTooLarge = false
 is_early_refusal (Defect defect) = false
 is_early_refusal (TooManyPages limit) = false
 is_early_refusal NoTable = false
@@ -116,6 +121,7 @@ is_early_refusal TooManyLines = false
 abbrev pub has_lines_before : Refusal → Bool
 has_lines_before NoTags = false
 has_lines_before LayoutDiffers = false
+has_lines_before OnlyRead = false
 has_lines_before KeyMissing = false
 has_lines_before KeyEmpty = false
 has_lines_before KeyTooLong = false
@@ -132,6 +138,10 @@ has_lines_before (TooLarge pages) = false
 has_lines_before (PageTag page) = true
 has_lines_before (JournalPageSize found) = false
 has_lines_before SuperJournal = false
+has_lines_before (LogVersion found) = false
+has_lines_before (LogPageSize found) = false
+has_lines_before (LogShort pages) = false
+has_lines_before LogTooLarge = false
 has_lines_before (Defect defect) = false
 has_lines_before (TooManyPages limit) = false
 has_lines_before NoTable = false

@@ -13,7 +13,7 @@ use Rattle.sqlcipher_tool.specs.declared.change.Change.TheVariants.{Stamp, Rekey
 use Rattle.sqlcipher_tool.specs.declared.command.Command.{Command}
 use Rattle.sqlcipher_tool.specs.declared.command.Command.TheVariants.{Probe, Recover, Read, Change as ChangeFile, Make}
 use Rattle.sqlcipher_tool.specs.declared.status.Refusal.{Refusal}
-use Rattle.sqlcipher_tool.specs.declared.status.Refusal.TheVariants.{NoTags, LayoutDiffers, KeyMissing as RefusedMissing, KeyEmpty as RefusedEmpty, KeyTooLong as RefusedLong, KeyForm as RefusedForm}
+use Rattle.sqlcipher_tool.specs.declared.status.Refusal.TheVariants.{OnlyRead, NoTags, LayoutDiffers, KeyMissing as RefusedMissing, KeyEmpty as RefusedEmpty, KeyTooLong as RefusedLong, KeyForm as RefusedForm}
 use Rattle.sqlcipher_tool.specs.declared.status.Status.TheVariants.{InputFault}
 use Rattle.sqlcipher_tool.specs.Reading.{reading_answers}
 use Rattle.sqlcipher_tool.specs.Make.{make_answers}
@@ -23,11 +23,13 @@ use Rattle.sqlcipher_tool.specs.Recovered.{recovered_answers, recovery_answer, r
 use Rattle.sqlcipher_tool.specs.Rekey.{rekey_answers}
 use Rattle.sqlcipher_tool.specs.Renewal.{Renewal, pages_under, renewed}
 use Rattle.sqlcipher_tool.specs.Stamp.{stamp_answer}
-use Rattle.sqlcipher_tool.specs.Words.{form, asked_keys, lacks_tags, layouts_differ}
+use Rattle.sqlcipher_tool.specs.Words.{form, asked_keys, is_only_read, lacks_tags, layouts_differ, plays_with_log}
 
 -- the refusal that the words alone decide
 abbrev pub word_refusal : Command → Option Refusal
-word_refusal command = if lacks_tags command then Some NoTags else (if layouts_differ command then Some LayoutDiffers else None)
+word_refusal command =
+    if is_only_read command then Some OnlyRead
+    else (if lacks_tags command then Some NoTags else (if layouts_differ command then Some LayoutDiffers else None))
 
 -- the next secret: that of a key line, where one is read for it, and else that of a plain file
 abbrev pub secret_line : Bool → List ℕ → Result Secret KeyError
@@ -93,10 +95,15 @@ abbrev pub asked_answers : Option Refusal → Command → List ℕ → Files →
 asked_answers (Some refusal) command left files after = refused refusal ∷ []
 asked_answers None command left files after = keyed_answers command (key_lines (asked_keys command) left) files after
 
-abbrev pub command_answers : Option Command → List ℕ → Files → Files → List Answer
-command_answers None left files after = usage ∷ []
-command_answers (Some command) left files after = asked_answers (word_refusal command) command left files after
+-- the answer to words that make no command: a `play` of a file that is only read with its log is refused
+abbrev pub wordless : Bool → Answer
+wordless true = refused OnlyRead
+wordless false = usage
+
+abbrev pub command_answers : Bool → Option Command → List ℕ → Files → Files → List Answer
+command_answers with_log None left files after = wordless with_log ∷ []
+command_answers with_log (Some command) left files after = asked_answers (word_refusal command) command left files after
 
 -- the answers to the command that the words make, or to words that make none
 abbrev pub due : List (List ℕ) → List ℕ → Files → Files → List Answer
-due words left files after = command_answers (form words) left files after
+due words left files after = command_answers (plays_with_log words) (form words) left files after

@@ -30,4 +30,5 @@ pub mod Text
 pub mod Untouched
 pub mod Verify
 pub mod Walked
+pub mod WithLog
 pub mod Words

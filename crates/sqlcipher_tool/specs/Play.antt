@@ -18,7 +18,7 @@ use Rattle.sqlcipher_tool.specs.Holding.{DiskRun}
 use Rattle.sqlcipher_tool.specs.Promises.{AreWordsThat, IsUnrecovered, takes_keys}
 use Rattle.sqlcipher_tool.specs.Recovered.{recovered_main, recovery_of, refused_answer}
 use Rattle.sqlcipher_tool.specs.Text.{refusal_line}
-use Rattle.sqlcipher_tool.specs.Words.{draws, form, play_form}
+use Rattle.sqlcipher_tool.specs.Words.{draws, form, play_form, plays_with_log}
 use Rattle.sqlcipher_tool.specs.declared.status.Refusal.{Refusal}
 use Rattle.sqlcipher_tool.specs.declared.status.Refusal.TheVariants.{ScriptLine, LineTooLong, TooManyLines}
 use Rattle.sqlcipher_tool.specs.declared.status.Status.{Status}
@@ -26,9 +26,9 @@ use Rattle.sqlcipher_tool.specs.declared.status.Status.TheVariants.{Done, Refuse
 
 -- ---- the words
 
--- the words are neither a command nor `play`
+-- the words are neither a command nor `play`, nor a `play` that is refused
 abbrev pub AreNoWords : List (List ℕ) → Type 0
-AreNoWords words = (form words ≡ None) × (play_form words ≡ None)
+AreNoWords words = (form words ≡ None) × (play_form words ≡ None) × (plays_with_log words ≡ false)
 
 -- they are `play` of a profile of which this holds
 abbrev pub ArePlayOf : (Profile → Type 0) → List (List ℕ) → Type 0

@@ -11,7 +11,7 @@ use Rattle.rollback_journal.specs.declared.recovery.Recovery.{Recovery}
 use Rattle.rollback_journal.specs.declared.recovery.Recovery.TheVariants.{Nothing, Cold, Played}
 use Rattle.text_lines.specs.Text.{line, field_line}
 use Rattle.sqlcipher_tool.specs.declared.status.Refusal.{Refusal}
-use Rattle.sqlcipher_tool.specs.declared.status.Refusal.TheVariants.{NoTags, LayoutDiffers, KeyMissing, KeyEmpty, KeyTooLong, KeyForm, FileThere, JournalThere, Empty, Short, HeaderFault, WalMode, AutoVacuum, Ragged, TooLarge, PageTag, JournalPageSize, SuperJournal, Defect as RefusedDefect, TooManyPages, NoTable, IndexesDiffer, ScriptLine, LineTooLong, TooManyLines}
+use Rattle.sqlcipher_tool.specs.declared.status.Refusal.TheVariants.{NoTags, LayoutDiffers, OnlyRead, LogVersion, LogPageSize, LogShort, LogTooLarge, KeyMissing, KeyEmpty, KeyTooLong, KeyForm, FileThere, JournalThere, Empty, Short, HeaderFault, WalMode, AutoVacuum, Ragged, TooLarge, PageTag, JournalPageSize, SuperJournal, Defect as RefusedDefect, TooManyPages, NoTable, IndexesDiffer, ScriptLine, LineTooLong, TooManyLines}
 
 -- what is said of a page
 abbrev pub of_page : ℕ → List ℕ → List ℕ
@@ -37,6 +37,7 @@ defect_text (RootFault rowid) = codes "root fault in row " ++ signed_decimal row
 abbrev pub refusal_text : Refusal → List ℕ
 refusal_text NoTags = codes "profile has no tags"
 refusal_text LayoutDiffers = codes "layout differs"
+refusal_text OnlyRead = codes "a file with its log is only read"
 refusal_text KeyMissing = codes "key missing"
 refusal_text KeyEmpty = codes "key empty"
 refusal_text KeyTooLong = codes "key too long"
@@ -52,6 +53,10 @@ refusal_text (Ragged len) = codes "file is ragged: " ++ decimal len ++ codes " b
 refusal_text (TooLarge pages) = codes "file is too large: " ++ decimal pages ++ codes " pages"
 refusal_text (PageTag page) = codes "page " ++ decimal page ++ codes ": tag refused"
 refusal_text (JournalPageSize found) = codes "journal page size " ++ decimal found
+refusal_text (LogVersion found) = codes "log version " ++ decimal found
+refusal_text (LogPageSize found) = codes "log page size " ++ decimal found
+refusal_text (LogShort pages) = codes "log is short: " ++ decimal pages ++ codes " pages"
+refusal_text LogTooLarge = codes "log is too large"
 refusal_text SuperJournal = codes "journal names a super-journal"
 refusal_text (RefusedDefect defect) = defect_text defect
 refusal_text (TooManyPages limit) = codes "too many pages: limit " ++ decimal limit

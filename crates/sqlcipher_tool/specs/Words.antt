@@ -21,11 +21,12 @@
 use Rattle.std.specs.Prelude.{ℕ, ℤ, pos, neg_ℤ, ◌^◌, ◌-◌, drop, ◌==◌, ◌&&◌, ◌||◌, not, nat_le, nat_lt, Bool, true, false, List, [], ◌∷◌, length, map, Option, Some, None, codes, if◌then◌else◌}
 use Rattle.std.specs.Borrow.{Bor}
 use Rattle.std.specs.Char.{digit_value}
+use Rattle.std.specs.Bool.{beq}
 use Rattle.std.specs.List.{list_all}
 use Rattle.std.specs.Option.{option_map, option_and_then}
 use Rattle.std.specs.Str.{bytes_eq}
 use Rattle.std.specs.Str.Parse.{digits_value, starts_with_minus}
-use Rattle.cipher_profile.specs.Profile.{IsListed, is_plain, profile_named}
+use Rattle.cipher_profile.specs.Profile.{IsListed, is_plain, profile_named, profile_set_named}
 use Rattle.cipher_profile.specs.declared.profile.Profile.{Profile}
 use Rattle.text_lines.specs.Numbers.{number_named}
 use Rattle.sqlcipher_tool.specs.declared.command.Command.{Command}
@@ -70,34 +71,34 @@ field_named word =
 abbrev pub stamp_form : List ℕ → List ℕ → List ℕ → Option Command
 stamp_form first second third =
     option_and_then (λ profile. option_and_then (λ field. option_map (λ value. ChangeFile profile (Stamp field value))
-    (number_named third)) (field_named second)) (profile_named first)
+    (number_named third)) (field_named second)) (profile_set_named first)
 
 -- a change from one profile to another, `rekey` or `migrate`, with its two words
 abbrev pub two_profiles : (Profile → Change) → List ℕ → List ℕ → Option Command
-two_profiles change first second = option_and_then (λ old. option_map (λ new. ChangeFile old (change new)) (profile_named second)) (profile_named first)
+two_profiles change first second = option_and_then (λ old. option_map (λ new. ChangeFile old (change new)) (profile_set_named second)) (profile_set_named first)
 
 -- `make` with its two words
 abbrev pub make_form : List ℕ → List ℕ → Option Command
-make_form first second = option_and_then (λ profile. option_map (λ rows. Make profile rows) (number_named second)) (profile_named first)
+make_form first second = option_and_then (λ profile. option_map (λ rows. Make profile rows) (number_named second)) (profile_set_named first)
 
 -- `find` with its four words
 abbrev pub find_form : List ℕ → List ℕ → List ℕ → List ℕ → Option Command
 find_form first second third fourth =
     option_and_then (λ profile. option_and_then (λ low. option_map (λ high. Read profile (OnPages (Find second low high)))
-    (rowid_named fourth)) (rowid_named third)) (profile_named first)
+    (rowid_named fourth)) (rowid_named third)) (profile_set_named first)
 
 -- the command that the words make, or none
 abbrev pub form : List (List ℕ) → Option Command
 form [] = None
 form (name ∷ []) = if bytes_eq name (codes "probe") then Some Probe else None
 form (name ∷ word ∷ []) =
-    if bytes_eq name (codes "tags") then option_map (λ profile. Read profile Tags) (profile_named word)
-    else (if bytes_eq name (codes "header") then option_map (λ profile. Read profile Header) (profile_named word)
-    else (if bytes_eq name (codes "verify") then option_map (λ profile. Read profile (OnPages Verify)) (profile_named word)
-    else (if bytes_eq name (codes "export") then option_map (λ profile. Read profile (OnPages Export)) (profile_named word)
-    else (if bytes_eq name (codes "agree") then option_map (λ profile. Read profile (OnPages Agree)) (profile_named word)
-    else (if bytes_eq name (codes "salvage") then option_map (λ profile. Read profile Salvage) (profile_named word)
-    else (if bytes_eq name (codes "recover") then option_map Recover (profile_named word) else None))))))
+    if bytes_eq name (codes "tags") then option_map (λ profile. Read profile Tags) (profile_set_named word)
+    else (if bytes_eq name (codes "header") then option_map (λ profile. Read profile Header) (profile_set_named word)
+    else (if bytes_eq name (codes "verify") then option_map (λ profile. Read profile (OnPages Verify)) (profile_set_named word)
+    else (if bytes_eq name (codes "export") then option_map (λ profile. Read profile (OnPages Export)) (profile_set_named word)
+    else (if bytes_eq name (codes "agree") then option_map (λ profile. Read profile (OnPages Agree)) (profile_set_named word)
+    else (if bytes_eq name (codes "salvage") then option_map (λ profile. Read profile Salvage) (profile_set_named word)
+    else (if bytes_eq name (codes "recover") then option_map Recover (profile_set_named word) else None))))))
 form (name ∷ first ∷ second ∷ []) =
     if bytes_eq name (codes "rekey") then two_profiles Rekey first second
     else (if bytes_eq name (codes "migrate") then two_profiles Migrate first second
@@ -112,6 +113,17 @@ play_form [] = None
 play_form (name ∷ []) = None
 play_form (name ∷ word ∷ []) = if bytes_eq name (codes "play") then profile_named word else None
 play_form (name ∷ word ∷ next ∷ rest) = None
+
+-- whether the words are a `play` of a file that is only read with its log
+abbrev pub reads_log_of : Option Profile → Bool
+reads_log_of None = false
+reads_log_of (Some profile) = profile.reads_log
+
+abbrev pub plays_with_log : List (List ℕ) → Bool
+plays_with_log [] = false
+plays_with_log (name ∷ []) = false
+plays_with_log (name ∷ word ∷ []) = bytes_eq name (codes "play") && reads_log_of (profile_set_named word)
+plays_with_log (name ∷ word ∷ next ∷ rest) = false
 
 -- ---- what is yes or no of a command
 
@@ -133,10 +145,11 @@ is_in_place (Stamp field value) = true
 is_in_place (Rekey new) = true
 is_in_place (Migrate new) = false
 
--- it asks for new keys in place, of a profile whose pages have another size or reserve, or of a plain file, which has no key
+-- it asks for new keys in place, of a profile whose pages have another size or reserve, or which has another setting, or of a plain
+-- file, which has no key
 abbrev pub changes_layout : Profile → Change → Bool
 changes_layout old (Stamp field value) = false
-changes_layout old (Rekey new) = is_plain old || not (old.page_size == new.page_size && old.reserve == new.reserve)
+changes_layout old (Rekey new) = is_plain old || not (old.page_size == new.page_size && old.reserve == new.reserve && beq old.reads_log new.reads_log)
 changes_layout old (Migrate new) = false
 
 -- it asks for tags that the profile has not
@@ -174,6 +187,8 @@ pub record Traits : Type 0 where
   pub beside : Bool
   -- it prints rows before it has looked at all pages that it reads
   pub early : Bool
+  -- it would change a file that is only read with its log, or make one
+  pub only_read : Bool
   -- it asks for tags that the profile has not
   pub untagged : Bool
   -- it asks for new keys in place where the layouts differ
@@ -188,6 +203,7 @@ traits Probe = record {
   drawing = false;
   beside = false;
   early = false;
+  only_read = false;
   untagged = false;
   mismatched = false;
 }
@@ -199,6 +215,7 @@ traits (Recover profile) = record {
   drawing = false;
   beside = false;
   early = false;
+  only_read = profile.reads_log;
   untagged = false;
   mismatched = false;
 }
@@ -210,6 +227,7 @@ traits (Read profile reading) = record {
   drawing = false;
   beside = false;
   early = shows_rows reading;
+  only_read = false;
   untagged = asks_tags profile reading;
   mismatched = false;
 }
@@ -221,6 +239,7 @@ traits (ChangeFile profile change) = record {
   drawing = not (is_plain (profile_after profile change));
   beside = not (is_in_place change);
   early = false;
+  only_read = profile.reads_log || (profile_after profile change).reads_log;
   untagged = false;
   mismatched = changes_layout profile change;
 }
@@ -232,6 +251,7 @@ traits (Make profile rows) = record {
   drawing = not (is_plain profile);
   beside = true;
   early = false;
+  only_read = profile.reads_log;
   untagged = false;
   mismatched = false;
 }
@@ -256,6 +276,17 @@ writes_beside command = (traits command).beside
 
 abbrev pub finds : Command → Bool
 finds command = (traits command).early
+
+abbrev pub is_only_read : Command → Bool
+is_only_read command = (traits command).only_read
+
+-- the profile of a file that is read with its log, where the command is one that only reads
+abbrev pub profile_with_log : Command → Option Profile
+profile_with_log Probe = None
+profile_with_log (Recover profile) = None
+profile_with_log (Read profile reading) = if profile.reads_log then Some profile else None
+profile_with_log (ChangeFile profile change) = None
+profile_with_log (Make profile rows) = None
 
 abbrev pub lacks_tags : Command → Bool
 lacks_tags command = (traits command).untagged

@@ -74,13 +74,17 @@ impl Change {
         }
     }
 
-    /// Whether it asks for new keys in place, of a profile whose pages have another size or reserve, or of a plain file.
+    /// Whether it asks for new keys in place, of a profile whose pages have another size or reserve, or which has another setting,
+    /// or of a plain file.
     pub fn changes_layout(&self, old: &Profile) -> bool
         ensures { result ≡ changes_layout old.now self.now }
     {
         match self {
             Change::Rekey(new) => {
-                old.is_plain() || !(old.page_size == new.page_size && old.reserve == new.reserve)
+                old.is_plain()
+                    || !(old.page_size == new.page_size
+                        && old.reserve == new.reserve
+                        && old.reads_log == new.reads_log)
             }
             Change::Stamp { .. } | Change::Migrate(_) => false,
         }

@@ -4,12 +4,12 @@ ghost use Rattle.text_lines.specs.Numbers.{number_named};
 ghost use Rattle.sqlcipher_tool.specs.Due.{word_refusal};
 ghost use Rattle.sqlcipher_tool.specs.declared.change.Change.TheVariants.{Rekey as RekeyOf, Migrate as MigrateOf};
 ghost use Rattle.cipher_profile.specs.Profile.{IsListed};
-ghost use Rattle.sqlcipher_tool.specs.Words.{form, play_form, find_form, stamp_form, two_profiles, make_form, field_named, rowid_named, texts, asked_keys, draws, lacks_tags, layouts_differ, IsServed};
+ghost use Rattle.sqlcipher_tool.specs.Words.{form, play_form, find_form, stamp_form, two_profiles, make_form, field_named, rowid_named, texts, asked_keys, draws, is_only_read, lacks_tags, layouts_differ, plays_with_log, profile_with_log, IsServed};
 
 use crate::change::Change;
 use crate::reading::{Job, Reading};
 use crate::status::Refusal;
-use cipher_profile::{Profile, profile_of};
+use cipher_profile::{Profile, profile_of, profile_with_setting};
 use std::marker::Model;
 use text_lines::number_of;
 
@@ -76,6 +76,9 @@ impl<'w> Command<'w> {
     pub fn refusal(&self) -> Option<Refusal>
         ensures { result ≡ word_refusal self.now }
     {
+        if self.is_only_read() {
+            return Some(Refusal::OnlyRead);
+        }
         if self.lacks_tags() {
             return Some(Refusal::NoTags);
         }
@@ -106,6 +109,30 @@ impl<'w> Command<'w> {
             Command::Change(profile, change) => !change.profile_after(*profile).is_plain(),
             Command::Make { profile, .. } => !profile.is_plain(),
             Command::Probe | Command::Recover(_) | Command::Read(_, _) => false,
+        }
+    }
+
+    /// The profile of a file that is read with its log, where the command is one that only reads.
+    pub fn with_log(&self) -> Option<Profile>
+        ensures { result ≡ profile_with_log self.now }
+    {
+        match self {
+            Command::Read(profile, _) if profile.reads_log => Some(*profile),
+            _ => None,
+        }
+    }
+
+    // Whether it would change a file that is only read with its log, or make one.
+    fn is_only_read(&self) -> bool
+        ensures { result ≡ is_only_read self.now }
+    {
+        match self {
+            Command::Recover(profile) => profile.reads_log,
+            Command::Change(profile, change) => {
+                profile.reads_log || change.profile_after(*profile).reads_log
+            }
+            Command::Make { profile, .. } => profile.reads_log,
+            Command::Probe | Command::Read(_, _) => false,
         }
     }
 
@@ -143,6 +170,19 @@ pub fn played_profile(words: &[&str]) -> Option<Profile>
     }
 }
 
+/// Whether the words are a `play` of a file that is read with its log. It is refused, since it may change the file.
+pub fn plays_with_log(words: &[&str]) -> bool
+    ensures { result ≡ plays_with_log (texts words.now) }
+{
+    match words {
+        [name, word] if *name == "play" => match profile_with_setting(word) {
+            Some(profile) => profile.reads_log,
+            None => false,
+        },
+        _ => false,
+    }
+}
+
 /// The command that the words make.
 pub fn parse_words<'w>(words: &[&'w str]) -> Option<Command<'w>>
     ensures form { result ≡ form (texts words.now) }
@@ -163,7 +203,7 @@ fn command_on<'w>(name: &str, word: &str) -> Option<Command<'w>>
     ensures form { result ≡ form (name.now ∷ word.now ∷ []) }
     ensures served { IfSome result IsServed }
 {
-    let profile = profile_of(word);
+    let profile = profile_with_setting(word);
     if name == "tags" {
         return Some(Command::Read(profile?, Reading::Tags));
     }
@@ -227,7 +267,7 @@ fn find_with<'w>(first: &str, second: &'w str, third: &str, fourth: &str) -> Opt
     ensures form { result ≡ find_form first.now second.now third.now fourth.now }
     ensures served { IfSome result IsServed }
 {
-    let profile = profile_of(first)?;
+    let profile = profile_with_setting(first)?;
     let low = rowid_of(third)?;
     let high = rowid_of(fourth)?;
     let name = Name::new(second);
@@ -239,7 +279,7 @@ fn stamp_with<'w>(first: &str, second: &str, third: &str) -> Option<Command<'w>>
     ensures form { result ≡ stamp_form first.now second.now third.now }
     ensures served { IfSome result IsServed }
 {
-    let profile = profile_of(first)?;
+    let profile = profile_with_setting(first)?;
     let field = field_of(second)?;
     let value = number_of(third.as_bytes())?;
     Some(Command::Change(profile, Change::Stamp { field, value }))
@@ -250,8 +290,8 @@ fn rekey_with<'w>(first: &str, second: &str) -> Option<Command<'w>>
     ensures form { result ≡ two_profiles RekeyOf first.now second.now }
     ensures served { IfSome result IsServed }
 {
-    let old = profile_of(first)?;
-    let new = profile_of(second)?;
+    let old = profile_with_setting(first)?;
+    let new = profile_with_setting(second)?;
     Some(Command::Change(old, Change::Rekey(new)))
 }
 
@@ -260,8 +300,8 @@ fn migrate_with<'w>(first: &str, second: &str) -> Option<Command<'w>>
     ensures form { result ≡ two_profiles MigrateOf first.now second.now }
     ensures served { IfSome result IsServed }
 {
-    let old = profile_of(first)?;
-    let new = profile_of(second)?;
+    let old = profile_with_setting(first)?;
+    let new = profile_with_setting(second)?;
     Some(Command::Change(old, Change::Migrate(new)))
 }
 
@@ -270,7 +310,7 @@ fn make_with<'w>(first: &str, second: &str) -> Option<Command<'w>>
     ensures form { result ≡ make_form first.now second.now }
     ensures served { IfSome result IsServed }
 {
-    let profile = profile_of(first)?;
+    let profile = profile_with_setting(first)?;
     let rows = number_of(second.as_bytes())?;
     Some(Command::Make { profile, rows })
 }

@@ -2,13 +2,13 @@
 ghost use Rattle.std.specs.Prelude.{◌≡◌, ◌≢◌, ◌⊎◌, ◌≤◌, IsTrue, Some, Err, IfErr};
 ghost use Rattle.edge_model.specs.Causes.{Rose};
 ghost use Rattle.sqlcipher_tool.specs.Answer.{Answer, IsAnswer, IsEarly, IsKeyStatus, IsStopStatus, Puts, PutsLine};
-ghost use Rattle.sqlcipher_tool.specs.Due.{key_answer};
+ghost use Rattle.sqlcipher_tool.specs.Due.{key_answer, wordless};
 ghost use Rattle.sqlcipher_tool.specs.Text.{refusal_line};
 ghost use Rattle.sqlcipher_tool.specs.Stop.{stop_answer, outcome_answer, IsLateStop};
 
 use crate::opening::Stop;
 use crate::status::{Refusal, Status};
-use crate::text::{key_refused_line, refusal_line};
+use crate::text::{key_refused_line, refusal_line, usage_line};
 use cipher_profile::KeyError;
 use edge_model::Sink;
 use text_lines::Text;
@@ -36,6 +36,20 @@ pub fn conclude_refusal<S: Sink>(out: &mut S, refusal: Refusal) -> Status
     ensures later { S.faults out.old ≤ S.faults out.new }
 {
     conclude(out, &refusal_line(&refusal), Status::Refused(refusal))
+}
+
+/// Prints the answer to words that make no command: a `play` of a file that is only read with its log is refused.
+pub fn conclude_wordless<S: Sink>(out: &mut S, with_log: bool) -> Status
+    ensures status { (result ≡ (wordless with_log).status) ⊎ (result ≡ Status.OutputFault) }
+    ensures text { IsTrue S.tells → Puts result (wordless with_log).text (S.taken out.old) (S.taken out.new) }
+    ensures line { IsTrue S.tells → PutsLine result (S.taken out.old) (S.taken out.new) }
+    ensures fault { result ≡ Status.OutputFault → Rose (S.faults out.old) (S.faults out.new) }
+    ensures later { S.faults out.old ≤ S.faults out.new }
+{
+    if with_log {
+        return conclude_refusal(out, Refusal::OnlyRead);
+    }
+    conclude(out, &usage_line(), Status::Usage)
 }
 
 /// Prints why a key line gave no secret; nothing where the input failed.

@@ -30,6 +30,7 @@ mod text;
 mod top;
 mod verify;
 mod walked;
+mod with_log;
 
 pub use complete::{
     complete_law, key_lines_law, made_migrates_law, made_servable_law, nothing_servable_law,
@@ -44,3 +45,4 @@ pub use names::near_names;
 pub use opening::Stop;
 pub use status::{Refusal, Status};
 pub use top::run;
+pub use with_log::{MOST_PAGES, conclude_view, profile_with_log};

@@ -46,7 +46,7 @@ pub fn rekey_file<E: Entropy, D: Disk>(
     disk: &mut D,
 ) -> Result<Text, ChangeError>
     requires listed { IsListed old × IsListed new }
-    requires layout { (new.page_size ≡ old.page_size) × (new.reserve ≡ old.reserve) }
+    requires layout { (new.page_size ≡ old.page_size) × (new.reserve ≡ old.reserve) × (new.reads_log ≡ old.reads_log) }
     requires recovered { IsTrue D.tells → AreRecovered (D.reads disk.old) (D.images disk.old) }
     requires alone { IsTrue D.tells → old.page_size ≤ length (main_of (D.reads disk.old)) → Each (D.images disk.old) (IsAlone (main_of (D.reads disk.old))) }
     ensures told { IsTrue D.tells → (answer : Answer) → change_answer result ≡ Some answer → Contains (rekey_answers old first.now (main_of (D.reads disk.old))) answer }
@@ -87,7 +87,8 @@ fn rekey_pages<'d, D: Disk, E: Entropy>(
     pager: Pager<'d, D, E>,
     write: Codec,
 ) -> (&'d mut D, &'d mut E, Result<Text, ChangeError>)
-    requires layout { (write.profile.page_size ≡ pager.codec.profile.page_size) × (write.profile.reserve ≡ pager.codec.profile.reserve) × (write.salt ≡ pager.codec.salt) }
+    requires layout { (write.profile.page_size ≡ pager.codec.profile.page_size) × (write.profile.reserve ≡ pager.codec.profile.reserve)
+        × (write.profile.reads_log ≡ pager.codec.profile.reads_log) × (write.salt ≡ pager.codec.salt) }
     requires unpinned { pins_of pager.cache.held ≡ no_pins }
     requires salt { IsTrue D.tells → pager.codec.salt ≡ salt_of (main_of (D.reads pager.disk.now)) }
     requires opened { IsTrue D.tells → file_opened pager.codec (main_of (D.reads pager.disk.now)) ≡ Ok (record { header = pager.header; count = pager.count }) }

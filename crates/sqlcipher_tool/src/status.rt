@@ -11,6 +11,8 @@ pub enum Refusal {
     NoTags,
     /// The pages of the two profiles have another size or reserve.
     LayoutDiffers,
+    /// A file that is read with its log is only read.
+    OnlyRead,
     /// No byte of a key line was left.
     KeyMissing,
     /// The key line is empty.
@@ -63,6 +65,23 @@ pub enum Refusal {
     },
     /// The hot journal beside the file names a super-journal.
     SuperJournal,
+    /// The log beside the file is of another version of the format.
+    LogVersion {
+        /// The version that its header names.
+        found: u32,
+    },
+    /// The log beside the file has pages of another size.
+    LogPageSize {
+        /// The size that its header names, in bytes.
+        found: u32,
+    },
+    /// The database has so many pages by its log, and neither the file nor the log has the last of them.
+    LogShort {
+        /// How many it has.
+        pages: u32,
+    },
+    /// The log has more pages, or more frames, than can be read with it.
+    LogTooLarge,
     /// The structure of the database has this defect.
     Defect(Defect),
     /// The new database has more pages than are served.

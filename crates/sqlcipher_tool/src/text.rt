@@ -60,6 +60,7 @@ fn refusal_text(refusal: &Refusal) -> Text
         Refusal::Defect(defect) => return defect_text(defect),
         Refusal::NoTags => text.push(b"profile has no tags"),
         Refusal::LayoutDiffers => text.push(b"layout differs"),
+        Refusal::OnlyRead => text.push(b"a file with its log is only read"),
         Refusal::KeyMissing => text.push(b"key missing"),
         Refusal::KeyEmpty => text.push(b"key empty"),
         Refusal::KeyTooLong => text.push(b"key too long"),
@@ -81,6 +82,20 @@ fn refusal_text(refusal: &Refusal) -> Text
             text.push(b"journal page size ");
             text.push_number(u64::from(*found));
         }
+        Refusal::LogVersion { found } => {
+            text.push(b"log version ");
+            text.push_number(u64::from(*found));
+        }
+        Refusal::LogPageSize { found } => {
+            text.push(b"log page size ");
+            text.push_number(u64::from(*found));
+        }
+        Refusal::LogShort { pages } => text.push_around(
+            b"log is short: ",
+            u64::from(*pages),
+            b" pages",
+        ),
+        Refusal::LogTooLarge => text.push(b"log is too large"),
         Refusal::SuperJournal => text.push(b"journal names a super-journal"),
         Refusal::TooManyPages { limit } => {
             text.push(b"too many pages: limit ");

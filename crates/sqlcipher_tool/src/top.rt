@@ -18,11 +18,12 @@ ghost use Rattle.sqlcipher_tool.specs.Recovered.{recovery_of};
 ghost use Rattle.sqlcipher_tool.specs.Untouched.{IsUnwritten, LeavesAlone};
 ghost use Rattle.sqlcipher_tool.specs.declared.command.Command.{Command as Asked};
 ghost use Rattle.sqlcipher_tool.specs.declared.status.Refusal.{Refusal as Refused};
-ghost use Rattle.sqlcipher_tool.specs.Words.{alters, draws, finds, form, play_form, texts, asked_keys, recovers_by, takes_memory, writes_beside, IsServed};
+ghost use Rattle.sqlcipher_tool.specs.declared.status.Refusal.TheVariants.{OnlyRead as ReadAlone};
+ghost use Rattle.sqlcipher_tool.specs.Words.{alters, draws, finds, form, play_form, plays_with_log, texts, asked_keys, recovers_by, takes_memory, writes_beside, IsServed};
 
 use crate::change::change_file;
-use crate::command::{Command, parse_words, played_profile};
-use crate::conclusion::{conclude, conclude_key, conclude_refusal};
+use crate::command::{Command, parse_words, played_profile, plays_with_log};
+use crate::conclusion::{conclude_key, conclude_refusal, conclude_wordless};
 use crate::make::make_file;
 use crate::no_entropy::NoEntropy;
 use crate::play::play_file;
@@ -31,7 +32,6 @@ use crate::reading::read_file;
 use crate::recovery::report_recovery;
 use crate::secrets::{Secrets, read_secrets};
 use crate::status::Status;
-use crate::text::usage_line;
 use edge_model::{Disk, Entropy, Sink, Source};
 use std::alloc::Global;
 
@@ -104,6 +104,10 @@ pub fn run<K: Source, S: Sink, E: Entropy, D: Disk>(
     ensures changes { IsTrue D.tells → (command : Asked) → form (texts words.now) ≡ Some command
         → ChangesBy result command (GaveKeys K.tells (asked_keys command) (K.left input.old)) E.tells (drop (length (E.drawn entropy.old)) (E.drawn entropy.new)) (disk_run D.reads D.images D.moment D.since disk.old disk.new) }
 
+    // A script of sessions on a file that is only read with its log: it is refused by its words.
+    ensures play_refused { plays_with_log (texts words.now) ≡ true
+        → ((result ≡ Status.Refused ReadAlone) ⊎ (result ≡ Status.OutputFault)) × (input.new ≡ input.old) × (disk.new ≡ disk.old) }
+
     // A script of sessions: what is printed, that the steps are a run of the machine, what they draw, and what a stop leaves at every moment.
     ensures plays { (profile : Played) → play_form (texts words.now) ≡ Some profile
         → PlaysScript profile result K.tells S.tells D.tells E.tells (disk_run D.reads D.images D.moment D.since disk.old disk.new)
@@ -119,7 +123,7 @@ pub fn run<K: Source, S: Sink, E: Entropy, D: Disk>(
         return play_file(alloc, played, input, out, entropy, disk);
     }
     match parse_words(words) {
-        None => conclude(out, &usage_line(), Status::Usage),
+        None => conclude_wordless(out, plays_with_log(words)),
         Some(command) => serve(alloc, command, input, out, entropy, disk),
     }
 }

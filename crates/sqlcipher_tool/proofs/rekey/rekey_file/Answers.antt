@@ -58,6 +58,7 @@ rekey_pages-disk-requires-clause-layout g c =
     let profile = ap (λ (k : FileKeys). k.profile) c.into_pager-pager.ensures.file.0 ∙ c.in-Ok.ensures.profile in (
       ap (λ (k : FileKeys). k.profile.page_size) write ∙ (c.requires.layout.0 ∙ sym (ap (λ (p : Profile). p.page_size) profile)),
       ap (λ (k : FileKeys). k.profile.reserve) write ∙ (c.requires.layout.1 ∙ sym (ap (λ (p : Profile). p.reserve) profile)),
+      ap (λ (k : FileKeys). k.profile.reads_log) write ∙ (c.requires.layout.2 ∙ sym (ap (λ (p : Profile). p.reads_log) profile)),
       ap (λ (k : FileKeys). k.salt) write ∙ (c.salt.ensures.value ∙ ap (λ (k : FileKeys). k.salt) c.codec.ensures),
     )
 

@@ -29,13 +29,13 @@ rekey-disk-requires-clause-begun g c = λ told.
     let p = c.args.pager in
     let sized : 1 ≤ p.codec.profile.page_size = omega (arith, p.lendable.least) in
     begun d.reads d.images d.moment d.since g.met.D.Disk.counts_now g.met.D.Disk.only_now p.codec c.args.write (main_of (d.reads p.disk.now)) p.header p.count (c.requires.opened told) p.some sized
-    c.requires.layout.0 c.requires.layout.1 p.disk.now p.disk.now (c.requires.alone told) g.E.Entropy.tells (λ main. Unit {0})
+    c.requires.layout.0 c.requires.layout.1 c.requires.layout.2 p.disk.now p.disk.now (c.requires.alone told) g.E.Entropy.tells (λ main. Unit {0})
 
 pub rekey_error-requires : goal.rekey_error-requires
 rekey_error-requires g c = λ differs.
     let layout = c.requires.layout in
     let other = c.rekey-disk.ensures.layout (c.in-Err.is ∙ ap (λ (e : RekeyError). Err e) differs) in
-    let no : true ≡ false = sym (same_laid c.args.pager.codec c.args.write layout.0 layout.1 layout.2) ∙ other in cc
+    let no : true ≡ false = sym (same_laid c.args.pager.codec c.args.write layout.0 layout.1 layout.2 layout.3) ∙ other in cc
 
 pub returns-in-Ok-clause-told : goal.returns-in-Ok-clause-told
 returns-in-Ok-clause-told g c = λ told answer is.
@@ -55,7 +55,7 @@ returns-in-Ok-clause-safely g c = λ told.
     let rekeyed = was_ok c.rekey-disk.result.2 c.in-Ok.field-0 c.in-Ok.is c.rekey-disk.ensures.rekeyed told in
     let either = was_ok c.rekey-disk.result.2 c.in-Ok.field-0 c.in-Ok.is c.rekey-disk.ensures.one_new told in
     inr (done_rekey d.reads d.images d.moment d.since g.met.D.Disk.counts_now g.met.D.Disk.only_now p.codec c.args.write (main_of (d.reads p.disk.now)) p.header p.count (c.requires.opened told) p.some sized
-    c.requires.layout.0 c.requires.layout.1 p.disk.now end (c.requires.alone told) g.E.Entropy.tells own main
+    c.requires.layout.0 c.requires.layout.1 c.requires.layout.2 p.disk.now end (c.requires.alone told) g.E.Entropy.tells own main
     (rekeyed, λ drawing. was_ok c.rekey-disk.result.2 c.in-Ok.field-0 c.in-Ok.is c.rekey-disk.ensures.own_draws told drawing)
     (was_ok c.rekey-disk.result.2 c.in-Ok.field-0 c.in-Ok.is c.rekey-disk.ensures.new told) either
     (main_there c.args.write (d.reads end) p.count (omega (arith, sized, c.requires.layout.0)) rekeyed.is))
@@ -84,11 +84,11 @@ returns-in-Err-clause-safely g c = λ told.
     let tells = g.E.Entropy.tells in
     let own : List ℕ → Type 0 = λ main. FileDraws c.args.write main (is_page_number p.count) 0 (drop (length (g.E.Entropy.drawn p.entropy.now)) (g.E.Entropy.drawn c.rekey-disk.result.1.now)) in
     subst (λ (error : ChangeError). KeepsOrCommits d.reads d.images d.moment d.since (change_status (Err error)) (WithDraws (IsRekeyed p.codec c.args.write p.count file) tells own)
-    (Old d.reads d.images d.moment d.since g.met.D.Disk.counts_now g.met.D.Disk.only_now p.codec c.args.write file p.header p.count (c.requires.opened told) p.some sized c.requires.layout.0 c.requires.layout.1 p.disk.now end (c.requires.alone told) tells own)
-    (New d.reads d.images d.moment d.since g.met.D.Disk.counts_now g.met.D.Disk.only_now p.codec c.args.write file p.header p.count (c.requires.opened told) p.some sized c.requires.layout.0 c.requires.layout.1 p.disk.now end (c.requires.alone told) tells own) p.disk.now end)
+    (Old d.reads d.images d.moment d.since g.met.D.Disk.counts_now g.met.D.Disk.only_now p.codec c.args.write file p.header p.count (c.requires.opened told) p.some sized c.requires.layout.0 c.requires.layout.1 c.requires.layout.2 p.disk.now end (c.requires.alone told) tells own)
+    (New d.reads d.images d.moment d.since g.met.D.Disk.counts_now g.met.D.Disk.only_now p.codec c.args.write file p.header p.count (c.requires.opened told) p.some sized c.requires.layout.0 c.requires.layout.1 c.requires.layout.2 p.disk.now end (c.requires.alone told) tells own) p.disk.now end)
     (sym c.rekey_error.ensures)
     (stopped_rekey d.reads d.images d.moment d.since g.met.D.Disk.counts_now g.met.D.Disk.only_now p.codec c.args.write file p.header p.count (c.requires.opened told) p.some sized
-    c.requires.layout.0 c.requires.layout.1 p.disk.now end (c.requires.alone told) tells own c.in-Err.error
+    c.requires.layout.0 c.requires.layout.1 c.requires.layout.2 p.disk.now end (c.requires.alone told) tells own c.in-Err.error
     (λ unwritten. (err_at (λ e. is_unwritten e ≡ true → IsTrue d.tells → OnlyRead d.reads d.images d.moment d.since p.disk.now end × (c.rekey-disk.result.1.now ≡ p.entropy.now)) c.rekey-disk.result.2 c.in-Err.error is c.rekey-disk.ensures.unwritten unwritten told).0)
     (λ undrawn. c.rekey-disk.ensures.only_old (is ∙ ap (λ e. Err e) undrawn) told)
     (c.rekey-disk.ensures.any_moment told))

@@ -1,20 +1,21 @@
-use Rattle.std.proofs.Common.{◌≡◌, inl, inr, Bool, true, false, List, ℕ, Option, Some, None, refl, sym, ◌∙◌, subst}
+use Rattle.std.proofs.Common.{◌≡◌, ◌⊎◌, ⊎_elim, inl, inr, Bool, true, false, List, ℕ, Option, Some, None, refl, sym, ◌∙◌, subst}
 use Rattle.cipher_profile.specs.declared.profile.Profile.{Profile}
-use Rattle.sqlcipher_tool.specs.Answer.{IsEarly, Puts, usage}
-use Rattle.sqlcipher_tool.specs.Due.{asked_answers, command_answers, word_refusal}
+use Rattle.sqlcipher_tool.specs.Answer.{IsAnswer, IsEarly}
+use Rattle.sqlcipher_tool.specs.Due.{asked_answers, command_answers, word_refusal, wordless}
 use Rattle.sqlcipher_tool.specs.Holding.{disk_run}
 use Rattle.sqlcipher_tool.specs.Play.{PlaysScript}
 use Rattle.sqlcipher_tool.specs.Promises.{AnswersOne, takes_keys}
 use Rattle.std.specs.Prelude.{IsErr}
 use Rattle.sqlcipher_tool.specs.Recovered.{recovery_of}
 use Rattle.sqlcipher_tool.specs.Servable.{IsDoneAlone}
-use Rattle.sqlcipher_tool.specs.Words.{draws, play_form, texts}
+use Rattle.sqlcipher_tool.specs.Words.{draws, form, play_form, plays_with_log, texts}
 use Rattle.sqlcipher_tool.specs.declared.command.Command.{Command as Asked}
 use Rattle.sqlcipher_tool.specs.declared.status.Status.{Status}
-use Rattle.sqlcipher_tool.specs.declared.status.Status.TheVariants.{Usage}
+use Rattle.sqlcipher_tool.specs.declared.status.Status.TheVariants.{OutputFault, Refused, Usage}
+use Rattle.sqlcipher_tool.specs.declared.status.Refusal.TheVariants.{OnlyRead}
 use Rattle.sqlcipher_tool.proofs.Answered.{printed_one}
 use Rattle.sqlcipher_tool.proofs.Completeness.{complete, done_or_starved}
-use Rattle.sqlcipher_tool.proofs.Playing.{draws_or_plain, no_command, not_none, one_profile, play_done}
+use Rattle.sqlcipher_tool.proofs.Playing.{draws_or_plain, no_command, no_refused, not_none, one_profile, play_done, served_unset}
 use Rattle.sqlcipher_tool.proofs.top.run.Goals as goal
 
 not_true : (b : Bool) → (b ≡ true → ⊥) → b ≡ false
@@ -232,13 +233,36 @@ returns-in-Some-clause-complete_play g c =
     (subst (λ (p : Profile). PlaysScript p c.play_file.result g.K.Source.tells g.S.Sink.tells d.tells g.E.Entropy.tells (disk_run d.reads d.images d.moment d.since c.args.disk.now c.play_file.new.disk)
     (g.K.Source.left c.args.input.now) (g.K.Source.left c.play_file.new.input) (g.S.Sink.taken c.args.out.now) (g.S.Sink.taken c.play_file.new.out) (g.E.Entropy.drawn c.args.entropy.now) (g.E.Entropy.drawn c.play_file.new.entropy)) (sym same) c.play_file.ensures.plays)
 
+pub returns-in-Some-clause-play_refused : goal.returns-in-Some-clause-play_refused
+returns-in-Some-clause-play_refused g c =
+    let words = texts c.args.words.now in
+    let played : play_form words ≡ Some c.in-Some.played = sym c.played_profile.ensures.form ∙ c.in-Some.is in
+    λ with_log. absurd (served_unset words c.in-Some.played played with_log)
+
 -- ---- no words
+
+pub returns-in-None-clause-play_refused : goal.returns-in-None-clause-play_refused
+returns-in-None-clause-play_refused g c = λ with_log. (
+  subst (λ (b : Bool). (c.conclude_wordless.result ≡ (wordless b).status) ⊎ (c.conclude_wordless.result ≡ OutputFault)) (c.plays_with_log.ensures ∙ with_log) c.conclude_wordless.ensures.status,
+  refl,
+  refl,
+)
 
 pub returns-in-None-clause-usage : goal.returns-in-None-clause-usage
 returns-in-None-clause-usage g c =
     let words = texts c.args.words.now in
     let unplayed : play_form words ≡ None = sym c.played_profile.ensures.form ∙ none_by c.played_profile.result c.in_default.not-Some in
-    λ is. (sym c.parse_words.ensures.form ∙ c.in-None.is, unplayed)
+    λ is. (sym c.parse_words.ensures.form ∙ c.in-None.is, unplayed, sym c.plays_with_log.ensures ∙ not_refused c.plays_with_log.result c.conclude_wordless.result c.conclude_wordless.ensures.status is)
+  where
+    not_refused : (b : Bool) (status : Status) → (status ≡ (wordless b).status) ⊎ (status ≡ OutputFault) → status ≡ Usage → b ≡ false
+    not_refused true status is usage = absurd (⊎_elim (λ (same : status ≡ Refused OnlyRead). differs (sym same ∙ usage)) (λ (out : status ≡ OutputFault). fails (sym out ∙ usage)) is)
+      where
+        differs : Refused OnlyRead ≡ Usage → ⊥
+        differs same = cc same
+
+        fails : OutputFault ≡ Usage → ⊥
+        fails same = cc same
+    not_refused false status is usage = refl
 
 pub returns-in-None-clause-answer : goal.returns-in-None-clause-answer
 returns-in-None-clause-answer g c =
@@ -248,12 +272,17 @@ returns-in-None-clause-answer g c =
     let files = g.D.Disk.reads c.args.disk.now in
     let left = g.K.Source.left c.args.input.now in
     let before = g.S.Sink.taken c.args.out.now in
-    let after = g.S.Sink.taken c.conclude.new.out in
-    let status = c.conclude.result in
-    let one = printed_one usage status g.S.Sink.tells before after tt c.conclude.ensures.status
-    (λ printed. subst (λ (text : List ℕ). Puts status text before after) c.usage_line.ensures (c.conclude.ensures.text printed)) in
-    subst (λ (command : Option Asked). AnswersOne (command_answers command left files files) status g.S.Sink.tells before after)
-    (sym c.in-None.is ∙ c.parse_words.ensures.form) one
+    let after = g.S.Sink.taken c.conclude_wordless.new.out in
+    let status = c.conclude_wordless.result in
+    let with_log = c.plays_with_log.result in
+    let one = printed_one (wordless with_log) status g.S.Sink.tells before after (answered with_log) c.conclude_wordless.ensures.status c.conclude_wordless.ensures.text in
+    subst (λ (b : Bool). AnswersOne (command_answers b (form words) left files files) status g.S.Sink.tells before after) c.plays_with_log.ensures
+    (subst (λ (command : Option Asked). AnswersOne (command_answers with_log command left files files) status g.S.Sink.tells before after)
+    (sym c.in-None.is ∙ c.parse_words.ensures.form) one)
+  where
+    answered : (b : Bool) → IsAnswer (wordless b).status
+    answered true = tt
+    answered false = tt
 
 pub returns-in-None-clause-plays : goal.returns-in-None-clause-plays
 returns-in-None-clause-plays g c =
@@ -281,6 +310,12 @@ returns-in-None-clause-complete_play g c =
 
 -- ---- a command
 
+pub returns-in-Some-parse_words-clause-play_refused : goal.returns-in-Some-parse_words-clause-play_refused
+returns-in-Some-parse_words-clause-play_refused g c =
+    let words = texts c.args.words.now in
+    let formed = sym c.parse_words.ensures.form ∙ c.in-Some-parse_words.is in
+    λ with_log. absurd (no_refused words c.in-Some-parse_words.command with_log formed)
+
 pub returns-in-Some-parse_words-clause-usage : goal.returns-in-Some-parse_words-clause-usage
 returns-in-Some-parse_words-clause-usage g c =
     let words = texts c.args.words.now in
@@ -307,7 +342,7 @@ returns-in-Some-parse_words-clause-answer g c =
     let files = g.D.Disk.reads c.args.disk.now in
     let after = g.D.Disk.reads c.serve.new.disk in
     let left = g.K.Source.left c.args.input.now in
-    subst (λ (o : Option Asked). AnswersOne (command_answers o left files after) c.serve.result g.S.Sink.tells (g.S.Sink.taken c.args.out.now) (g.S.Sink.taken c.serve.new.out))
+    subst (λ (o : Option Asked). AnswersOne (command_answers (plays_with_log words) o left files after) c.serve.result g.S.Sink.tells (g.S.Sink.taken c.args.out.now) (g.S.Sink.taken c.serve.new.out))
     (sym formed) (c.serve.ensures.answer (λ is. keyed (command, formed, is)) told)
 
 pub returns-in-Some-parse_words-clause-complete : goal.returns-in-Some-parse_words-clause-complete
@@ -320,7 +355,7 @@ returns-in-Some-parse_words-clause-complete g c =
     let files = g.D.Disk.reads c.args.disk.now in
     let after = g.D.Disk.reads c.serve.new.disk in
     let left = g.K.Source.left c.args.input.now in
-    let alone = subst (λ (o : Option Asked). IsDoneAlone (command_answers o left files after)) formed (complete words left files after can) in
+    let alone = subst (λ (o : Option Asked). IsDoneAlone (command_answers (plays_with_log words) o left files after)) formed (complete words left files after can) in
     done_or_starved (asked_answers (word_refusal command) command left files after) c.serve.result g.S.Sink.tells _ _ _ _ _ _ _ _ _ _ (c.serve.ensures.answer (λ is. keyed (command, formed, is)) told) alone
     (λ failed. (c.serve.ensures.input_fault failed).0)
     c.serve.ensures.output_fault
