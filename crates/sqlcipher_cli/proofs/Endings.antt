@@ -1,8 +1,15 @@
 -- How a text and a command end.
-use Rattle.std.proofs.Common.{◌≡◌, ◌⊎◌, ⊎_elim, inl, inr, ℕ, ◌≤◌, ◌||◌, Bool, true, false, List, [], ◌∷◌, drop, refl, sym, ap, ◌∙◌, arith}
+use Rattle.std.proofs.Common.{◌≡◌, ◌⊎◌, ⊎_elim, inl, inr, ℕ, ◌≤◌, ◌||◌, Bool, true, false, List, [], ◌∷◌, drop, Option, Some, None, if◌then◌else◌, refl, sym, ap, subst, ◌∙◌, arith}
+use Rattle.std.specs.Prelude.{is_some}
 use Rattle.std.specs.Borrow.{Bor}
+use Rattle.cipher_profile.specs.declared.profile.Profile.{Profile}
 use Rattle.sqlcipher_tool.specs.Answer.{code_of}
-use Rattle.sqlcipher_tool.specs.Words.{texts}
+use Rattle.sqlcipher_tool.specs.Due.{word_refusal}
+use Rattle.sqlcipher_tool.specs.Play.{AreNoWords, DrawsBytes, TakesInput}
+use Rattle.sqlcipher_tool.specs.WithLog.{viewed_by}
+use Rattle.sqlcipher_tool.specs.declared.command.Command.{Command}
+use Rattle.sqlcipher_tool.specs.declared.status.Refusal.{Refusal}
+use Rattle.sqlcipher_tool.specs.Words.{form, profile_with_log, texts}
 use Rattle.sqlcipher_tool.specs.declared.status.Status.{Status}
 use Rattle.sqlcipher_tool.specs.declared.status.Status.TheVariants.{Done, Usage, Refused, KeyRefused, DiskFault, OutputFault, InputFault, EntropyFault, OutOfMemory}
 use Rattle.sqlcipher_cli.specs.Exit.{EndsAs, EndsCommand, EndsOn, asks_help, asks_text, asks_version, behind_file}
@@ -81,3 +88,32 @@ starves words status is = record {
 pub texts_behind : (words : List (Bor (List ℕ))) → texts (drop 1 words) ≡ behind_file (texts words)
 texts_behind [] = refl
 texts_behind (word ∷ words) = refl
+
+-- ---- a command on the file, with its log or without
+
+-- what is known of a run goes by its words
+pub ends_run : (words : List (List ℕ)) (status : Status) → (status ≡ Usage → AreNoWords words) → (AreNoWords words → (status ≡ Usage) ⊎ (status ≡ OutputFault))
+    → ((command : Command) (refusal : Refusal) → form words ≡ Some command → word_refusal command ≡ Some refusal → (status ≡ Refused refusal) ⊎ (status ≡ OutputFault))
+    → (status ≡ InputFault → TakesInput words) → (status ≡ EntropyFault → DrawsBytes words) → EndsCommand words status
+ends_run words status usage usage_comes refused input entropy = record {
+  usage = λ none. answered Usage status (usage_comes none);
+  refused = λ command refusal formed is. answered (Refused refusal) status (refused command refusal formed is);
+  no_usage = usage;
+  input_fault = input;
+  entropy_fault = entropy;
+}
+
+-- where a file is read with its log, the words are a command that they do not refuse
+pub ends_with_log : (words : List (List ℕ)) (profile : Profile) (status : Status) → viewed_by (form words) ≡ Some profile → (status ≡ Usage → ⊥)
+    → (status ≡ InputFault → TakesInput words) → (status ≡ EntropyFault → ⊥) → EndsCommand words status
+ends_with_log words profile status asked no_usage input no_entropy = record {
+  usage = λ none. absurd (no_view (sym (ap viewed_by none.0) ∙ asked));
+  refused = λ command refusal formed is.
+      absurd (no_view (sym (ap (λ (o : Option Refusal). if is_some o then None else profile_with_log command) is) ∙ (sym (ap viewed_by formed) ∙ asked)));
+  no_usage = λ is. absurd (no_usage is);
+  input_fault = input;
+  entropy_fault = λ is. absurd (no_entropy is);
+}
+  where
+    no_view : ◌≡◌ {A = Option Profile} None (Some profile) → ⊥
+    no_view is = cc is

@@ -1,5 +1,6 @@
 // The lines on standard error that say why, or what to do: what was met on the way, how the run ended, and what the files then are.
 use crate::key_words::{explain_key, explain_new_key};
+use crate::log_advice::{explain_log_conflict, explain_view};
 use crate::plain::{self, is_plain_word};
 use crate::refusals::explain_refusal;
 use crate::usage::explain_usage;
@@ -65,6 +66,7 @@ pub fn explain(rt: &HostRuntime, run: &Ended, input: &InputSource, folder: &mut 
     explain_others(rt, run, folder);
     explain_playback(rt, run, folder);
     explain_status(rt, run, input, folder);
+    explain_view(rt, run, folder);
     explain_state(rt, run, folder);
     explain_fresh(rt, run, folder);
     if run.status == Status::Done {
@@ -74,19 +76,15 @@ pub fn explain(rt: &HostRuntime, run: &Ended, input: &InputSource, folder: &mut 
 
 // What to do about somebody else at the files.
 fn explain_conflict(rt: &HostRuntime, run: &Ended) {
-    let advice = match run.conflict() {
-        Some(Conflict::Log) if is_plain_word(run.version()) => plain::LOG,
-        Some(Conflict::Log) => {
-            "open and close the database with the program that wrote it, or copy FILE and FILE-wal together and do so there; \
-            a log that is another file's has to be moved away"
-        }
-        Some(Conflict::InTheWay) => {
+    match run.conflict() {
+        Some(Conflict::InTheWay) => say(
+            rt,
             "`migrate` and `make` write their new file under this name: move away what is there, also where it is a whole database \
-            that a stop kept from taking its place"
-        }
-        _ => return,
-    };
-    say(rt, advice);
+            that a stop kept from taking its place",
+        ),
+        Some(conflict) => explain_log_conflict(rt, run, conflict),
+        None => {}
+    }
 }
 
 // Who else was seen, and where nobody could be.
@@ -118,7 +116,12 @@ fn explain_probed(rt: &HostRuntime, folder: &Folder) {
     }
     if folder.deeds.has_log {
         let log = Failure::of(folder.log_path(), Conflict::Log);
-        say(rt, format_args!("{log}; every other command refuses it"));
+        say(
+            rt,
+            format_args!(
+                "{log}; every other command refuses it without the setting `:wal`, and `probe` looks at FILE alone"
+            ),
+        );
     }
 }
 

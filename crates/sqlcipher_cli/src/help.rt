@@ -90,11 +90,12 @@ who else has the file
   A command holds SQLite's lock on it from start to end: shared where it only
   reads and no journal is beside the file, else exclusive. Where others have it
   for two seconds, where the file or its journal is replaced or changed
-  meanwhile, or where FILE-wal has a byte, the status is 4. Where the lock can't
-  be had, others are only looked for, and standard error says so. `probe` and
-  `make` take none. `probe` answers beside another program and beside a log, and
-  says that they are there. A commit of `play` does not raise the header's change
-  counter: a program that is connected may go on with the pages that it has read
+  meanwhile, or where FILE-wal has a byte and PROFILE no `:wal`, the status is 4.
+  Where the lock can't be had, others are only looked for, and standard error says
+  so. `probe` and `make` take none. `probe` answers beside another program and
+  beside a log, and says that they are there. A commit of `play` does not raise
+  the header's change counter: a program that is connected may go on with the
+  pages that it has read
 
 profiles
   1, 2, 3, 4      the version of SQLCipher that wrote the file (1 has no tags)
@@ -106,6 +107,10 @@ profiles
   plain:SIZE      a plain SQLite file with pages of SIZE bytes: plain:512 to
                   plain:65536, as plain:4096. It has no key and no tags, so `tags`
                   and `rekey` refuse it. `header plain:4096` names another size
+  PROFILE:wal     as 4:wal or plain:4096:wal, for the commands that only read: the
+                  file is read with its log, FILE-wal, as SQLite would open the
+                  two, also in WAL mode or with auto-vacuum. Nothing is written,
+                  and no journal played. Any other command refuses the word
 
 standard input: a line for each version in the words, its key, the old one first;
 one for `probe`; none for `recover` and none for plain:SIZE; for `play` its script

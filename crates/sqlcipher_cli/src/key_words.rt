@@ -170,7 +170,7 @@ pub fn explain_key(rt: &HostRuntime, run: &Ended, input: &InputSource, folder: &
     if is_plain_word(run.version()) {
         say(rt, plain::NO_MAGIC);
     } else if let Some(head) = folder.plain_head() {
-        plain::explain_unencrypted(rt, head);
+        plain::explain_unencrypted(rt, run.version(), head);
     } else if let Some(words) = remark_on(&input.line) {
         say(rt, words);
     } else if run.words.first() == Some(&"probe") {

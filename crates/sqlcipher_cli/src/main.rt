@@ -1,12 +1,14 @@
 //! The program: the top call over the files of a folder, the standard streams and the system's random bytes.
 #![tactic(auto)]
 
-ghost use Rattle.std.specs.Prelude.{◌≡◌, ◌⊎◌, ◌≤◌, map, None, Some, IfOk, IsErr, string_bytes};
+ghost use Rattle.std.specs.Prelude.{◌≡◌, ◌⊎◌, ◌≤◌, map, None, Some, IfOk, IfSome, IsErr, string_bytes};
 ghost use Rattle.std.specs.Process.{exit_status};
-ghost use Rattle.sqlcipher_cli.specs.Exit.{EndsAs, EndsOn, ExitsAs, asks_help, asks_version, behind_file};
+ghost use Rattle.cipher_profile.specs.Profile.{IsListed};
+ghost use Rattle.sqlcipher_cli.specs.Exit.{EndsAs, EndsCommand, EndsOn, ExitsAs, asks_help, asks_version, behind_file};
 ghost use Rattle.sqlcipher_tool.specs.Answer.{code_of};
 ghost use Rattle.sqlcipher_tool.specs.Due.{word_refusal};
 ghost use Rattle.sqlcipher_tool.specs.Play.{AreNoWords, DrawsBytes, TakesInput};
+ghost use Rattle.sqlcipher_tool.specs.WithLog.{viewed_by};
 ghost use Rattle.sqlcipher_tool.specs.Words.{form, texts};
 ghost use Rattle.sqlcipher_tool.specs.declared.command.Command.{Command as Asked};
 ghost use Rattle.sqlcipher_tool.specs.declared.status.Refusal.{Refusal as Refused};
@@ -14,19 +16,23 @@ ghost use Rattle.sqlcipher_tool.specs.declared.status.Refusal.{Refusal as Refuse
 mod advice;
 mod help;
 mod key_words;
+mod log_advice;
 mod near;
 mod plain;
 mod refusals;
 mod usage;
 
 use advice::Ended;
+use cipher_profile::Profile;
 use edge_files::{
     DeviceEntropy, FolderDisk, InputSource, OutputSink, Paths, Progress, StandIns, failed, say,
 };
 use key_words::{explain_session_key, prompt_of};
+use log_run::run_with_log;
 use near::names_near;
 use plain::decrypts;
-use sqlcipher_tool::{Refusal, Status, run};
+use schema_names::NearName;
+use sqlcipher_tool::{Refusal, Status, profile_with_log, run};
 use std::alloc::{AllocError, Global};
 use std::process::ExitCode;
 use std::{env, io};
@@ -160,6 +166,54 @@ fn print(rt: &HostRuntime, text: &str) -> Status
     }
 }
 
+// A command over the file and its log, of which nothing is changed, and the names that are near that of a `find`.
+fn serve_with_log<'a>(
+    rt: &HostRuntime,
+    words: &[&str],
+    input: &mut InputSource,
+    out: &mut OutputSink,
+    entropy: &mut DeviceEntropy,
+    profile: Profile,
+    disk: FolderDisk<'a>,
+) -> (FolderDisk<'a>, Status, Option<Vec<NearName>>)
+    requires listed { IsListed profile }
+    requires asked { viewed_by (form (texts words.now)) ≡ Some profile }
+    ensures { EndsCommand (texts words.now) result.1 }
+{
+    let (status, seen) = run_with_log(rt.alloc(), profile, words, input, out, entropy, disk);
+    match seen {
+        Ok(mut view) => {
+            let near = names_near(rt, status, words, &input.line, entropy, &mut view);
+            (view.into_disk(), status, near)
+        }
+        Err(disk) => (disk, status, None),
+    }
+}
+
+// The same, over the file alone or with its log, as the words ask for it.
+fn serve_files<'a>(
+    rt: &HostRuntime,
+    words: &[&str],
+    input: &mut InputSource,
+    out: &mut OutputSink,
+    entropy: &mut DeviceEntropy,
+    with_log: Option<Profile>,
+    mut disk: FolderDisk<'a>,
+) -> (FolderDisk<'a>, Status, Option<Vec<NearName>>)
+    requires listed { IfSome with_log IsListed }
+    requires asked { with_log ≡ viewed_by (form (texts words.now)) }
+    ensures { EndsCommand (texts words.now) result.1 }
+{
+    match with_log {
+        Some(profile) => serve_with_log(rt, words, input, out, entropy, profile, disk),
+        None => {
+            let status = run(rt.alloc(), words, input, out, entropy, &mut disk);
+            let near = names_near(rt, status, words, &input.line, entropy, &mut disk);
+            (disk, status, near)
+        }
+    }
+}
+
 // A command on the file, and what is to be said of it. The clauses are those of `run` that go by the words alone.
 fn serve(rt: &HostRuntime, file: &str, words: &[&str]) -> Status
     ensures usage { AreNoWords (texts words.now) → EndsAs Status.Usage result }
@@ -174,21 +228,25 @@ fn serve(rt: &HostRuntime, file: &str, words: &[&str]) -> Status
     };
     let progress = Progress::new(rt);
     let is_probe = words.first() == Some(&"probe");
-    let Ok(mut disk) = FolderDisk::new(rt, &paths, &progress, is_probe) else {
+    let with_log = profile_with_log(words);
+    let Ok(mut files) = FolderDisk::new(rt, &paths, &progress, is_probe, with_log.is_some()) else {
         return out_of_memory(rt);
     };
-    disk.folder.is_decrypting = decrypts(words);
+    files.folder.is_decrypting = decrypts(words);
     let is_play = words.first() == Some(&"play");
     let mut input = InputSource::new(rt, is_play, prompt_of(words));
     let mut out = OutputSink::new(rt, &progress);
     let mut entropy = DeviceEntropy::new(rt);
     let alloc = rt.alloc();
-    let status = run(alloc, words, &mut input, &mut out, &mut entropy, &mut disk);
-    let near = if status == Status::Refused(Refusal::NoTable) {
-        names_near(rt, words, &input.line, &mut entropy, &mut disk)
-    } else {
-        None
-    };
+    let (mut disk, status, near) = serve_files(
+        rt,
+        words,
+        &mut input,
+        &mut out,
+        &mut entropy,
+        with_log,
+        files,
+    );
     progress.clear();
     disk.folder.settle();
     let failure = match status {

@@ -1,24 +1,34 @@
 // The names that are near that of `find`, where there is no table of it: on standard error, since the answer is given.
+ghost use Rattle.std.specs.Prelude.{IsTrue};
+ghost use Rattle.sqlcipher_tool.specs.Opening.{AreRecovered};
+
 use crate::plain::is_plain_word;
 use cipher_profile::{Secret, read_key};
-use edge_files::{DeviceEntropy, FolderDisk, KeptLine, KeyLine, Shown, say};
+use edge_files::{DeviceEntropy, KeptLine, KeyLine, Shown, say};
+use edge_model::Disk;
 use schema_names::{NearName, SchemaKind};
-use sqlcipher_tool::near_names;
+use sqlcipher_tool::{Refusal, Status, near_names};
 use std::str;
 
 const NO_TABLE: &str =
     "the schema has no table of this name whose rows have rowids: a name is compared byte for byte, case and all; a view has no rows of \
     its own, and those of an index or of a WITHOUT ROWID table have no rowids: for these use `export`, which shows every name";
 
-/// The names of the schema that are that of these words of `find` but for case. The key line is that of the run, and the files are
-/// read as it left them. Where the names can't be had there are none, which is no fault of the run.
-pub fn names_near(
+/// Where a `find` ended for want of its table, the names of the schema that are that of its words but for case. The key line is that of
+/// the run, and the files are read as it left them. Where the names can't be had there are none, which is no fault of the run.
+pub fn names_near<D: Disk>(
     rt: &HostRuntime,
+    status: Status,
     words: &[&str],
     line: &KeyLine,
     entropy: &mut DeviceEntropy,
-    disk: &mut FolderDisk,
-) -> Option<Vec<NearName>> {
+    disk: &mut D,
+) -> Option<Vec<NearName>>
+    requires { IsTrue D.tells → AreRecovered (D.reads disk.old) (D.images disk.old) }
+{
+    if status != Status::Refused(Refusal::NoTable) {
+        return None;
+    }
     let version = words.get(1).copied().unwrap_or("");
     let secret = if is_plain_word(version) {
         Secret::NoKey

@@ -3,7 +3,8 @@ ghost use Rattle.std.specs.Prelude.{◌≡◌};
 ghost use Rattle.sqlcipher_cli.specs.Plain.{decrypts, encrypts, names_plain};
 ghost use Rattle.sqlcipher_tool.specs.Words.{texts};
 
-use cipher_profile::{Profile, profile_of};
+use crate::log_advice::setting_of;
+use cipher_profile::{Profile, profile_of, profile_with_setting};
 use edge_files::{PlainHead, say};
 use std::fmt::Display;
 
@@ -25,6 +26,15 @@ pub const LOG: &str =
     "close the programs that use the database, and `sqlite3 FILE 'PRAGMA journal_mode = DELETE'` takes the log into the file; a log that is \
     another file's has to be moved away";
 
+/// How a file gets out of WAL mode.
+pub const LOG_MODE: &str =
+    "it stays in WAL mode until it is told otherwise: close the programs that use it, and give \
+    `sqlite3 FILE 'PRAGMA journal_mode = DELETE'`; of a copy, FILE-wal has to lie beside it";
+
+/// How a file gets rid of its pages for auto-vacuum.
+pub const VACUUM: &str =
+    "without auto-vacuum: on a copy of FILE give `sqlite3 FILE 'PRAGMA auto_vacuum = 0; VACUUM'`";
+
 /// Why a plain file has no tags.
 pub const NO_TAGS: &str = "a plain file has no tags: `verify` checks its structure";
 
@@ -36,7 +46,7 @@ const RESERVED: &str =
 pub fn is_plain_word(word: &str) -> bool
     ensures { result ≡ names_plain word.now }
 {
-    match profile_of(word) {
+    match profile_with_setting(word) {
         Some(profile) => profile.is_plain(),
         None => false,
     }
@@ -88,8 +98,9 @@ fn of_size(size: u32) -> Option<Profile> {
 }
 
 /// Says how a plain file is served, under which the key of an encrypted one was refused.
-pub fn explain_unencrypted(rt: &HostRuntime, head: PlainHead) {
+pub fn explain_unencrypted(rt: &HostRuntime, word: &str, head: PlainHead) {
     let begins = "the file begins with `SQLite format 3`";
+    let setting = setting_of(word);
     let reserve = head.reserve;
     match profile_at(head) {
         Some(profile) if reserve == 0 => {
@@ -97,7 +108,7 @@ pub fn explain_unencrypted(rt: &HostRuntime, head: PlainHead) {
             say(
                 rt,
                 format_args!(
-                    "{begins}: it is not encrypted. Give plain:{size} in the place of the version, and no key; `migrate plain:{size} 4` \
+                    "{begins}: it is not encrypted. Give plain:{size}{setting} in the place of the version, and no key; `migrate plain:{size} 4` \
                     encrypts it"
                 ),
             );
@@ -116,9 +127,9 @@ pub fn explain_unencrypted(rt: &HostRuntime, head: PlainHead) {
 }
 
 /// Says what a field of a plain file's header means for its owner.
-pub fn explain_header(rt: &HostRuntime, offset: u32, found: u32) {
+pub fn explain_header(rt: &HostRuntime, word: &str, offset: u32, found: u32) {
     match (offset, sized(found)) {
-        (16, Some(profile)) => explain_size(rt, profile.page_size),
+        (16, Some(profile)) => explain_size(rt, word, profile.page_size),
         (16, None) => say(
             rt,
             "its header names no size of pages that SQLite has: the file is damaged",
@@ -137,19 +148,20 @@ pub fn explain_other_size(rt: &HostRuntime, word: &str, head: Option<PlainHead>)
         Some(head) => profile_at(head),
         None => None,
     };
-    match (profile_of(word), found) {
+    match (profile_with_setting(word), found) {
         (Some(given), Some(profile)) if given.page_size != profile.page_size => {
-            explain_size(rt, profile.page_size);
+            explain_size(rt, word, profile.page_size);
             true
         }
         _ => false,
     }
 }
 
-fn explain_size(rt: &HostRuntime, size: u32) {
+fn explain_size(rt: &HostRuntime, word: &str, size: u32) {
+    let setting = setting_of(word);
     say(
         rt,
-        format_args!("the pages of this file have {size} bytes: give plain:{size}"),
+        format_args!("the pages of this file have {size} bytes: give plain:{size}{setting}"),
     );
 }
 
@@ -167,23 +179,6 @@ pub fn explain_journal(rt: &HostRuntime, found: u32) {
             format_args!("{beside}, and no file has such pages; {unwritten}"),
         ),
     }
-}
-
-/// Says how a file gets out of WAL mode.
-pub fn explain_log_mode(rt: &HostRuntime) {
-    say(
-        rt,
-        "the file is in WAL mode, and stays so until it is told otherwise: close the programs that use it, and give \
-        `sqlite3 FILE 'PRAGMA journal_mode = DELETE'`; of a copy, FILE-wal has to lie beside it",
-    );
-}
-
-/// Says how a file gets rid of its pages for auto-vacuum.
-pub fn explain_vacuum(rt: &HostRuntime) {
-    say(
-        rt,
-        "a file with auto-vacuum is not served: on a copy of FILE give `sqlite3 FILE 'PRAGMA auto_vacuum = 0; VACUUM'`",
-    );
 }
 
 /// Says how to tell which of two files it is after `migrate`, where one of them is plain.

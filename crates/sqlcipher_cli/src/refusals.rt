@@ -1,6 +1,7 @@
 // What is said of a refusal beside its line: which word, journal or copy cures it.
 use crate::advice::Ended;
 use crate::key_words::missing_key;
+use crate::log_advice::{is_log_explained, say_reader};
 use crate::near::explain_names;
 use crate::plain::{self, is_plain_word};
 use cipher_profile::probed_profiles;
@@ -46,13 +47,19 @@ const INDEXES_DIFFER: &str =
     "the rows are as `export` prints them; the indexes are not theirs: on a copy of the file SQL's `REINDEX` makes them anew from the rows, and \
     `find` shows the row of a rowid";
 
+const IN_LOG_MODE: &str = "the file as it is";
+
+const WITH_MAPS: &str = "a file with auto-vacuum as it is";
+
 const SCRIPT_FORMS: &str =
     "a step is `open S PROFILE KEY`, `share S`, `read S N AT`, `reserve S`, `change S N AT BYTE`, `rekey S PROFILE KEY`, `commit S`, \
     `release S` or `stop`, its words parted by one space; --help says what they are";
 
 /// Says what the line of a refusal leaves open.
 pub fn explain_refusal(rt: &HostRuntime, run: &Ended, refusal: Refusal, folder: &mut Folder) {
-    if is_plain_word(run.version()) && is_plain_explained(rt, run.version(), refusal, folder) {
+    if is_log_explained(rt, run, refusal)
+        || is_plain_word(run.version()) && is_plain_explained(rt, run, refusal, folder)
+    {
         return;
     }
     match refusal {
@@ -60,7 +67,7 @@ pub fn explain_refusal(rt: &HostRuntime, run: &Ended, refusal: Refusal, folder: 
         Refusal::LayoutDiffers => say(rt, other_layout(run.words)),
         Refusal::NoTable => explain_names(rt, run.words, run.near.as_slice()),
         Refusal::JournalPageSize { found } => explain_journal(rt, run.version(), found, folder),
-        Refusal::WalMode | Refusal::AutoVacuum => explain_mode(rt, run.version()),
+        Refusal::WalMode | Refusal::AutoVacuum => explain_mode(rt, run),
         Refusal::ScriptLine { line } => say(
             rt,
             format_args!("line {line} of the script is no step: {SCRIPT_FORMS}"),
@@ -108,12 +115,18 @@ fn other_layout(words: &[&str]) -> &'static str {
 }
 
 // Whether a refusal of a plain file was explained otherwise than one of an encrypted file. The word is that of its profile.
-fn is_plain_explained(rt: &HostRuntime, word: &str, refusal: Refusal, folder: &mut Folder) -> bool {
+fn is_plain_explained(
+    rt: &HostRuntime,
+    run: &Ended,
+    refusal: Refusal,
+    folder: &mut Folder,
+) -> bool {
+    let word = run.version();
     match refusal {
         Refusal::NoTags => say(rt, plain::NO_TAGS),
-        Refusal::HeaderFault { offset, found } => plain::explain_header(rt, offset, found),
-        Refusal::WalMode => plain::explain_log_mode(rt),
-        Refusal::AutoVacuum => plain::explain_vacuum(rt),
+        Refusal::HeaderFault { offset, found } => plain::explain_header(rt, word, offset, found),
+        Refusal::WalMode => explain_plain_mode(rt, run, IN_LOG_MODE, plain::LOG_MODE),
+        Refusal::AutoVacuum => explain_plain_mode(rt, run, WITH_MAPS, plain::VACUUM),
         Refusal::Short { .. } => return plain::explain_other_size(rt, word, folder.plain_head()),
         _ => return false,
     }
@@ -152,8 +165,16 @@ fn explain_journal_pages(rt: &HostRuntime, found: u32) {
     }
 }
 
+// A plain file that has a log's mode, or pointer-map pages.
+fn explain_plain_mode(rt: &HostRuntime, run: &Ended, what: &str, cure: &str) {
+    say_reader(rt, run, what);
+    say(rt, cure);
+}
+
 // A file that has a log's mode, or pointer-map pages, or both.
-fn explain_mode(rt: &HostRuntime, version: &str) {
+fn explain_mode(rt: &HostRuntime, run: &Ended) {
+    let version = run.version();
+    say_reader(rt, run, "a file in WAL mode or with auto-vacuum");
     match version.strip_prefix("4:") {
         Some(size) => say_mode(rt, format_args!("PRAGMA cipher_page_size = {size}; ")),
         None => say_mode(
@@ -167,8 +188,8 @@ fn say_mode<D: Display + Drop>(rt: &HostRuntime, settings: D) {
     say(
         rt,
         format_args!(
-            "a file in WAL mode or with auto-vacuum is not served: on a copy of FILE, with FILE-wal, give to `sqlcipher` 4: \
-            PRAGMA key = '..'; {settings}PRAGMA journal_mode = DELETE; PRAGMA auto_vacuum = 0; VACUUM;"
+            "without both: on a copy of FILE, with FILE-wal, give to `sqlcipher` 4: PRAGMA key = '..'; \
+            {settings}PRAGMA journal_mode = DELETE; PRAGMA auto_vacuum = 0; VACUUM;"
         ),
     );
 }

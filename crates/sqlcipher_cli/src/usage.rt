@@ -1,5 +1,5 @@
 // Why the words are no command.
-use cipher_profile::profile_of;
+use cipher_profile::profile_with_setting;
 use edge_files::{Shown, say};
 
 /// The commands that take a version and nothing else.
@@ -57,6 +57,7 @@ fn explain_one(rt: &HostRuntime, name: &str, words: &[&str]) {
                 the commands"
             ),
         ),
+        [_, word, ..] if speaks_of_log(word) => explain_version(rt, word),
         _ => say(
             rt,
             format_args!("`{name}` takes a version and nothing else; --help lists the commands"),
@@ -89,8 +90,17 @@ fn explain_form(rt: &HostRuntime, version: Option<&&str>, form: &str) {
 fn explain_version(rt: &HostRuntime, word: &str) {
     let is_sized = word.starts_with("4:");
     let is_plain = word.starts_with("plain");
+    let is_of_log = speaks_of_log(word);
     let word = Shown(word);
-    if is_plain {
+    if is_of_log {
+        say(
+            rt,
+            format_args!(
+                "`{word}` is no version: a file is read with its log under 4:wal, as under 3:wal, 4:8192:wal or plain:4096:wal; --help lists \
+                the commands"
+            ),
+        );
+    } else if is_plain {
         say(
             rt,
             format_args!(
@@ -117,6 +127,11 @@ fn explain_version(rt: &HostRuntime, word: &str) {
     }
 }
 
+// Whether a word was to name the setting of a file that is read with its log.
+fn speaks_of_log(word: &str) -> bool {
+    word.contains("wal") || word.contains("WAL")
+}
+
 fn is_version(word: &str) -> bool {
-    profile_of(word).is_some()
+    profile_with_setting(word).is_some()
 }

@@ -1,0 +1,201 @@
+// What is said of a write-ahead log, and of the setting `:wal`, under which a file is read with it.
+use crate::advice::Ended;
+use crate::plain::{self, is_plain_word};
+use cipher_profile::{Profile, probed_profiles, profile_with_setting};
+use edge_files::{Conflict, Folder, say};
+use edge_model::Role;
+use sqlcipher_tool::{Refusal, Status, profile_with_log};
+
+/// The commands that only read, which the setting is for.
+const READING: [&str; 7] = [
+    "tags", "header", "verify", "export", "agree", "find", "salvage",
+];
+
+const TAKE_IN: &str =
+    "to take the log in, open and close the database with the program that wrote it, or copy FILE and FILE-wal together and do so there; \
+    a log that is another file's has to be moved away";
+
+const ONE_MOMENT: &str =
+    "FILE and FILE-wal are read as of one moment: copy FILE, FILE-wal and FILE-journal together while no program writes, and read the copy";
+
+const LOG_VERSION: &str =
+    "SQLite knows version 3007000 of the log alone, and opens no file beside another one: the log is damaged, or another file's; copy FILE \
+    and FILE-wal together anew";
+
+const LOG_SHORT: &str =
+    "FILE or FILE-wal was cut, or not copied whole, or the log is another file's: copy both together anew";
+
+const LOG_TOO_LARGE: &str =
+    "at most 1,048,576 pages and 4,294,967,295 frames are read with a log: on a copy of FILE and FILE-wal let the program that wrote them take \
+    it in";
+
+const NO_LOG_MADE: &str = "no command writes a log: give the new version without `:wal`";
+
+const OTHER_LOG: &str =
+    "pages of FILE-wal were read in the place of FILE's: it may be another file's log, or of another moment";
+
+const KEY_OF_LOG: &str =
+    "page 1 may be that of FILE-wal, which may have a newer key or be another file's log; `probe` looks at FILE alone";
+
+const LACKS_LOG: &str =
+    "no FILE-wal with a page is beside it: where there was one, FILE is not whole without it, so copy both together";
+
+const UNTAGGED: &str =
+    "pages of FILE-wal were read in the place of FILE's, and these have no tags: a log that is another file's is not noticed";
+
+// Whether a command of this name only reads.
+fn is_reading(name: &str) -> bool {
+    READING.iter().any(|reading| *reading == name)
+}
+
+// The command that reads what these words name: their own, or `export`.
+fn reading_name<'w>(words: &[&'w str]) -> &'w str {
+    let name = words.first().copied().unwrap_or("");
+    if is_reading(name) { name } else { "export" }
+}
+
+/// The setting that a word has, as it is written.
+pub fn setting_of(word: &str) -> &'static str {
+    match profile_with_setting(word) {
+        Some(profile) if profile.reads_log => ":wal",
+        _ => "",
+    }
+}
+
+// The word without its setting.
+fn without_setting(word: &str) -> &str {
+    word.strip_suffix(":wal").unwrap_or(word)
+}
+
+/// Says how a file is read beside whose log, or in whose mode, the words don't serve it.
+pub fn say_reader(rt: &HostRuntime, run: &Ended, what: &str) {
+    let name = reading_name(run.words);
+    let version = run.version();
+    say(
+        rt,
+        format_args!("`{name} {version}:wal` reads {what}, and changes nothing"),
+    );
+}
+
+/// Says what to do about a log, or about a journal or another program where a file is read with its log.
+pub fn explain_log_conflict(rt: &HostRuntime, run: &Ended, conflict: Conflict) {
+    let cure = if is_plain_word(run.version()) {
+        plain::LOG
+    } else {
+        TAKE_IN
+    };
+    match conflict {
+        Conflict::Log if run.words.first() == Some(&"make") => say(rt, cure),
+        Conflict::Log => {
+            say_reader(rt, run, "the file with its log");
+            say(rt, cure);
+        }
+        Conflict::HotJournal => say(
+            rt,
+            format_args!(
+                "SQLite plays the journal back first, and reads the log then: on a copy of the files move FILE-wal away, if it is there, give \
+                `recover {}`, put FILE-wal back, and give this command again",
+                without_setting(run.version())
+            ),
+        ),
+        Conflict::Changed | Conflict::Replaced if profile_with_log(run.words).is_some() => {
+            say(rt, ONE_MOMENT);
+        }
+        _ => {}
+    }
+}
+
+/// Says what the line of a refusal leaves open, where it is one of a log. Answers whether it is.
+pub fn is_log_explained(rt: &HostRuntime, run: &Ended, refusal: Refusal) -> bool {
+    match refusal {
+        Refusal::OnlyRead => explain_only_read(rt, run),
+        Refusal::LogPageSize { found } => explain_log_pages(rt, run.version(), found),
+        Refusal::LogVersion { .. } => say(rt, LOG_VERSION),
+        Refusal::LogShort { .. } => say(rt, LOG_SHORT),
+        Refusal::LogTooLarge => say(rt, LOG_TOO_LARGE),
+        _ => return false,
+    }
+    true
+}
+
+// A command that changes a file, or makes one, under the setting.
+fn explain_only_read(rt: &HostRuntime, run: &Ended) {
+    let version = without_setting(run.version());
+    match run.words {
+        ["make", ..] => say(rt, NO_LOG_MADE),
+        ["migrate" | "rekey", old, _] if setting_of(old).is_empty() => say(rt, NO_LOG_MADE),
+        _ => say(
+            rt,
+            format_args!(
+                "`export {version}:wal` reads it. To change it, on a copy of FILE and FILE-wal let the program that wrote them take the log in \
+                with `PRAGMA journal_mode = DELETE`, and give {version}"
+            ),
+        ),
+    }
+}
+
+// A log whose pages have another size than those of the version that was given.
+fn explain_log_pages(rt: &HostRuntime, version: &str, found: u32) {
+    let beside = "the log has pages of another size: it is another file's, or";
+    if is_plain_word(version) {
+        say(
+            rt,
+            format_args!("{beside} the file is of plain:{found}:wal"),
+        );
+    } else if found == 1024 {
+        say(
+            rt,
+            format_args!(
+                "{beside} the file is of 3:wal, 2:wal, 1:wal or 4:1024:wal, and `probe` finds which"
+            ),
+        );
+    } else if is_size_of_4(found) {
+        say(rt, format_args!("{beside} the file is of 4:{found}:wal"));
+    } else {
+        say(rt, format_args!("{beside} of a plain file"));
+    }
+}
+
+fn is_size_of_4(found: u32) -> bool {
+    probed_profiles()
+        .iter()
+        .any(|profile| profile.page_size == found)
+}
+
+/// Says what the log, or the want of one, may have to do with how a run over both ended.
+pub fn explain_view(rt: &HostRuntime, run: &Ended, folder: &mut Folder) {
+    let Some(profile) = profile_with_log(run.words) else {
+        return;
+    };
+    if run.status == Status::DiskFault && run.failure.is_none() {
+        say(rt, ONE_MOMENT);
+    }
+    if let Some(words) = said_of_view(run.status, profile, has_log(folder)) {
+        say(rt, words);
+    }
+}
+
+fn said_of_view(status: Status, profile: Profile, has_log: bool) -> Option<&'static str> {
+    match status {
+        Status::Done if has_log && profile.tag_len == 0 => Some(UNTAGGED),
+        Status::KeyRefused if has_log => Some(KEY_OF_LOG),
+        Status::Refused(Refusal::PageTag { .. } | Refusal::Defect(_)) => Some(if has_log {
+            OTHER_LOG
+        } else {
+            LACKS_LOG
+        }),
+        Status::Refused(Refusal::HeaderFault { .. }) if has_log => Some(OTHER_LOG),
+        Status::Refused(Refusal::Short { .. } | Refusal::Ragged { .. }) if !has_log => Some(
+            LACKS_LOG,
+        ),
+        _ => None,
+    }
+}
+
+// Whether there is a byte of a log, which has the role of a journal in such a run.
+fn has_log(folder: &mut Folder) -> bool {
+    match folder.length(Role::Journal) {
+        Ok(Some(length)) => length > 0,
+        _ => false,
+    }
+}
