@@ -6,10 +6,11 @@
 # SQLite locks bytes of the file itself (fcntl): the pending byte at 2^30, the reserved one behind it, and 510 shared ones. The lock that
 # is taken here belongs to the open file and not to the process (Linux, F_OFD_SETLK): it conflicts with SQLite's as another process's
 # would, lasts through exec, and is not lost when the program closes another descriptor of the file. A command that only reads takes it
-# shared where there is no journal and no log, so that others go on reading; every other one takes all of it. Where others have it for two
-# seconds, or it can't be had, the program starts without it. SQLCIPHER_TOOL_LOCK says which: the number of the open file, or `refused`.
-# The program believes the number only where /proc shows the lock on the file that it has open itself. No module is used, so that perl
-# alone is enough.
+# shared where there is no journal and no log, so that others go on reading; every other one takes all of it. Under the setting `:wal` it is
+# always shared: the log is read and no journal is played back, and a program that has the file open in WAL mode holds it shared itself. FILE
+# is opened for reading alone then, which is enough for a shared lock. Where others have the lock for two seconds, or it can't be had, the
+# program starts without it. SQLCIPHER_TOOL_LOCK says which: the number of the open file, or `refused`. The program believes the number only
+# where /proc shows the lock on the file that it has open itself. No module is used, so that perl alone is enough.
 use strict;
 
 # Linux on x86-64: the calls of fcntl, its kinds of locks, two errors; SQLite's bytes; and two seconds.
@@ -31,6 +32,7 @@ my %changes = map { $_ => 1 } qw(recover stamp rekey migrate play);
 
 my ($program, @words) = @ARGV;
 my ($file, $command) = @words;
+my $with_log = @words > 2 && $words[2] =~ /:wal\z/;
 delete $ENV{SQLCIPHER_TOOL_LOCK};
 
 sub become_program {
@@ -61,20 +63,22 @@ sub take {
     return $done;
 }
 
-# Whether a shared lock will do: nothing is beside the file that would be played back. The links of FILE are followed.
+# Whether a shared lock will do: nothing beside the file would be played back. The links of FILE are followed.
 sub is_reading {
     my ($handle) = @_;
     return 0 unless $reads{$command};
+    return 1 if $with_log;
     my $path = readlink '/proc/self/fd/' . fileno $handle;
     return defined $path && !-e "$path-journal" && !-s "$path-wal";
 }
 
-become_program() unless @words > 1 && ($reads{$command} || $changes{$command}) && -f $file;
+# (a command that changes is refused under the setting before it opens the file)
+become_program() unless @words > 1 && ($reads{$command} || $changes{$command} && !$with_log) && -f $file;
 my $opened;
-open($opened, '+<', $file) || $reads{$command} && open($opened, '<', $file) || become_program();
+!$with_log && open($opened, '+<', $file) || $reads{$command} && open($opened, '<', $file) || become_program();
 # (a number above those of the standard streams, which may be closed, and one that is kept open by exec)
 my $number = fcntl($opened, F_DUPFD, 10) || become_program();
-open(my $handle, '+<&=', $number) || become_program();
+open(my $handle, $with_log ? '<&=' : '+<&=', $number) || become_program();
 fcntl($handle, F_SETFD, 0) || become_program();
 close $opened;
 
