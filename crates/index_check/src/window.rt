@@ -31,14 +31,15 @@ pub(crate) struct Window {
 }
 
 impl Window {
-    // None yet.
-    fn new(alloc: Global, above: Option<i64>) -> Window
+    // None yet. The list has room for all that come.
+    fn new(rowids: Vec<i64>, above: Option<i64>) -> Window
+        requires { rowids.items ≡ [] }
         ensures window { IsWindow [] result }
         ensures above { result.above ≡ above }
     {
         Window {
             above,
-            rowids: Vec::new(alloc),
+            rowids,
             more: false,
             rows: 0,
         }
@@ -118,7 +119,12 @@ pub(crate) fn read_window<S: PageSource>(
         Err(_) => return Err(WalkError::OutOfMemory),
         Ok(cursor) => cursor,
     };
-    let mut window = Window::new(alloc, above);
+    // Taken at once: a list that grows has its old and its new place for a moment.
+    let rowids = match Vec::with_capacity(alloc, ROOM) {
+        Err(_) => return Err(WalkError::OutOfMemory),
+        Ok(rowids) => rowids,
+    };
+    let mut window = Window::new(rowids, above);
     'entries: loop {
         match cursor.advance(source, &mut seen) {
             Err(error) => return Err(error),
