@@ -36,6 +36,8 @@ pub struct Ended<'r, 'f> {
     pub failure: Option<Failure<'f>>,
     /// The names that are near that of `find`, where there is no table of it.
     pub near: Vec<NearName>,
+    /// Whether page 1 is the log's, and has another salt than FILE.
+    pub has_other_salt: bool,
 }
 
 impl<'r, 'f> Ended<'r, 'f> {

@@ -37,6 +37,10 @@ const OTHER_LOG: &str =
 const KEY_OF_LOG: &str =
     "page 1 may be that of FILE-wal, which may have a newer key or be another file's log; `probe` looks at FILE alone";
 
+const OTHER_SALT: &str =
+    "page 1 was read from FILE-wal, and its salt is not FILE's: the log is another file's, and then so are the rows, or page 1 of FILE is damaged; \
+    SQLCipher itself refuses the key";
+
 const LACKS_LOG: &str =
     "no FILE-wal with a page is beside it: where there was one, FILE is not whole without it, so copy both together";
 
@@ -170,7 +174,9 @@ pub fn explain_view(rt: &HostRuntime, run: &Ended, folder: &mut Folder) {
     if run.status == Status::DiskFault && run.failure.is_none() {
         say(rt, ONE_MOMENT);
     }
-    if let Some(words) = said_of_view(run.status, profile, has_log(folder)) {
+    if run.has_other_salt && !profile.is_plain() {
+        say(rt, OTHER_SALT);
+    } else if let Some(words) = said_of_view(run.status, profile, has_log(folder)) {
         say(rt, words);
     }
 }

@@ -27,6 +27,7 @@ use cipher_profile::Profile;
 use edge_files::{
     DeviceEntropy, FolderDisk, InputSource, OutputSink, Paths, Progress, StandIns, failed, say,
 };
+use edge_model::{Disk, Role};
 use key_words::{explain_session_key, prompt_of};
 use log_run::run_with_log;
 use near::names_near;
@@ -166,7 +167,33 @@ fn print(rt: &HostRuntime, text: &str) -> Status
     }
 }
 
-// A command over the file and its log, of which nothing is changed, and the names that are near that of a `find`.
+// How a command ended, and what standard error says of it beside.
+#[derive(Drop)]
+struct Served {
+    status: Status,
+    // the names that are near that of a `find`, where there is no table of it
+    near: Option<Vec<NearName>>,
+    // whether page 1 is the log's, and has another salt than Main
+    has_other_salt: bool,
+}
+
+// The first 16 bytes of Main, which are the salt of an encrypted file, where it has them.
+fn salt_of<D: Disk>(disk: &mut D) -> Option<[u8; 16]> {
+    let mut salt = [0u8; 16];
+    match disk.read_at(Role::Main, 0, &mut salt) {
+        Ok(16) => Some(salt),
+        _ => None,
+    }
+}
+
+fn differ(first: Option<[u8; 16]>, second: Option<[u8; 16]>) -> bool {
+    match (first, second) {
+        (Some(first), Some(second)) => first.as_slice() != second.as_slice(),
+        _ => false,
+    }
+}
+
+// A command over the file and its log, of which nothing is changed.
 fn serve_with_log<'a>(
     rt: &HostRuntime,
     words: &[&str],
@@ -175,18 +202,32 @@ fn serve_with_log<'a>(
     entropy: &mut DeviceEntropy,
     profile: Profile,
     disk: FolderDisk<'a>,
-) -> (FolderDisk<'a>, Status, Option<Vec<NearName>>)
+) -> (FolderDisk<'a>, Served)
     requires listed { IsListed profile }
     requires asked { viewed_by (form (texts words.now)) ≡ Some profile }
-    ensures { EndsCommand (texts words.now) result.1 }
+    ensures { EndsCommand (texts words.now) result.1.status }
 {
     let (status, seen) = run_with_log(rt.alloc(), profile, words, input, out, entropy, disk);
     match seen {
         Ok(mut view) => {
             let near = names_near(rt, status, words, &input.line, entropy, &mut view);
-            (view.into_disk(), status, near)
+            let salt = salt_of(&mut view);
+            let mut disk = view.into_disk();
+            let served = Served {
+                status,
+                near,
+                has_other_salt: differ(salt_of(&mut disk), salt),
+            };
+            (disk, served)
         }
-        Err(disk) => (disk, status, None),
+        Err(disk) => {
+            let served = Served {
+                status,
+                near: None,
+                has_other_salt: false,
+            };
+            (disk, served)
+        }
     }
 }
 
@@ -199,17 +240,22 @@ fn serve_files<'a>(
     entropy: &mut DeviceEntropy,
     with_log: Option<Profile>,
     mut disk: FolderDisk<'a>,
-) -> (FolderDisk<'a>, Status, Option<Vec<NearName>>)
+) -> (FolderDisk<'a>, Served)
     requires listed { IfSome with_log IsListed }
     requires asked { with_log ≡ viewed_by (form (texts words.now)) }
-    ensures { EndsCommand (texts words.now) result.1 }
+    ensures { EndsCommand (texts words.now) result.1.status }
 {
     match with_log {
         Some(profile) => serve_with_log(rt, words, input, out, entropy, profile, disk),
         None => {
             let status = run(rt.alloc(), words, input, out, entropy, &mut disk);
             let near = names_near(rt, status, words, &input.line, entropy, &mut disk);
-            (disk, status, near)
+            let served = Served {
+                status,
+                near,
+                has_other_salt: false,
+            };
+            (disk, served)
         }
     }
 }
@@ -238,7 +284,7 @@ fn serve(rt: &HostRuntime, file: &str, words: &[&str]) -> Status
     let mut out = OutputSink::new(rt, &progress);
     let mut entropy = DeviceEntropy::new(rt);
     let alloc = rt.alloc();
-    let (mut disk, status, near) = serve_files(
+    let (mut disk, served) = serve_files(
         rt,
         words,
         &mut input,
@@ -249,6 +295,7 @@ fn serve(rt: &HostRuntime, file: &str, words: &[&str]) -> Status
     );
     progress.clear();
     disk.folder.settle();
+    let status = served.status;
     let failure = match status {
         Status::DiskFault => disk.last,
         Status::OutputFault => out.last,
@@ -261,7 +308,8 @@ fn serve(rt: &HostRuntime, file: &str, words: &[&str]) -> Status
         path: file,
         words,
         failure,
-        near: near.unwrap_or(Vec::new(alloc)),
+        near: served.near.unwrap_or(Vec::new(alloc)),
+        has_other_salt: served.has_other_salt,
     };
     advice::explain(rt, &run, &input, &mut disk.folder);
     if status == Status::Done && words.first() == Some(&"salvage") {
