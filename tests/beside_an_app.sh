@@ -15,7 +15,8 @@ trials=${1:-40}
 seed=${2:-7}
 
 . "$top/tests/others.sh"
-grep -q . /proc/locks 2> /dev/null || { leave_out "all of it, since /proc/locks is not there or has nothing"; finish; }
+# (the table is empty while nobody has a lock)
+flock "$scratch" grep -q . /proc/locks 2> /dev/null || { leave_out "all of it, since /proc/locks is not there or has nothing"; finish; }
 needs sqlcipher
 
 write_database 3 "$k1" "$scratch/file" 200

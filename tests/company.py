@@ -7,7 +7,7 @@ Each kind of trial is made at every STRIDE-th call of each command (12 where it 
 without it. With the lock nothing may be lost. Without it nothing may be lost but where an app comes between the look before a write and the
 note behind it; how many of those trials lose the file is printed, and it is the figure of the README's limits. PROGRAM names another program.
 """
-import os, random, re, shutil, signal, subprocess, sys, tempfile, time
+import fcntl, os, random, re, shutil, signal, subprocess, sys, tempfile, time
 
 TOP = os.path.dirname(os.path.dirname(os.path.abspath(__file__)))
 PROGRAM = os.path.abspath(os.environ.get("PROGRAM", os.path.join(TOP, "out", "sqlcipher-tool")))
@@ -405,16 +405,23 @@ def starts(box, base):
     return f"{took[1] - took[0]:.0f} ms a start"
 
 
+def shows_locks(path):
+    """Whether the system's table shows a lock that is taken here; it may be empty while nobody has one."""
+    with open(path, "w") as locked, open("/proc/locks") as locks:
+        fcntl.lockf(locked, fcntl.LOCK_EX)
+        return bool(locks.read())
+
+
 def main():
     for name in ("sqlcipher", "strace", "perl"):
         if not shutil.which(name):
             print(f"left out: all of it, since {name} is missing")
             return 77
-    if not open("/proc/locks").read():
-        print("left out: all of it, since /proc/locks has nothing")
-        return 77
     box = tempfile.mkdtemp()
     try:
+        if not shows_locks(os.path.join(box, "locked")):
+            print("left out: all of it, since /proc/locks has nothing")
+            return 77
         base, other = os.path.join(box, "base.db"), os.path.join(box, "other.db")
         product(base, OLD, "CREATE TABLE t(id INTEGER PRIMARY KEY, b BLOB); CREATE TABLE app(x); "
                 "WITH RECURSIVE n(i) AS (SELECT 1 UNION ALL SELECT i + 1 FROM n WHERE i < 40) INSERT INTO t SELECT i, randomblob(300) FROM n;")

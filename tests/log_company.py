@@ -8,7 +8,6 @@ place. Each is tried at every STRIDE-th read (20 where it is not given), with SQ
 that of before or that of afterwards, or to end with status 4; what the other program committed is there. PROGRAM names another program.
 """
 import contextlib
-import fcntl
 import io
 import os
 import shutil
@@ -17,7 +16,7 @@ import sys
 import tempfile
 
 import company
-from company import OLD, RANDOM, Run, calls_of, count, counts, given, product, run
+from company import OLD, RANDOM, Run, calls_of, count, counts, given, product, run, shows_locks
 
 STRIDE = int(sys.argv[1]) if len(sys.argv) > 1 else 20
 REPORTS = (["export", "3:wal"], ["find", "3:wal", "t", "1", "40"], ["verify", "3:wal"], ["salvage", "3:wal"])
@@ -172,12 +171,6 @@ def found_wrong(box, base):
     counts.update(counted)
     if not is_found:
         say("a program that ends with 0 each time is not found wrong")
-
-
-def shows_locks(path):
-    with open(path, "w") as locked, open("/proc/locks") as locks:
-        fcntl.lockf(locked, fcntl.LOCK_EX)
-        return bool(locks.read())
 
 
 def main():
