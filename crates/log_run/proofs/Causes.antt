@@ -1,6 +1,7 @@
--- A view that is not opened for a fault of the disk: no log is answered so by its bytes.
-use Rattle.std.proofs.Common.{◌≡◌, ◌==◌, ℕ, Bool, true, false, not, List, length, Option, Some, None, Result, Ok, Err, refl}
+-- A fault of the disk. A view that is not opened for one: no log is answered so by its bytes.
+use Rattle.std.proofs.Common.{arith, ◌≡◌, ◌+◌, ◌≤◌, ◌==◌, ℕ, Bool, true, false, not, List, length, Option, Some, None, Result, Ok, Err, refl}
 use Rattle.std.specs.Prelude.{if◌then◌else◌}
+use Rattle.edge_model.specs.Causes.{Rose}
 use Rattle.edge_model.specs.Files.{Files, bytes_of}
 use Rattle.log_format.specs.Header.{log_page_size, log_version}
 use Rattle.log_format.specs.Logs.{committed_frames}
@@ -46,3 +47,7 @@ disk_alone size most files (Short pages) due stop = cc stop
 disk_alone size most files LogCut due stop = absurd due
 disk_alone size most files ViewFails due stop = refl
 disk_alone size most files ViewMemory due stop = cc stop
+
+-- a count that rose behind the opening of a view rose over that of the disk that was given
+pub rose_view : (given below refused now : ℕ) → given ≤ below → refused ≡ 0 → Rose (below + refused) now → Rose given now
+rose_view given below refused now later none rose = omega (arith, later, none, rose)

@@ -1,5 +1,5 @@
 -- One frame more in an index.
-use Rattle.std.proofs.Common.{◌≡◌, ℕ, zero, suc, ◌+◌, ◌-◌, ◌<◌, ◌≤◌, max, Bool, true, false, ◌&&◌, ◌==◌, nat_le, if◌then◌else◌, List, ◌∷◌, refl, sym, ◌∙◌, ap, arith}
+use Rattle.std.proofs.Common.{◌≡◌, ℕ, suc, ◌+◌, ◌-◌, ◌<◌, ◌≤◌, max, Bool, true, false, ◌&&◌, ◌==◌, nat_le, if◌then◌else◌, List, ◌∷◌, refl, sym, ◌∙◌, ap, arith}
 use Rattle.journal_format.specs.Records.{Record}
 use Rattle.log_format.specs.Frames.{frame_page}
 use Rattle.log_format.specs.Logs.{frame_bytes_at, record_of, records_from, within}

@@ -1,6 +1,5 @@
 -- A table of the last frames leads to each byte of a view.
-use Rattle.std.proofs.Common.{◌≡◌, ◌⊎◌, inl, inr, ℕ, zero, suc, ◌+◌, ◌-◌, ◌*◌, ◌/◌, ◌%◌, ◌<◌, ◌≤◌, min, max, Bool, true, false, ◌&&◌, ◌==◌, nat_lt, if◌then◌else◌, List, [], length, take, get_or, Option, Some, None, unwrap_or, refl, sym, ◌∙◌, ap, subst, arith}
-use Rattle.std.proofs.lemmas.Bool.Decides.{nat_tests}
+use Rattle.std.proofs.Common.{◌≡◌, ◌⊎◌, inl, inr, ℕ, zero, suc, ◌+◌, ◌-◌, ◌*◌, ◌/◌, ◌%◌, ◌<◌, ◌≤◌, max, Bool, true, false, ◌&&◌, ◌==◌, nat_lt, if◌then◌else◌, List, [], length, take, get_or, Option, Some, None, unwrap_or, refl, sym, ◌∙◌, ap, subst, arith}
 use Rattle.std.proofs.lemmas.List.{get_or-take, get_or_past, length-take}
 use Rattle.std.proofs.lemmas.Nat.{div_below, mod_below}
 use Rattle.edge_model.specs.Files.{File, Files, bytes_of, contents, length_of, main_of, with_file_bytes}
@@ -17,7 +16,7 @@ use Rattle.log_recovery.specs.Opened.{is_over, log_end, opened_by_log}
 use Rattle.log_recovery.proofs.Kept.{over_is}
 use Rattle.log_recovery.proofs.MainSteps.{log_taken}
 use Rattle.log_recovery.proofs.Sized.{logged_sized}
-use Rattle.log_view.specs.View.{IsHeldByLog, IsIndexed, IsTable, ReachesEnd, last_frame, looked, through, viewed}
+use Rattle.log_view.specs.View.{IsHeldByLog, IsIndexed, IsTable, ReachesEnd, last_frame, looked, viewed}
 use Rattle.log_view.proofs.Lookup.{lookup, order}
 use Rattle.log_view.proofs.Places.{split}
 

@@ -1,13 +1,12 @@
 -- Of the pages that a log gives, the last one of a number counts.
-use Rattle.std.proofs.Common.{◌≡◌, ◌≢◌, ◌⊎◌, inl, inr, ℕ, zero, suc, ◌+◌, ◌-◌, ◌*◌, ◌/◌, ◌%◌, ◌<◌, ◌≤◌, max, Bool, true, false, ◌&&◌, ◌==◌, nat_le, if◌then◌else◌, List, [], ◌∷◌, ◌++◌, length, take, drop, replicate, get_or, refl, sym, ◌∙◌, ap, subst, arith, length-append}
+use Rattle.std.proofs.Common.{◌≡◌, ◌≢◌, ◌⊎◌, inl, inr, ℕ, zero, suc, ◌+◌, ◌-◌, ◌<◌, ◌≤◌, Bool, true, false, ◌&&◌, ◌==◌, nat_le, if◌then◌else◌, List, [], ◌∷◌, length, drop, get_or, refl, sym, ◌∙◌, ap, subst, arith}
 use Rattle.std.proofs.lemmas.Bool.Decides.{nat_tests}
 use Rattle.std.proofs.lemmas.List.{get_or-take, get_or-drop}
 use Rattle.std.proofs.lemmas.Nat.{row_fits}
 use Rattle.edge_model.specs.Files.{written}
-use Rattle.journal_format.specs.Records.{Record}
 use Rattle.log_format.specs.Frames.{frame_image, frame_page}
 use Rattle.log_format.specs.Logs.{frame_bytes_at, frame_start, record_of, records_from, within}
-use Rattle.log_format.proofs.Whole.{and_first, and_second, image_length, le_is, start_le}
+use Rattle.log_format.proofs.Whole.{and_first, image_length, le_is, start_le}
 use Rattle.rollback_journal.specs.Laying.{laid, page_start, IsGivenByte}
 use Rattle.rollback_journal.proofs.Laid.{laid_keeps, written_byte}
 use Rattle.log_view.specs.View.{last_frame, looked}

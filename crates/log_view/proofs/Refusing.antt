@@ -2,30 +2,30 @@
 use Rattle.std.proofs.Common.{◌≡◌, Result, Ok, Err, IfErr, sym, ℕ, ◌∙◌, subst}
 use Rattle.std.specs.Result.{IsErrAnd}
 use Rattle.edge_model.specs.Files.{Files}
-use Rattle.log_recovery.specs.Laying.{log_of, IsReadingOfLog}
+use Rattle.log_recovery.specs.Laying.{log_of, IsReadingOfLog, IsTaken}
 use Rattle.log_recovery.specs.declared.laying.LogReading.{LogReading}
 use Rattle.log_view.specs.Refused.{IsIndexRefused, IsTableRefused, IsViewRefused}
 use Rattle.log_view.specs.declared.opening.ViewError.{ViewError}
 use Rattle.log_view.specs.declared.opening.ViewError.TheVariants.{Log, TooLarge, TooLong, Short, LogCut, DiskFault, OutOfMemory}
 
-pub table_view : (most : ℕ) (reading : LogReading) (files : Files) (why : ViewError) → IsReadingOfLog reading (log_of files) → IsTableRefused reading most why
-    → IsViewRefused reading.page_size most files why
-table_view most reading files (Log why) read is = absurd is
-table_view most reading files (TooLarge pages) read is = (is.0 ∙ read.pages, is.1)
-table_view most reading files (TooLong frames) read is = (is.0 ∙ read.frames, is.1)
-table_view most reading files (Short pages) read is = absurd is
-table_view most reading files LogCut read is = absurd is
-table_view most reading files DiskFault read is = tt
-table_view most reading files OutOfMemory read is = tt
+pub table_view : (most : ℕ) (reading : LogReading) (files : Files) (why : ViewError) → IsTaken reading.page_size files → IsReadingOfLog reading (log_of files)
+    → IsTableRefused reading most why → IsViewRefused reading.page_size most files why
+table_view most reading files (Log why) taken read is = absurd is
+table_view most reading files (TooLarge pages) taken read is = (taken, is.0 ∙ read.pages, is.1)
+table_view most reading files (TooLong frames) taken read is = (taken, is.0 ∙ read.frames, is.1)
+table_view most reading files (Short pages) taken read is = absurd is
+table_view most reading files LogCut taken read is = absurd is
+table_view most reading files DiskFault taken read is = tt
+table_view most reading files OutOfMemory taken read is = tt
 
-pub index_view : (size most : ℕ) (files : Files) (why : ViewError) → IsIndexRefused size files why → IsViewRefused size most files why
-index_view size most files (Log why) is = absurd is
-index_view size most files (TooLarge pages) is = absurd is
-index_view size most files (TooLong frames) is = absurd is
-index_view size most files (Short pages) is = is
-index_view size most files LogCut is = absurd is
-index_view size most files DiskFault is = tt
-index_view size most files OutOfMemory is = absurd is
+pub index_view : (size most : ℕ) (files : Files) (why : ViewError) → IsTaken size files → IsIndexRefused size files why → IsViewRefused size most files why
+index_view size most files (Log why) taken is = absurd is
+index_view size most files (TooLarge pages) taken is = absurd is
+index_view size most files (TooLong frames) taken is = absurd is
+index_view size most files (Short pages) taken is = (taken, is.0, is.1)
+index_view size most files LogCut taken is = absurd is
+index_view size most files DiskFault taken is = tt
+index_view size most files OutOfMemory taken is = absurd is
 
 pub table_no_fault : (most : ℕ) (reading : LogReading) (why : ViewError) → IsTableRefused reading most why → why ≡ DiskFault → ⊥
 table_no_fault most reading why refused is = subst (λ (w : ViewError). IsTableRefused reading most w) is refused

@@ -1,8 +1,8 @@
--- Why a file is not read through its log.
-use Rattle.std.specs.Prelude.{ℕ, ◌≡◌, ◌<◌, ◌≤◌, ◌^◌, Err}
+-- When a file is read through its log, and why it is not.
+use Rattle.std.specs.Prelude.{ℕ, ◌≡◌, ◌⊎◌, ◌<◌, ◌≤◌, ◌^◌, Err, IsOk}
 use Rattle.edge_model.specs.Files.{Files}
 use Rattle.log_format.specs.Logs.{committed_frames, logged_count}
-use Rattle.log_recovery.specs.Laying.{log_of}
+use Rattle.log_recovery.specs.Laying.{log_of, IsTaken}
 use Rattle.log_recovery.specs.Opened.{log_answer_to}
 use Rattle.log_recovery.specs.declared.laying.LogReading.{LogReading}
 use Rattle.log_view.specs.View.{ReachesEnd}
@@ -32,9 +32,21 @@ IsIndexRefused size files OutOfMemory = ⊥
 -- Each refusal is due to the files, but for a fault and want of memory. While they are looked at no log is cut.
 abbrev pub IsViewRefused : ℕ → ℕ → Files → ViewError → Type 0
 IsViewRefused size most files (Log why) = log_answer_to size files ≡ Err why
-IsViewRefused size most files (TooLarge pages) = (pages ≡ logged_count size (log_of files)) × (most < pages)
-IsViewRefused size most files (TooLong frames) = (frames ≡ committed_frames size (log_of files)) × (2 ^ 32 ≤ frames)
-IsViewRefused size most files (Short pages) = (pages ≡ logged_count size (log_of files)) × (ReachesEnd size files → ⊥)
+IsViewRefused size most files (TooLarge pages) = IsTaken size files × (pages ≡ logged_count size (log_of files)) × (most < pages)
+IsViewRefused size most files (TooLong frames) = IsTaken size files × (frames ≡ committed_frames size (log_of files)) × (2 ^ 32 ≤ frames)
+IsViewRefused size most files (Short pages) = IsTaken size files × (pages ≡ logged_count size (log_of files)) × (ReachesEnd size files → ⊥)
 IsViewRefused size most files LogCut = ⊥
 IsViewRefused size most files DiskFault = Unit {0}
 IsViewRefused size most files OutOfMemory = Unit {0}
+
+-- No refusal is due to the files: the log is one that would be laid, or it holds nothing, or is not there. Where it would be laid, its
+-- database has at most so many pages, of which the last is there, and it has less than 2^32 frames.
+pub record IsViewTaken (size most : ℕ) (files : Files) : Type 0 where
+  pub answer : IsOk (log_answer_to size files)
+  pub pages : IsTaken size files → logged_count size (log_of files) ≤ most
+  pub frames : IsTaken size files → committed_frames size (log_of files) < 2 ^ 32
+  pub end : IsTaken size files → ReachesEnd size files
+
+-- it is a refusal that is due to no file
+abbrev pub IsOutside : ViewError → Type 0
+IsOutside why = (why ≡ DiskFault) ⊎ (why ≡ OutOfMemory)

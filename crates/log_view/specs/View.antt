@@ -1,5 +1,5 @@
 -- What a disk reads as through the log beside its Main. Here Journal is the log. A page size is in bytes, frames are numbered from 0.
-use Rattle.std.specs.Prelude.{ℕ, zero, suc, ◌≡◌, ◌+◌, ◌-◌, ◌*◌, ◌/◌, ◌%◌, ◌<◌, ◌≤◌, max, ◌==◌, if◌then◌else◌, List, get_or, Option, None, length}
+use Rattle.std.specs.Prelude.{ℕ, zero, suc, ◌≡◌, ◌+◌, ◌-◌, ◌/◌, ◌%◌, ◌<◌, ◌≤◌, max, ◌==◌, if◌then◌else◌, List, get_or, None, length}
 use Rattle.edge_model.specs.Files.{Files, bytes_of, main_of, with_file_bytes}
 use Rattle.log_format.specs.Frames.{frame_page}
 use Rattle.log_format.specs.Logs.{frame_bytes_at, frame_start, logged}

@@ -1,6 +1,6 @@
 -- Files through a log have the laws of files.
 use Rattle.std.specs.Prelude.{◌≡◌, ℕ, List, Option, None, Some, refl}
-use Rattle.std.proofs.Common.{sym, subst, ap, ◌∙◌}
+use Rattle.std.proofs.Common.{sym, subst, ◌∙◌}
 use Rattle.edge_model.specs.Files.{File, Files, bytes_of, number_of, with_file_bytes}
 use Rattle.edge_model.specs.Images.{IsNumbered}
 use Rattle.log_recovery.specs.Opened.{opened_by_log}

@@ -6,7 +6,7 @@ ghost use Rattle.edge_model.specs.Images.{Each, LeavesOnly};
 ghost use Rattle.edge_model.specs.OnlyRead.{OnlyRead};
 ghost use Rattle.log_recovery.specs.Finding.{IsLogFound, IsLogRefusable};
 ghost use Rattle.log_recovery.specs.Laying.{log_of, IsLogReading, IsReadingOfLog, IsTaken};
-ghost use Rattle.log_view.specs.Refused.{IsIndexRefused, IsTableRefused, IsViewRefused};
+ghost use Rattle.log_view.specs.Refused.{IsIndexRefused, IsTableRefused, IsViewRefused, IsViewTaken};
 ghost use Rattle.log_view.specs.View.{IsHeldByLog, IsIndexed, ReachesEnd, viewed};
 ghost use Rattle.log_view.specs.declared.opening.ViewError.TheVariants.{DiskFault};
 
@@ -124,6 +124,7 @@ fn index_log<D: Disk>(
 
 /// A table of zeros for the pages of a log, of which there are no more than `most`.
 fn empty_table(alloc: Global, reading: &LogReading, most: u32) -> Result<Vec<u32>, ViewError>
+    ensures most { OnOk result (reading.now.pages ≤ most) }
     ensures few { OnOk result (reading.now.frames < 2 ^ 32) }
     ensures table { IfOk result (λ table. length table.items ≡ reading.now.pages) }
     ensures zeros { IfOk result (λ table. (j : ℕ) → get_or table.items j 0 ≡ 0) }
@@ -159,7 +160,7 @@ fn index_live<D: Disk>(
     ensures len { IfOk result (λ index. IsTrue D.tells → index.len ≡ length_of (viewed reading.now.page_size (D.reads disk.old)).main) }
     ensures indexed { IfOk result (λ index. IsTrue D.tells → IsIndexed reading.now.page_size index.table.items (D.reads disk.old)) }
     ensures held { IfOk result (λ index. IsTrue D.tells → IsHeldByLog reading.now.page_size index.table.items (D.reads disk.old)) }
-    ensures end { OnOk result (IsTrue D.tells → ReachesEnd reading.now.page_size (D.reads disk.old)) }
+    ensures taken { OnOk result (IsTrue D.tells → IsViewTaken reading.now.page_size most (D.reads disk.old)) }
     ensures only { IsTrue D.tells → OnlyRead D.reads D.images D.moment D.since disk.old disk.new }
     ensures refused { IfErr result (λ why. IsTrue D.tells → IsViewRefused reading.now.page_size most (D.reads disk.old) why) }
     ensures later { D.faults disk.old ≤ D.faults disk.new }
@@ -184,7 +185,7 @@ fn index_found<D: Disk>(
     ensures len { IfOk result (λ index. IsTrue D.tells → index.len ≡ length_of (viewed page_size (D.reads disk.old)).main) }
     ensures indexed { IfOk result (λ index. IsTrue D.tells → IsIndexed page_size index.table.items (D.reads disk.old)) }
     ensures held { IfOk result (λ index. IsTrue D.tells → IsHeldByLog page_size index.table.items (D.reads disk.old)) }
-    ensures end { OnOk result (IsTrue D.tells → IsTaken page_size (D.reads disk.old) → ReachesEnd page_size (D.reads disk.old)) }
+    ensures taken { OnOk result (IsTrue D.tells → IsViewTaken page_size most (D.reads disk.old)) }
     ensures only { IsTrue D.tells → OnlyRead D.reads D.images D.moment D.since disk.old disk.new }
     ensures refused { IfErr result (λ why. IsTrue D.tells → IsViewRefused page_size most (D.reads disk.old) why) }
     ensures later { D.faults disk.old ≤ D.faults disk.new }
@@ -218,7 +219,7 @@ pub fn index_pair<D: Disk>(
     ensures len { IfOk result (λ index. IsTrue D.tells → index.len ≡ length_of (viewed page_size (D.reads disk.new)).main) }
     ensures indexed { IfOk result (λ index. IsTrue D.tells → IsIndexed page_size index.table.items (D.reads disk.new)) }
     ensures held { IfOk result (λ index. IsTrue D.tells → IsHeldByLog page_size index.table.items (D.reads disk.new)) }
-    ensures end { OnOk result (IsTrue D.tells → IsTaken page_size (D.reads disk.old) → ReachesEnd page_size (D.reads disk.old)) }
+    ensures taken { OnOk result (IsTrue D.tells → IsViewTaken page_size most (D.reads disk.old)) }
     ensures same { IsTrue D.tells → D.reads disk.new ≡ D.reads disk.old }
     ensures crash { IsTrue D.tells → Each (D.images disk.new) (D.images disk.old) }
     ensures any_moment { IsTrue D.tells → LeavesOnly D.moment D.since disk.old disk.new (D.images disk.old) }

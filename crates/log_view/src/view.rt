@@ -3,9 +3,8 @@ ghost use Rattle.std.specs.Prelude.{◌≡◌, ◌+◌, ◌-◌, ◌^◌, ◌<�
 ghost use Rattle.edge_model.specs.Causes.{HasCause, Rose};
 ghost use Rattle.edge_model.specs.Files.{file_at, length_of};
 ghost use Rattle.edge_model.specs.Images.{Each, LeavesOnly};
-ghost use Rattle.log_recovery.specs.Laying.{IsTaken};
-ghost use Rattle.log_view.specs.Refused.{IsViewRefused};
-ghost use Rattle.log_view.specs.View.{IsHeldByLog, IsIndexed, ReachesEnd, ViewedOf, viewed};
+ghost use Rattle.log_view.specs.Refused.{IsOutside, IsViewRefused, IsViewTaken};
+ghost use Rattle.log_view.specs.View.{IsHeldByLog, IsIndexed, ViewedOf, viewed};
 ghost use Rattle.log_view.specs.ViewLaws.{viewed_numbered};
 
 use crate::opening::{ViewError, index_pair};
@@ -141,12 +140,16 @@ impl<D: Disk + Drop> LogView<D> {
         ensures same { IfOk result (λ v. IsTrue D.tells → D.reads v.disk ≡ D.reads disk) }
         ensures crash { IfOk result (λ v. IsTrue D.tells → Each (D.images v.disk) (D.images disk)) }
         ensures any_moment { IfOk result (λ v. IsTrue D.tells → LeavesOnly D.moment D.since disk v.disk (D.images disk)) }
-        ensures end { OnOk result (IsTrue D.tells → IsTaken page_size (D.reads disk) → ReachesEnd page_size (D.reads disk)) }
+        ensures later { IfOk result (λ v. D.faults disk ≤ D.faults v.disk) }
+        // Ok comes exactly where no refusal is due to the files, but for a fault and want of memory
+        ensures taken { OnOk result (IsTrue D.tells → IsViewTaken page_size most (D.reads disk)) }
+        ensures outside { IfErr result (λ e. IsTrue D.tells → IsViewTaken page_size most (D.reads disk) → IsOutside e.1) }
         // a refusal is due to the files, and leaves them so too
         ensures refused { IfErr result (λ e. IsTrue D.tells → IsViewRefused page_size most (D.reads disk) e.1) }
         ensures fault { IfErr result (λ e. e.1 ≡ ViewError.DiskFault → Rose (D.faults disk) (D.faults e.0)) }
         ensures left_same { IfErr result (λ e. IsTrue D.tells → D.reads e.0 ≡ D.reads disk) }
         ensures left_crash { IfErr result (λ e. IsTrue D.tells → Each (D.images e.0) (D.images disk)) }
+        ensures left_later { IfErr result (λ e. D.faults disk ≤ D.faults e.0) }
         ensures left_moments { IfErr result (λ e. IsTrue D.tells → LeavesOnly D.moment D.since disk e.0 (D.images disk)) }
     {
         let mut disk = disk;

@@ -1,12 +1,10 @@
-use Rattle.std.proofs.Common.{rules, arith, ◌≡◌, ◌∙◌, ℕ, ◌+◌, ◌&&◌, nat_le, if◌then◌else◌, Option, IfSome, IsTrue, ap, subst, refl}
-use Rattle.edge_model.specs.Files.{Files}
-use Rattle.journal_format.specs.Records.{Record}
+use Rattle.std.proofs.Common.{arith, ◌≡◌, ◌∙◌, ℕ, ◌+◌, ◌&&◌, nat_le, if◌then◌else◌, Option, IfSome, IsTrue, ap, subst, refl}
 use Rattle.log_format.specs.Frames.{frame_page}
 use Rattle.log_format.specs.Logs.{frame_bytes_at}
 use Rattle.log_recovery.specs.Laying.{log_of}
 use Rattle.log_recovery.proofs.FrameSteps.{left_none}
 use Rattle.rollback_journal.specs.Laying.{page_start, reach}
-use Rattle.log_view.proofs.IndexSteps.{noted_next, noted_none, reached_next}
+use Rattle.log_view.proofs.IndexSteps.{noted_next, reached_next}
 use Rattle.log_view.proofs.Steps.{then_read}
 use Rattle.log_view.proofs.indexing.index_frames.Goals as goal
 

@@ -1,9 +1,9 @@
-use Rattle.std.proofs.Common.{rules, arith, ◌≡◌, ◌∙◌, ℕ, ◌*◌, ◌≤◌, max, List, length, Option, Some, IfSome, IsTrue, unwrap_or, sym, ap, subst}
+use Rattle.std.proofs.Common.{rules, arith, ◌≡◌, ◌∙◌, ℕ, ◌*◌, ◌≤◌, max, List, length, Option, IfSome, IsTrue, unwrap_or, sym, ap, subst}
 use Rattle.std.proofs.lemmas.List.{take_at}
 use Rattle.edge_model.specs.Files.{Files, length_of}
-use Rattle.log_format.specs.Logs.{committed_frames, logged, logged_count}
+use Rattle.log_format.specs.Logs.{logged, logged_count}
 use Rattle.log_recovery.specs.Laying.{log_of}
-use Rattle.log_view.specs.View.{IsHeldByLog, IsIndexed, IsTable, ReachesEnd}
+use Rattle.log_view.specs.View.{IsHeldByLog, IsIndexed, IsTable}
 use Rattle.log_view.proofs.Indexed.{end_reached, taken_held, taken_indexed, taken_long}
 use Rattle.log_view.proofs.Steps.{then_read}
 use Rattle.rollback_journal.specs.Laying.{reach}

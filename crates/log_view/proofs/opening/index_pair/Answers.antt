@@ -1,9 +1,8 @@
-use Rattle.std.proofs.Common.{rules, arith, ◌≡◌, ◌∙◌, ℕ, List, sym, ap, subst}
+use Rattle.std.proofs.Common.{arith, ◌≡◌, sym, subst}
 use Rattle.edge_model.specs.Files.{Files, length_of}
 use Rattle.log_recovery.specs.Finding.{IsLogFound}
-use Rattle.log_view.specs.Refused.{IsViewRefused}
-use Rattle.log_recovery.specs.Laying.{IsTaken}
-use Rattle.log_view.specs.View.{IsIndexed, ReachesEnd, viewed}
+use Rattle.log_view.specs.Refused.{IsViewRefused, IsViewTaken}
+use Rattle.log_view.specs.View.{IsIndexed, viewed}
 use Rattle.log_view.proofs.Refusing.{err_as}
 use Rattle.log_view.proofs.Steps.{then_leaves}
 use Rattle.log_view.proofs.opening.index_pair.Goals as goal
@@ -42,7 +41,6 @@ returns-in_err-index-clause-fault g c =
     err_as _ c.from_residual-in_err-index.result c.in_err-index.field-0.0 c.from_residual-in_err-index.ensures.1 (λ is.
     omega (arith, c.look.ensures.cause.later, c.in_err-index.ensures.fault is))
 
-pub returns-clause-end : goal.returns-clause-end
-returns-clause-end g c told taken =
-    subst (λ (f : Files). ReachesEnd c.args.page_size f) (c.look.ensures.same told)
-    (c.in_ok-index.ensures.end told (subst (λ (f : Files). IsTaken c.args.page_size f) (sym (c.look.ensures.same told)) taken))
+pub returns-clause-taken : goal.returns-clause-taken
+returns-clause-taken g c told =
+    subst (λ (f : Files). IsViewTaken c.args.page_size c.args.most f) (c.look.ensures.same told) (c.in_ok-index.ensures.taken told)

@@ -1,4 +1,4 @@
-use Rattle.std.proofs.Common.{rules, arith, ◌∙◌, ap}
+use Rattle.std.proofs.Common.{rules}
 use Rattle.log_view.proofs.Places.{main_part, log_part}
 use Rattle.log_view.proofs.reading.read_part.Goals as goal
 
