@@ -28,7 +28,7 @@ sub TURNS () { 40 }
 sub TURN () { 0.05 }
 
 my %reads = map { $_ => 1 } qw(tags header verify export agree find salvage);
-my %changes = map { $_ => 1 } qw(recover stamp rekey migrate play);
+my %changes = map { $_ => 1 } qw(recover settle stamp rekey migrate play);
 
 my ($program, @words) = @ARGV;
 my ($file, $command) = @words;

@@ -10,27 +10,31 @@
 // 5. Where another program came in between, nothing more is called, and behind the run the bytes from before the last writes are put
 //    back where the written ones still stand: the other program may have laid its own over their place earlier.
 // 6. After a change that failed nothing more is called: it may have been done.
+// 7. While a log is laid, the log that is open is the one that was read before: before each write to Main and before the log is removed its name, its
+// length, its time and its header are looked at.
 ghost use Rattle.std.specs.Prelude.{◌≤◌, length, IfOk};
 
-use crate::failure::{Conflict, Failure, called};
+use crate::beside::{SeenLog, has_log, is_hot, remove_index};
+use crate::deeds::Deeds;
+use crate::failure::{Conflict, Failure, called, failed};
 use crate::held_lock::{Held, HeldLock};
 use crate::identity::Mark;
 use crate::lock_table::{LockTable, Sight};
 use crate::paths::Paths;
 use crate::plain_head::{MAGIC, PlainHead};
 use crate::progress::Progress;
+use crate::purpose::Purpose;
 use crate::role_file::RoleFile;
 use crate::standard_error::warn_of_clear_rows;
 use crate::undo::Undo;
 use edge_model::Role;
-use journal_format::{read_header, sector_ok};
 use number_fields::u16_at;
 use std::alloc::AllocError;
-use std::fs::{self, File, Metadata};
+use std::fs::{File, Metadata};
 use std::io::{self, ErrorKind};
 use std::path::PathBuf;
-use std::process;
 use std::time::{Duration, Instant};
+use std::{mem, process};
 
 /// The first sector of a segment of a journal, in bytes. What is written at once and is no longer is no record.
 const SECTOR: usize = 512;
@@ -38,45 +42,26 @@ const SECTOR: usize = 512;
 /// How long a look at the table of locks holds within a change, in milliseconds.
 const HOLDS: u64 = 200;
 
-/// What was done to the files so far, and what was seen beside them.
-#[derive(Clone, Copy)]
-pub struct Deeds {
-    /// How many pages were laid back into Main from a journal that was found.
-    pub laid: u64,
-    /// Whether a journal that was found was removed.
-    pub has_dropped: bool,
-    /// Whether the command began to write to Main itself, beside a journal of its own.
-    pub has_changed: bool,
-    /// Whether the new file was to take Main's place.
-    pub has_renamed: bool,
-    /// Whether another program wrote to Main while a journal of this run stood.
-    pub is_played_back: bool,
-    /// Whether this run's journal was removed, since the file that it is of has no name any more.
-    pub has_dropped_orphan: bool,
-    /// A program that `probe` saw at the file; which process, where that is known.
-    pub other: Option<Option<u64>>,
-    /// Whether `probe` saw a write-ahead log.
-    pub has_log: bool,
-}
-
-/// FILE, FILE-journal and FILE-migrated.
+/// FILE, FILE-journal or FILE-wal, and FILE-migrated.
 #[derive(Drop)]
 pub struct Folder<'a> {
     rt: &'a HostRuntime,
     progress: &'a Progress<'a>,
     path: &'a str,
+    rollback: &'a str,
     log: &'a str,
-    /// Whether the command only looks, so that others at the file do not stand in its way.
-    is_probe: bool,
-    /// Whether the file is read with its log, which has the role Journal then. Nothing is written or synced.
-    reads_log: bool,
-    /// The rollback journal beside it.
-    beside: RoleFile<'a>,
-    /// The log as it was at the first look.
-    log_mark: Option<Mark>,
+    /// The path of the log's index.
+    index: &'a str,
+    purpose: Purpose,
+    /// Whether it was looked for what stands in the way of this purpose.
     is_entered: bool,
+    /// The log as it was at the first look.
+    seen: Option<SeenLog>,
     main: RoleFile<'a>,
+    /// The file that has the role Journal: the rollback journal or the log.
     journal: RoleFile<'a>,
+    /// The other one.
+    beside: RoleFile<'a>,
     fresh: RoleFile<'a>,
     table: LockTable,
     lock: HeldLock,
@@ -111,31 +96,34 @@ impl<'a> Folder<'a> {
         rt: &'a HostRuntime,
         paths: &'a Paths,
         progress: &'a Progress<'a>,
-        is_probe: bool,
-        reads_log: bool,
+        purpose: Purpose,
     ) -> Result<Folder<'a>, AllocError> {
-        let journal = if reads_log {
-            paths.log.as_str()
-        } else {
-            paths.journal.as_str()
-        };
+        let is_only_read = purpose == Purpose::ReadLog;
         let main = paths.main.as_str();
         let barred = match paths.unresolved {
             Some(error) => Some(crate::failure::failed(main, "resolve", error)),
             None => None,
         };
+        let rollback = RoleFile::new(paths.journal.as_str(), barred, false, is_only_read);
+        let log = RoleFile::new(paths.log.as_str(), barred, false, true);
+        let (journal, beside) = if purpose.is_on_log() {
+            (log, rollback)
+        } else {
+            (rollback, log)
+        };
         Ok(Folder {
             rt,
             progress,
             path: paths.folder.as_str(),
+            rollback: paths.journal.as_str(),
             log: paths.log.as_str(),
-            is_probe,
-            reads_log,
-            beside: RoleFile::new(paths.journal.as_str(), barred, false, true),
-            log_mark: None,
+            index: paths.index.as_str(),
+            purpose,
             is_entered: false,
-            main: RoleFile::new(main, barred, true, reads_log),
-            journal: RoleFile::new(journal, barred, false, reads_log),
+            seen: None,
+            main: RoleFile::new(main, barred, true, is_only_read),
+            journal,
+            beside,
             fresh: RoleFile::new(paths.fresh.as_str(), barred, true, false),
             table: LockTable::new(process::id(rt.process())),
             lock: HeldLock::new(rt)?,
@@ -149,25 +137,31 @@ impl<'a> Folder<'a> {
             is_met: false,
             stopped: None,
             due: None,
-            deeds: Deeds {
-                laid: 0,
-                has_dropped: false,
-                has_changed: false,
-                has_renamed: false,
-                is_played_back: false,
-                has_dropped_orphan: false,
-                other: None,
-                has_log: false,
-            },
+            deeds: Deeds::none(),
             is_decrypting: false,
         })
+    }
+
+    /// From now on the run is for this purpose. What is open and locked stays so, and what was seen of the log holds on.
+    pub fn turn_to(&mut self, purpose: Purpose) {
+        if purpose.is_on_log() != self.purpose.is_on_log() {
+            mem::swap(&mut self.journal, &mut self.beside);
+        }
+        self.purpose = purpose;
+        self.is_entered = false;
+        self.gate = None;
+        self.is_laying = false;
     }
 
     pub fn length(&mut self, role: Role) -> Result<Option<u64>, Failure<'a>> {
         self.enter()?;
         match role {
             Role::Main => self.main.length(self.rt),
-            Role::Journal => self.journal.length(self.rt),
+            Role::Journal => {
+                let length = self.journal.length(self.rt)?;
+                self.require_log()?;
+                Ok(length)
+            }
             Role::Fresh => self.fresh.length(self.rt),
         }
     }
@@ -190,7 +184,7 @@ impl<'a> Folder<'a> {
             }
             Role::Fresh => self.fresh.read_at(self.rt, at, buf)?,
         };
-        if role == Role::Journal && !self.reads_log {
+        if role == Role::Journal && !self.purpose.is_on_log() {
             self.is_laying = true;
             if at == 0 && count > 0 {
                 self.gate = buf.first().copied();
@@ -201,7 +195,7 @@ impl<'a> Folder<'a> {
     }
 
     pub fn write_at(&mut self, role: Role, at: u64, bytes: &[u8]) -> Result<(), Failure<'a>> {
-        self.enter()?;
+        self.enter_to_change()?;
         self.progress.add_written(bytes.len(), self.main.known());
         let outcome = match role {
             Role::Main => self.write_main(at, bytes),
@@ -213,7 +207,7 @@ impl<'a> Folder<'a> {
 
     /// Cuts the file where it is longer.
     pub fn cut(&mut self, role: Role, len: u64) -> Result<(), Failure<'a>> {
-        self.enter()?;
+        self.enter_to_change()?;
         let outcome = match role {
             Role::Main => self.cut_main(len),
             Role::Journal => self.journal.cut(self.rt, len),
@@ -224,7 +218,7 @@ impl<'a> Folder<'a> {
 
     pub fn sync(&mut self, role: Role) -> Result<(), Failure<'a>> {
         self.enter()?;
-        if self.reads_log {
+        if self.purpose == Purpose::ReadLog {
             return Ok(());
         }
         let outcome = match role {
@@ -236,7 +230,7 @@ impl<'a> Folder<'a> {
     }
 
     pub fn create(&mut self, role: Role) -> Result<(), Failure<'a>> {
-        self.enter()?;
+        self.enter_to_change()?;
         let model = self.model(role)?;
         let outcome = match role {
             Role::Main => self.create_main(),
@@ -250,9 +244,10 @@ impl<'a> Folder<'a> {
     }
 
     pub fn remove(&mut self, role: Role) -> Result<(), Failure<'a>> {
-        self.enter()?;
+        self.enter_to_change()?;
         let outcome = match role {
             Role::Main => self.remove_main(),
+            Role::Journal if self.purpose == Purpose::LayLog => self.remove_log(),
             Role::Journal => self.remove_journal(),
             Role::Fresh => self.clear_fresh(),
         };
@@ -261,14 +256,14 @@ impl<'a> Folder<'a> {
 
     /// Main is what Fresh was.
     pub fn rename_fresh(&mut self) -> Result<(), Failure<'a>> {
-        self.enter()?;
+        self.enter_to_change()?;
         let outcome = self.publish_fresh();
         self.changed(outcome)
     }
 
     pub fn sync_folder(&mut self) -> Result<(), Failure<'a>> {
         self.enter()?;
-        if self.reads_log {
+        if self.purpose == Purpose::ReadLog {
             return Ok(());
         }
         let outcome = self.sync_names();
@@ -277,7 +272,7 @@ impl<'a> Folder<'a> {
 
     // ---- who else is at the files
 
-    // The first look, before anything else: at FILE-wal, and at who has Main open.
+    // The first look of a run, before anything else: at what stands beside, and of the first run at who has Main open.
     fn enter(&mut self) -> Result<(), Failure<'a>> {
         if let Some(failure) = self.stopped {
             return Err(failure);
@@ -286,12 +281,8 @@ impl<'a> Folder<'a> {
             return Ok(());
         }
         self.main.unbarred()?;
-        if self.reads_log {
-            self.look_for_journal()?;
-        } else {
-            self.look_for_log()?;
-        }
-        if self.main.length(self.rt)?.is_some() {
+        self.look_beside()?;
+        if self.mark.is_none() && self.main.length(self.rt)?.is_some() {
             self.require_main()?;
             self.take_lock_up()?;
             if self.held == Held::Nothing {
@@ -302,6 +293,16 @@ impl<'a> Folder<'a> {
             self.rest()?;
         }
         self.is_entered = true;
+        Ok(())
+    }
+
+    // Before a change. Where the file is read with its log there is none.
+    fn enter_to_change(&mut self) -> Result<(), Failure<'a>> {
+        self.enter()?;
+        if self.purpose == Purpose::ReadLog {
+            let denied = ErrorKind::PermissionDenied.into();
+            return Err(failed(self.main.path(), "write", denied));
+        }
         Ok(())
     }
 
@@ -322,7 +323,7 @@ impl<'a> Folder<'a> {
         };
         match self.lock.on(self.rt, identity) {
             Held::Elsewhere => Err(Failure::of(self.main.path(), Conflict::Replaced)),
-            Held::Refused if !self.is_probe => {
+            Held::Refused if self.purpose != Purpose::Probe => {
                 // The table may tell who has it.
                 self.look()?;
                 let conflict = Conflict::OtherProgram { process: None };
@@ -336,51 +337,43 @@ impl<'a> Folder<'a> {
         }
     }
 
-    // A log with a byte holds pages that are newer than Main's.
-    fn look_for_log(&mut self) -> Result<(), Failure<'a>> {
-        match fs::metadata(self.rt, self.log) {
-            Ok(found) if found.is_file() && found.len() > 0 => {
-                self.deeds.has_log = true;
-                if self.is_probe {
-                    Ok(())
-                } else {
-                    Err(Failure::of(self.log, Conflict::Log))
-                }
-            }
-            Err(error) if error.kind() != ErrorKind::NotFound => called(
-                self.log,
-                "look up",
-                Err(error),
-            ),
-            _ => Ok(()),
-        }
-    }
-
-    // A journal that would be played back comes before the log, and what only reads plays none.
-    fn look_for_journal(&mut self) -> Result<(), Failure<'a>> {
-        if self.beside.length(self.rt)?.is_none() {
-            return Ok(());
-        }
-        let mut head = [0u8; 28];
-        let count = self.beside.read_at(self.rt, 0, &mut head)?;
-        match read_header(&head[..count]) {
-            Some(header) if sector_ok(header.sector) => {
+    // A log with a byte stands in the way of what goes by FILE alone. A journal that would be played back comes before the log, and what only reads
+    // plays none, nor does what lays a log.
+    fn look_beside(&mut self) -> Result<(), Failure<'a>> {
+        match self.purpose {
+            Purpose::RecoverBesideLog => Ok(()),
+            Purpose::ReadLog | Purpose::LayLog if is_hot(self.rt, &mut self.beside)? => {
                 Err(Failure::of(self.beside.path(), Conflict::HotJournal))
             }
-            _ => Ok(()),
+            Purpose::ReadLog | Purpose::LayLog => Ok(()),
+            Purpose::Command | Purpose::Probe => {
+                let is_there = has_log(self.rt, self.log)?;
+                self.deeds.has_log = is_there;
+                if is_there && self.purpose == Purpose::Command {
+                    return Err(Failure::of(self.log, Conflict::Log));
+                }
+                Ok(())
+            }
         }
     }
 
-    // Nobody has written to the log since the first look.
+    // Nobody has written to the log since the first look. Of one that is laid its header is looked at too, since it is removed then.
     fn require_log(&mut self) -> Result<(), Failure<'a>> {
-        if !self.reads_log {
+        if !self.purpose.is_on_log() {
             return Ok(());
         }
-        let mark = self.journal.mark()?;
-        if self.log_mark.is_none() {
-            self.log_mark = mark;
-        }
-        if self.log_mark == mark && self.journal.is_named(self.rt)? {
+        let is_read = self.purpose == Purpose::ReadLog;
+        let is_same = match self.seen {
+            Some(seen) if is_read => seen.is_unwritten(&self.journal)?,
+            Some(seen) => seen.is_same(&SeenLog::of(self.rt, &mut self.journal)?),
+            None if is_read => {
+                self.seen = Some(SeenLog::of(self.rt, &mut self.journal)?);
+                true
+            }
+            // A log that nobody has read is not laid.
+            None => false,
+        };
+        if is_same && self.journal.is_named(self.rt)? {
             return Ok(());
         }
         Err(Failure::of(self.journal.path(), Conflict::Changed))
@@ -447,6 +440,9 @@ impl<'a> Folder<'a> {
     // The journal that is open is still there, and as it was left: a program that has played it back removes it, or empties
     // it, or writes zeros over its head.
     fn require_journal(&mut self) -> Result<(), Failure<'a>> {
+        if self.purpose.is_on_log() {
+            return self.require_log();
+        }
         if self.is_journal_left()? {
             return Ok(());
         }
@@ -484,7 +480,7 @@ impl<'a> Folder<'a> {
             }
             Sight::Held { process } => {
                 self.deeds.other = Some(process);
-                if self.is_probe {
+                if self.purpose == Purpose::Probe {
                     Ok(())
                 } else {
                     let conflict = Conflict::OtherProgram { process };
@@ -522,10 +518,12 @@ impl<'a> Folder<'a> {
         outcome
     }
 
-    // A page from a journal. It is not put back: another program lays the same one.
+    // A page from a journal or from a log. It is not put back: another program lays the same one.
     fn lay_page(&mut self, at: u64, bytes: &[u8]) -> Result<(), Failure<'a>> {
         self.main.write_at(self.rt, at, bytes)?;
-        if self.journal.is_open() && !self.journal.is_made() {
+        if self.purpose == Purpose::LayLog {
+            self.deeds.frames = self.deeds.frames.saturating_add(1);
+        } else if self.journal.is_open() && !self.journal.is_made() {
             self.deeds.laid = self.deeds.laid.saturating_add(1);
         }
         self.note_main()
@@ -642,6 +640,17 @@ impl<'a> Folder<'a> {
         Ok(())
     }
 
+    // The log and its index. The index goes first: a log without it is recovered, and behind a log that is gone nothing would remove it.
+    fn remove_log(&mut self) -> Result<(), Failure<'a>> {
+        self.guard(true)?;
+        self.main.prepare(self.rt)?;
+        remove_index(self.rt, self.index)?;
+        self.journal.remove(self.rt)?;
+        self.seen = Some(SeenLog::none());
+        self.deeds.has_dropped_log = true;
+        Ok(())
+    }
+
     // Once, before the first row is written.
     fn warn_of_clear_rows(&mut self) {
         if self.is_decrypting {
@@ -710,14 +719,22 @@ impl<'a> Folder<'a> {
         self.main.path()
     }
 
-    /// The path of the journal.
+    /// The path of the rollback journal.
     pub fn journal_path(&self) -> &'a str {
-        self.journal.path()
+        self.rollback
     }
 
     /// The path of the write-ahead log.
     pub fn log_path(&self) -> &'a str {
         self.log
+    }
+
+    /// Whether the file was read with a log that has a byte, which stands beside it still.
+    pub fn has_seen_log(&self) -> bool {
+        match self.seen {
+            Some(seen) => seen.has_byte(),
+            None => false,
+        }
     }
 
     /// Whether a journal that this run made was not removed by it.

@@ -2,6 +2,8 @@
 //! is at the files. The traits are those of `edge_model`; the implementations here tell nothing of their bytes.
 #![tactic(auto)]
 
+mod beside;
+mod deeds;
 mod failure;
 mod folder;
 mod folder_disk;
@@ -13,19 +15,22 @@ mod paths;
 mod plain_head;
 mod progress;
 mod prompt;
+mod purpose;
 mod role_file;
 mod standard_error;
 mod streams;
 mod undo;
 
+pub use deeds::Deeds;
 pub use failure::{Conflict, Failure, Shown, failed};
-pub use folder::{Deeds, Folder};
+pub use folder::Folder;
 pub use folder_disk::FolderDisk;
 pub use key_line::{KeptLine, KeyLine};
 pub use paths::Paths;
 pub use plain_head::PlainHead;
 pub use progress::Progress;
 pub use prompt::Prompt;
+pub use purpose::Purpose;
 pub use role_file::LEAST_PAGE;
 pub use standard_error::say;
 pub use streams::{DeviceEntropy, InputSource, OutputSink, StandIns};
