@@ -3,7 +3,7 @@ ghost use Rattle.std.specs.Prelude.{◌≡◌, false};
 
 use Role::{Fresh, Journal, Main};
 use Step::{Create, Cut, Remove, Rename, Sync, SyncFolder, Write};
-use edge_files::{Conflict, DeviceEntropy, FolderDisk, Paths, Progress};
+use edge_files::{Conflict, DeviceEntropy, FolderDisk, Paths, Progress, Purpose};
 use edge_memory::{MemDisk, MemSink, MemSource, SilentDisk};
 use edge_model::{Disk, Failed, Role};
 use sqlcipher_tool::{Status, run};
@@ -30,7 +30,7 @@ fn page(alloc: Global) -> Result<Vec<u8>, Fail> {
 fn answer(rt: &HostRuntime, alloc: Global, path: &str) -> Result<(Status, Vec<u8>), Fail> {
     let paths = Paths::new(rt, path)?;
     let progress = Progress::new(rt);
-    let mut disk = FolderDisk::new(rt, &paths, &progress, false, false)?;
+    let mut disk = FolderDisk::new(rt, &paths, &progress, Purpose::Command)?;
     let mut input = MemSource::new(alloc, KEY, &[])?;
     let mut out = MemSink::new(alloc, &[])?;
     let mut entropy = DeviceEntropy::new(rt);
@@ -123,7 +123,7 @@ fn answers_as_in_memory(
     fs::write(rt, path, b"twelve bytes")?;
     let paths = Paths::new(rt, path)?;
     let progress = Progress::new(rt);
-    let mut real = FolderDisk::new(rt, &paths, &progress, false, false)?;
+    let mut real = FolderDisk::new(rt, &paths, &progress, Purpose::Command)?;
     let inner = MemDisk::with_files(alloc, Some(b"twelve bytes"), None, None);
     let mut told = SilentDisk {
         inner: inner.map_err(|_| AllocError)?,
@@ -134,7 +134,7 @@ fn answers_as_in_memory(
         if outcome.is_err() {
             // After a change that failed nothing more is called.
             assert_eq!(test; real.length(Main), Err(Failed));
-            real = FolderDisk::new(rt, &paths, &progress, false, false)?;
+            real = FolderDisk::new(rt, &paths, &progress, Purpose::Command)?;
         }
         for role in [Main, Journal, Fresh] {
             for at in [0, 6, 30] {
@@ -163,10 +163,10 @@ fn makes_files_as_main(
 ) -> Result<(), Fail> {
     let paths = Paths::new(rt, link)?;
     let progress = Progress::new(rt);
-    let mut disk = FolderDisk::new(rt, &paths, &progress, false, false)?;
+    let mut disk = FolderDisk::new(rt, &paths, &progress, Purpose::Command)?;
     assert_eq!(test; disk.create(Journal), Ok(()));
     assert_eq!(test; disk.create(Journal), Err(Failed));
-    disk = FolderDisk::new(rt, &paths, &progress, false, false)?;
+    disk = FolderDisk::new(rt, &paths, &progress, Purpose::Command)?;
     assert_eq!(test; mode_of(rt, paths.journal.as_str())?, 0o640);
     assert_eq!(test; disk.create(Fresh), Ok(()));
     // A journal beside Main would be played into the new file.
@@ -185,7 +185,7 @@ fn keeps_the_link(test: &impl Abort, rt: &HostRuntime, path: &str, link: &str) -
     fs::remove_file(rt, path)?;
     let paths = Paths::new(rt, link)?;
     let progress = Progress::new(rt);
-    let mut disk = FolderDisk::new(rt, &paths, &progress, false, false)?;
+    let mut disk = FolderDisk::new(rt, &paths, &progress, Purpose::Command)?;
     assert_eq!(test; disk.length(Main), Err(Failed));
     assert_eq!(test; disk.create(Main), Err(Failed));
     Ok(())
@@ -212,7 +212,7 @@ fn refuses(test: &impl Abort, rt: &HostRuntime, path: &str) -> Result<(), Fail> 
     fs::write(rt, path, b"twelve bytes")?;
     let paths = Paths::new(rt, path)?;
     let progress = Progress::new(rt);
-    let mut disk = FolderDisk::new(rt, &paths, &progress, false, false)?;
+    let mut disk = FolderDisk::new(rt, &paths, &progress, Purpose::Command)?;
     let mut buf = [0u8; 10];
     assert_eq!(test; disk.length(Main), Ok(Some(12)));
     fs::write(rt, path, b"twelve")?;
@@ -229,13 +229,13 @@ fn reads_alone(test: &impl Abort, rt: &HostRuntime, path: &str) -> Result<(), Fa
     fs::set_permissions(rt, path, permissions)?;
     let paths = Paths::new(rt, path)?;
     let progress = Progress::new(rt);
-    let mut disk = FolderDisk::new(rt, &paths, &progress, false, false)?;
+    let mut disk = FolderDisk::new(rt, &paths, &progress, Purpose::Command)?;
     // A privileged process may write it all the same.
     let denied = OpenOptions::new().write(true).open(rt, path).is_err();
     assert_eq!(test; disk.write_at(Main, 0, b"x").is_err(), denied);
-    disk = FolderDisk::new(rt, &paths, &progress, false, false)?;
+    disk = FolderDisk::new(rt, &paths, &progress, Purpose::Command)?;
     assert_eq!(test; disk.create(Journal).is_err(), denied);
-    disk = FolderDisk::new(rt, &paths, &progress, false, false)?;
+    disk = FolderDisk::new(rt, &paths, &progress, Purpose::Command)?;
     let journal = if denied { None } else { Some(0) };
     assert_eq!(test; disk.length(Journal), Ok(journal));
     assert_eq!(test; disk.remove(Journal).is_err(), denied);
@@ -248,10 +248,10 @@ fn keeps_others_out(test: &impl Abort, rt: &HostRuntime, path: &str) -> Result<(
     fs::write(rt, path, b"twelve bytes")?;
     let paths = Paths::new(rt, path)?;
     let progress = Progress::new(rt);
-    let mut disk = FolderDisk::new(rt, &paths, &progress, false, false)?;
+    let mut disk = FolderDisk::new(rt, &paths, &progress, Purpose::Command)?;
     assert_eq!(test; disk.length(Main), Ok(Some(12)));
     assert_eq!(test;
-        conflict_at(rt, &paths, &progress, false, false),
+        conflict_at(rt, &paths, &progress, Purpose::Command),
         Some(Conflict::OtherRun)
     );
     fs::write(rt, paths.fresh.as_str(), b"precious")?;
@@ -268,17 +268,17 @@ fn keeps_others_out(test: &impl Abort, rt: &HostRuntime, path: &str) -> Result<(
     assert!(test; disk.last.and_then(|last| last.conflict()) == Some(Conflict::Replaced));
     fs::write(rt, paths.log.as_str(), b"l")?;
     assert_eq!(test;
-        conflict_at(rt, &paths, &progress, false, false),
+        conflict_at(rt, &paths, &progress, Purpose::Command),
         Some(Conflict::Log)
     );
-    assert_eq!(test; conflict_at(rt, &paths, &progress, true, false), None);
+    assert_eq!(test; conflict_at(rt, &paths, &progress, Purpose::Probe), None);
     // With the log it is read, but not beside a journal that would be played back first.
-    assert_eq!(test; conflict_at(rt, &paths, &progress, false, true), None);
+    assert_eq!(test; conflict_at(rt, &paths, &progress, Purpose::ReadLog), None);
     fs::write(rt, paths.journal.as_str(), b"\xd9\xd5\x05\xf9")?;
-    assert_eq!(test; conflict_at(rt, &paths, &progress, false, true), None);
+    assert_eq!(test; conflict_at(rt, &paths, &progress, Purpose::ReadLog), None);
     fs::write(rt, paths.journal.as_str(), HOT)?;
     assert_eq!(test;
-        conflict_at(rt, &paths, &progress, false, true),
+        conflict_at(rt, &paths, &progress, Purpose::ReadLog),
         Some(Conflict::HotJournal)
     );
     fs::remove_file(rt, paths.journal.as_str())?;
@@ -287,14 +287,48 @@ fn keeps_others_out(test: &impl Abort, rt: &HostRuntime, path: &str) -> Result<(
     Ok(())
 }
 
+// The log that was read is laid and removed, and its index with it; one that was written to since is not, nor one that nobody has read.
+fn lays_logs(test: &impl Abort, rt: &HostRuntime, path: &str) -> Result<(), Fail> {
+    fs::write(rt, path, b"twelve bytes")?;
+    let paths = Paths::new(rt, path)?;
+    let progress = Progress::new(rt);
+    fs::write(rt, paths.log.as_str(), [7u8; 40].as_slice())?;
+    fs::write(rt, paths.index.as_str(), b"index")?;
+    let mut disk = FolderDisk::new(rt, &paths, &progress, Purpose::RecoverBesideLog)?;
+    assert_eq!(test; disk.length(Main), Ok(Some(12)));
+    assert_eq!(test; disk.length(Journal), Ok(None));
+    disk.folder.turn_to(Purpose::LayLog);
+    assert_eq!(test; disk.length(Journal), Err(Failed));
+    disk.folder.turn_to(Purpose::ReadLog);
+    assert_eq!(test; disk.length(Journal), Ok(Some(40)));
+    assert_eq!(test; disk.write_at(Main, 0, b"T"), Err(Failed));
+    assert_eq!(test; disk.remove(Journal), Err(Failed));
+    disk.folder.turn_to(Purpose::LayLog);
+    assert_eq!(test; disk.write_at(Main, 0, b"T"), Ok(()));
+    fs::write(rt, paths.log.as_str(), [8u8; 40].as_slice())?;
+    assert_eq!(test; disk.write_at(Main, 0, b"U"), Err(Failed));
+    assert!(test; disk.last.and_then(|last| last.conflict()) == Some(Conflict::Changed));
+    disk = FolderDisk::new(rt, &paths, &progress, Purpose::RecoverBesideLog)?;
+    disk.folder.turn_to(Purpose::ReadLog);
+    assert_eq!(test; disk.length(Journal), Ok(Some(40)));
+    disk.folder.turn_to(Purpose::LayLog);
+    assert_eq!(test; disk.remove(Journal), Ok(()));
+    assert_eq!(test; disk.sync_folder(), Ok(()));
+    assert!(test; !fs::exists(rt, paths.log.as_str())? && !fs::exists(rt, paths.index.as_str())?);
+    disk.folder.turn_to(Purpose::Command);
+    assert_eq!(test; disk.length(Main), Ok(Some(12)));
+    assert_eq!(test; disk.length(Journal), Ok(None));
+    fs::remove_file(rt, path)?;
+    Ok(())
+}
+
 fn conflict_at(
     rt: &HostRuntime,
     paths: &Paths,
     progress: &Progress,
-    is_probe: bool,
-    reads_log: bool,
+    purpose: Purpose,
 ) -> Option<Conflict> {
-    let mut disk = FolderDisk::new(rt, paths, progress, is_probe, reads_log).ok()?;
+    let mut disk = FolderDisk::new(rt, paths, progress, purpose).ok()?;
     let _ = disk.length(Main);
     disk.last?.conflict()
 }
@@ -324,6 +358,7 @@ fn serves_the_files_of_a_folder(rt: HostRuntime) -> Result<(), Fail> {
     refuses(&rt, &rt, path.as_str())?;
     reads_alone(&rt, &rt, path.as_str())?;
     keeps_others_out(&rt, &rt, path.as_str())?;
+    lays_logs(&rt, &rt, path.as_str())?;
     fs::remove_dir(&rt, folder.as_str())?;
     Ok(())
 }

@@ -1,13 +1,18 @@
 -- How a text and a command end.
 use Rattle.std.proofs.Common.{◌≡◌, ◌⊎◌, ⊎_elim, inl, inr, ℕ, ◌≤◌, ◌||◌, Bool, true, false, List, [], ◌∷◌, drop, Option, Some, None, if◌then◌else◌, refl, sym, ap, subst, ◌∙◌, arith}
-use Rattle.std.specs.Prelude.{is_some}
+use Rattle.std.specs.Prelude.{is_some, not}
 use Rattle.std.specs.Borrow.{Bor}
+use Rattle.cipher_profile.specs.Profile.{is_plain}
 use Rattle.cipher_profile.specs.declared.profile.Profile.{Profile}
-use Rattle.sqlcipher_tool.specs.Answer.{code_of}
+use Rattle.sqlcipher_tool.specs.Answer.{IsKeyStatus, IsStopStatus, code_of}
 use Rattle.sqlcipher_tool.specs.Due.{word_refusal}
 use Rattle.sqlcipher_tool.specs.Play.{AreNoWords, DrawsBytes, TakesInput}
+use Rattle.sqlcipher_tool.specs.Promises.{asks_some}
+use Rattle.sqlcipher_tool.specs.Settling.{settled_by, settled_profile}
 use Rattle.sqlcipher_tool.specs.WithLog.{viewed_by}
+use Rattle.sqlcipher_tool.specs.declared.change.Change.TheVariants.{Stamp, Settle, Rekey, Migrate}
 use Rattle.sqlcipher_tool.specs.declared.command.Command.{Command}
+use Rattle.sqlcipher_tool.specs.declared.command.Command.TheVariants.{Probe, Recover, Read, Change as ChangeFile, Make}
 use Rattle.sqlcipher_tool.specs.declared.status.Refusal.{Refusal}
 use Rattle.sqlcipher_tool.specs.Words.{form, profile_with_log, texts}
 use Rattle.sqlcipher_tool.specs.declared.status.Status.{Status}
@@ -117,3 +122,68 @@ ends_with_log words profile status asked no_usage input no_entropy = record {
   where
     no_view : ◌≡◌ {A = Option Profile} None (Some profile) → ⊥
     no_view is = cc is
+
+-- ---- a file that is settled
+
+no_profile : (profile : Profile) → ◌≡◌ {A = Option Profile} None (Some profile) → ⊥
+no_profile profile is = cc is
+
+-- the words are of `settle` and this profile
+record OfSettle (asked : Option Command) (profile : Profile) : Type 0 where
+  frames : ℕ
+  formed : asked ≡ Some (ChangeFile profile (Settle frames))
+  unrefused : word_refusal (ChangeFile profile (Settle frames)) ≡ None
+
+of_itself : (of : Profile) (frames : ℕ) → word_refusal (ChangeFile of (Settle frames)) ≡ None → OfSettle (Some (ChangeFile of (Settle frames))) of
+of_itself of frames unrefused = record { frames = frames; formed = refl; unrefused = unrefused }
+
+of_command : (command : Command) (profile : Profile) → word_refusal command ≡ None → settled_profile command ≡ Some profile → OfSettle (Some command) profile
+of_command Probe profile unrefused is = absurd (no_profile profile is)
+of_command (Recover of) profile unrefused is = absurd (no_profile profile is)
+of_command (Read of reading) profile unrefused is = absurd (no_profile profile is)
+of_command (ChangeFile of (Stamp field value)) profile unrefused is = absurd (no_profile profile is)
+of_command (ChangeFile of (Settle frames)) profile unrefused is =
+    let same : of ≡ profile = cc is in
+    subst (λ (other : Profile). OfSettle (Some (ChangeFile of (Settle frames))) other) same (of_itself of frames unrefused)
+of_command (ChangeFile of (Rekey new)) profile unrefused is = absurd (no_profile profile is)
+of_command (ChangeFile of (Migrate new)) profile unrefused is = absurd (no_profile profile is)
+of_command (Make of rows) profile unrefused is = absurd (no_profile profile is)
+
+of_settle : (asked : Option Command) (profile : Profile) → settled_by asked ≡ Some profile → OfSettle asked profile
+of_settle None profile is = absurd (no_profile profile is)
+of_settle (Some command) profile is = by (word_refusal command) refl is
+  where
+    by : (refusal : Option Refusal) → word_refusal command ≡ refusal → (if is_some refusal then None else settled_profile command) ≡ Some profile
+        → OfSettle (Some command) profile
+    by None unrefused settles = of_command command profile unrefused settles
+    by (Some refusal) refused settles = absurd (no_profile profile settles)
+
+-- where a file is settled, how it ends goes by its profile: of a plain file no key line is read and nothing is drawn
+pub ends_settle : (words : List (List ℕ)) (profile : Profile) (status : Status) → settled_by (form words) ≡ Some profile → (status ≡ Usage → ⊥)
+    → (status ≡ InputFault → is_plain profile ≡ false) → (status ≡ EntropyFault → is_plain profile ≡ false) → EndsCommand words status
+ends_settle words profile status asked no_usage input entropy = record {
+  usage = λ none. absurd (no_profile profile (sym (ap settled_by none.0) ∙ asked));
+  refused = λ command refusal formed is. absurd (no_refusal command refusal formed is);
+  no_usage = λ is. absurd (no_usage is);
+  input_fault = λ is. takes (of_settle (form words) profile asked) (input is);
+  entropy_fault = λ is. draws_some (of_settle (form words) profile asked) (entropy is);
+}
+  where
+    no_refusal : (command : Command) (refusal : Refusal) → form words ≡ Some command → word_refusal command ≡ Some refusal → ⊥
+    no_refusal command refusal formed is =
+        no_profile profile (sym (ap (λ (o : Option Refusal). if is_some o then None else settled_profile command) is) ∙ (sym (ap settled_by formed) ∙ asked))
+
+    takes : OfSettle (form words) profile → is_plain profile ≡ false → TakesInput words
+    takes of keyed = inl (ChangeFile profile (Settle of.frames), of.formed, ap (λ (plain : Bool). asks_some (not plain ∷ false ∷ [])) keyed)
+
+    draws_some : OfSettle (form words) profile → is_plain profile ≡ false → DrawsBytes words
+    draws_some of keyed = inl (ChangeFile profile (Settle of.frames), of.formed, ap not keyed)
+
+pub ends_stopped : (words : List (List ℕ)) (profile : Profile) (status : Status) → settled_by (form words) ≡ Some profile → IsStopStatus status → EndsCommand words status
+ends_stopped words profile status asked end =
+    ends_settle words profile status asked (λ is. subst IsStopStatus is end) (λ is. absurd (subst IsStopStatus is end)) (λ is. absurd (subst IsStopStatus is end))
+
+pub ends_unkeyed : (words : List (List ℕ)) (profile : Profile) (status : Status) → settled_by (form words) ≡ Some profile → IsKeyStatus status → is_plain profile ≡ false
+    → EndsCommand words status
+ends_unkeyed words profile status asked end keyed =
+    ends_settle words profile status asked (λ is. subst IsKeyStatus is end) (λ is. keyed) (λ is. absurd (subst IsKeyStatus is end))

@@ -1,8 +1,10 @@
 // The lines on standard error that say why, or what to do: what was met on the way, how the run ended, and what the files then are.
 use crate::key_words::{explain_key, explain_new_key};
 use crate::log_advice::{explain_log_conflict, explain_view};
+use crate::log_signs::LogSigns;
 use crate::plain::{self, is_plain_word};
 use crate::refusals::explain_refusal;
+use crate::settle_advice::{explain_dead_log, is_part_settled};
 use crate::usage::explain_usage;
 use edge_files::{Conflict, Failure, Folder, InputSource, Shown, say};
 use schema_names::NearName;
@@ -36,8 +38,8 @@ pub struct Ended<'r, 'f> {
     pub failure: Option<Failure<'f>>,
     /// The names that are near that of `find`, where there is no table of it.
     pub near: Vec<NearName>,
-    /// Whether page 1 is the log's, and has another salt than FILE.
-    pub has_other_salt: bool,
+    /// What was seen of the log.
+    pub signs: LogSigns,
 }
 
 impl<'r, 'f> Ended<'r, 'f> {
@@ -69,6 +71,7 @@ pub fn explain(rt: &HostRuntime, run: &Ended, input: &InputSource, folder: &mut 
     explain_playback(rt, run, folder);
     explain_status(rt, run, input, folder);
     explain_view(rt, run, folder);
+    explain_dead_log(rt, run, folder);
     explain_state(rt, run, folder);
     explain_fresh(rt, run, folder);
     if run.status == Status::Done {
@@ -216,6 +219,9 @@ fn explain_state(rt: &HostRuntime, run: &Ended, folder: &Folder) {
         );
         return;
     }
+    if is_part_settled(rt, run, folder) {
+        return;
+    }
     if !matches!(
         run.status,
         Status::DiskFault | Status::OutputFault | Status::EntropyFault
@@ -341,6 +347,13 @@ fn explain_either(rt: &HostRuntime, run: &Ended, folder: &Folder) {
                 `recover {version}`, then `header {version}`"
             ),
         ),
+        ["settle", ..] => say(
+            rt,
+            format_args!(
+                "unless another program changed it meanwhile, the file is whole, its log is laid, and it is out of WAL mode or not: give \
+                `settle {version}` again"
+            ),
+        ),
         ["make", ..] => say(
             rt,
             format_args!("there is no file, or the whole one: `verify {version}` tells which"),
@@ -360,7 +373,10 @@ fn explain_either(rt: &HostRuntime, run: &Ended, folder: &Folder) {
 fn explain_untouched(rt: &HostRuntime, run: &Ended, folder: &Folder) {
     let is_change = matches!(
         run.words,
-        ["rekey" | "migrate" | "stamp" | "make" | "play", ..]
+        [
+            "rekey" | "migrate" | "stamp" | "settle" | "make" | "play",
+            ..
+        ]
     );
     let deeds = folder.deeds;
     if !is_change && run.conflict().is_none() || deeds.laid > 0 && !deeds.has_dropped {

@@ -39,6 +39,12 @@ commands
   recover PROFILE play the journal beside the file back into it and remove it;
                   prints `played: N`, `cold` or `nothing`, and takes no key
                   (every command but `probe` and `make` recovers first)
+  settle PROFILE  check a file in WAL mode with its log, FILE-wal, as `verify` does; lay
+                  the log into it, remove FILE-wal and FILE-shm, and take the file
+                  out of WAL mode, so that every command serves it. Prints
+                  `settled: L log frames, M map pages`. A file with auto-vacuum is
+                  refused. A stop at any moment leaves files that open to the same,
+                  and `settle` again goes on
   stamp PROFILE user-version N
   stamp PROFILE application-id N
                   set this number of the database header, at most 4294967295;

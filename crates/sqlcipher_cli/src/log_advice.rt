@@ -1,10 +1,10 @@
 // What is said of a write-ahead log, and of the setting `:wal`, under which a file is read with it.
 use crate::advice::Ended;
 use crate::plain::{self, is_plain_word};
+use crate::settle_advice::say_settle;
 use cipher_profile::{Profile, probed_profiles, profile_with_setting};
 use edge_files::{Conflict, Folder, say};
-use edge_model::Role;
-use sqlcipher_tool::{Refusal, Status, profile_with_log};
+use sqlcipher_tool::{Refusal, Status, profile_to_settle, profile_with_log};
 
 /// The commands that only read, which the setting is for.
 const READING: [&str; 7] = [
@@ -40,6 +40,12 @@ const KEY_OF_LOG: &str =
 const OTHER_SALT: &str =
     "page 1 was read from FILE-wal, and its salt is not FILE's: the log is another file's, and then so are the rows, or page 1 of FILE is damaged; \
     SQLCipher itself refuses the key";
+
+const OTHER_FILE: &str =
+    "FILE opens by its own salt, and FILE-wal would give it another one: move FILE-wal away, and look for the log that belongs to FILE";
+
+const TORN_PAGE: &str =
+    "page 1 of FILE did not open by itself, so it was damaged, or torn by a stop: the one of FILE-wal took its place";
 
 const LACKS_LOG: &str =
     "no FILE-wal with a page is beside it: where there was one, FILE is not whole without it, so copy both together";
@@ -92,6 +98,7 @@ pub fn explain_log_conflict(rt: &HostRuntime, run: &Ended, conflict: Conflict) {
         Conflict::Log if run.words.first() == Some(&"make") => say(rt, cure),
         Conflict::Log => {
             say_reader(rt, run, "the file with its log");
+            say_settle(rt, run);
             say(rt, cure);
         }
         Conflict::HotJournal => say(
@@ -117,6 +124,7 @@ pub fn is_log_explained(rt: &HostRuntime, run: &Ended, refusal: Refusal) -> bool
         Refusal::LogVersion { .. } => say(rt, LOG_VERSION),
         Refusal::LogShort { .. } => say(rt, LOG_SHORT),
         Refusal::LogTooLarge => say(rt, LOG_TOO_LARGE),
+        Refusal::LogOfOther => say(rt, OTHER_FILE),
         _ => return false,
     }
     true
@@ -127,12 +135,17 @@ fn explain_only_read(rt: &HostRuntime, run: &Ended) {
     let version = without_setting(run.version());
     match run.words {
         ["make", ..] => say(rt, NO_LOG_MADE),
+        ["settle", ..] => say(
+            rt,
+            format_args!(
+                "`settle {version}` takes the log in: the setting is for commands that change nothing"
+            ),
+        ),
         ["migrate" | "rekey", old, _] if setting_of(old).is_empty() => say(rt, NO_LOG_MADE),
         _ => say(
             rt,
             format_args!(
-                "`export {version}:wal` reads it. To change it, on a copy of FILE and FILE-wal let the program that wrote them take the log in \
-                with `PRAGMA journal_mode = DELETE`, and give {version}"
+                "`export {version}:wal` reads it. To change it, give `settle {version}`, which takes the log in, and then this command with {version}"
             ),
         ),
     }
@@ -167,17 +180,38 @@ fn is_size_of_4(found: u32) -> bool {
 }
 
 /// Says what the log, or the want of one, may have to do with how a run over both ended.
-pub fn explain_view(rt: &HostRuntime, run: &Ended, folder: &mut Folder) {
-    let Some(profile) = profile_with_log(run.words) else {
+pub fn explain_view(rt: &HostRuntime, run: &Ended, folder: &Folder) {
+    let Some(profile) = profile_of_pair(run.words) else {
         return;
     };
     if run.status == Status::DiskFault && run.failure.is_none() {
         say(rt, ONE_MOMENT);
     }
-    if run.has_other_salt && !profile.is_plain() {
-        say(rt, OTHER_SALT);
-    } else if let Some(words) = said_of_view(run.status, profile, has_log(folder)) {
+    let has_log = folder.has_seen_log() || folder.deeds.frames > 0;
+    if let Some(words) = said_of_salt(run) {
         say(rt, words);
+    } else if let Some(words) = said_of_view(run.status, profile, has_log) {
+        say(rt, words);
+    }
+}
+
+// What is said where page 1 is the log's, and has another salt than FILE.
+fn said_of_salt(run: &Ended) -> Option<&'static str> {
+    if !run.signs.has_other_salt || run.status == Status::Refused(Refusal::LogOfOther) {
+        return None;
+    }
+    if run.words.first() == Some(&"settle") && run.status == Status::Done {
+        Some(TORN_PAGE)
+    } else {
+        Some(OTHER_SALT)
+    }
+}
+
+// The profile by which these words have a file read with its log.
+fn profile_of_pair(words: &[&str]) -> Option<Profile> {
+    match profile_with_log(words) {
+        None => profile_to_settle(words),
+        profile => profile,
     }
 }
 
@@ -195,13 +229,5 @@ fn said_of_view(status: Status, profile: Profile, has_log: bool) -> Option<&'sta
             LACKS_LOG,
         ),
         _ => None,
-    }
-}
-
-// Whether there is a byte of a log, which has the role of a journal in such a run.
-fn has_log(folder: &mut Folder) -> bool {
-    match folder.length(Role::Journal) {
-        Ok(Some(length)) => length > 0,
-        _ => false,
     }
 }

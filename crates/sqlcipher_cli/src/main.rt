@@ -8,6 +8,7 @@ ghost use Rattle.sqlcipher_cli.specs.Exit.{EndsAs, EndsCommand, EndsOn, ExitsAs,
 ghost use Rattle.sqlcipher_tool.specs.Answer.{code_of};
 ghost use Rattle.sqlcipher_tool.specs.Due.{word_refusal};
 ghost use Rattle.sqlcipher_tool.specs.Play.{AreNoWords, DrawsBytes, TakesInput};
+ghost use Rattle.sqlcipher_tool.specs.Settling.{settled_by};
 ghost use Rattle.sqlcipher_tool.specs.WithLog.{viewed_by};
 ghost use Rattle.sqlcipher_tool.specs.Words.{form, texts};
 ghost use Rattle.sqlcipher_tool.specs.declared.command.Command.{Command as Asked};
@@ -17,23 +18,28 @@ mod advice;
 mod help;
 mod key_words;
 mod log_advice;
+mod log_signs;
 mod near;
 mod plain;
 mod refusals;
+mod settle;
+mod settle_advice;
 mod usage;
 
 use advice::Ended;
 use cipher_profile::Profile;
 use edge_files::{
-    DeviceEntropy, FolderDisk, InputSource, OutputSink, Paths, Progress, StandIns, failed, say,
+    DeviceEntropy, FolderDisk, InputSource, OutputSink, Paths, Progress, Purpose, StandIns, failed,
+    say,
 };
-use edge_model::{Disk, Role};
 use key_words::{explain_session_key, prompt_of};
 use log_run::run_with_log;
+use log_signs::{LogSigns, differ, salt_of};
 use near::names_near;
 use plain::decrypts;
 use schema_names::NearName;
-use sqlcipher_tool::{Refusal, Status, profile_with_log, run};
+use settle::settle_with_log;
+use sqlcipher_tool::{Refusal, Status, profile_to_settle, profile_with_log, run};
 use std::alloc::{AllocError, Global};
 use std::process::ExitCode;
 use std::{env, io};
@@ -173,24 +179,8 @@ struct Served {
     status: Status,
     // the names that are near that of a `find`, where there is no table of it
     near: Option<Vec<NearName>>,
-    // whether page 1 is the log's, and has another salt than Main
-    has_other_salt: bool,
-}
-
-// The first 16 bytes of Main, which are the salt of an encrypted file, where it has them.
-fn salt_of<D: Disk>(disk: &mut D) -> Option<[u8; 16]> {
-    let mut salt = [0u8; 16];
-    match disk.read_at(Role::Main, 0, &mut salt) {
-        Ok(16) => Some(salt),
-        _ => None,
-    }
-}
-
-fn differ(first: Option<[u8; 16]>, second: Option<[u8; 16]>) -> bool {
-    match (first, second) {
-        (Some(first), Some(second)) => first.as_slice() != second.as_slice(),
-        _ => false,
-    }
+    // what was seen of the log
+    signs: LogSigns,
 }
 
 // A command over the file and its log, of which nothing is changed.
@@ -213,10 +203,14 @@ fn serve_with_log<'a>(
             let near = names_near(rt, status, words, &input.line, entropy, &mut view);
             let salt = salt_of(&mut view);
             let mut disk = view.into_disk();
+            let signs = LogSigns {
+                has_other_salt: !profile.is_plain() && differ(salt_of(&mut disk), salt),
+                was_dead: false,
+            };
             let served = Served {
                 status,
                 near,
-                has_other_salt: differ(salt_of(&mut disk), salt),
+                signs,
             };
             (disk, served)
         }
@@ -224,14 +218,14 @@ fn serve_with_log<'a>(
             let served = Served {
                 status,
                 near: None,
-                has_other_salt: false,
+                signs: LogSigns::none(),
             };
             (disk, served)
         }
     }
 }
 
-// The same, over the file alone or with its log, as the words ask for it.
+// The same, over the file alone or with its log, as the words ask for it; or the two are settled.
 fn serve_files<'a>(
     rt: &HostRuntime,
     words: &[&str],
@@ -239,12 +233,32 @@ fn serve_files<'a>(
     out: &mut OutputSink,
     entropy: &mut DeviceEntropy,
     with_log: Option<Profile>,
+    settles: Option<Profile>,
     mut disk: FolderDisk<'a>,
 ) -> (FolderDisk<'a>, Served)
     requires listed { IfSome with_log IsListed }
     requires asked { with_log ≡ viewed_by (form (texts words.now)) }
+    requires settled { IfSome settles IsListed }
+    requires to_settle { settles ≡ settled_by (form (texts words.now)) }
     ensures { EndsCommand (texts words.now) result.1.status }
 {
+    if let Some(profile) = settles {
+        let (disk, settled) = settle_with_log(
+            rt.alloc(),
+            words,
+            input,
+            out,
+            entropy,
+            profile,
+            disk,
+        );
+        let served = Served {
+            status: settled.status,
+            near: None,
+            signs: settled.signs,
+        };
+        return (disk, served);
+    }
     match with_log {
         Some(profile) => serve_with_log(rt, words, input, out, entropy, profile, disk),
         None => {
@@ -253,10 +267,23 @@ fn serve_files<'a>(
             let served = Served {
                 status,
                 near,
-                has_other_salt: false,
+                signs: LogSigns::none(),
             };
             (disk, served)
         }
+    }
+}
+
+// What the first run does to the files.
+fn purpose_of(words: &[&str], reads_log: bool, settles: bool) -> Purpose {
+    if reads_log {
+        Purpose::ReadLog
+    } else if settles {
+        Purpose::RecoverBesideLog
+    } else if words.first() == Some(&"probe") {
+        Purpose::Probe
+    } else {
+        Purpose::Command
     }
 }
 
@@ -273,9 +300,10 @@ fn serve(rt: &HostRuntime, file: &str, words: &[&str]) -> Status
         return out_of_memory(rt);
     };
     let progress = Progress::new(rt);
-    let is_probe = words.first() == Some(&"probe");
     let with_log = profile_with_log(words);
-    let Ok(mut files) = FolderDisk::new(rt, &paths, &progress, is_probe, with_log.is_some()) else {
+    let settles = profile_to_settle(words);
+    let purpose = purpose_of(words, with_log.is_some(), settles.is_some());
+    let Ok(mut files) = FolderDisk::new(rt, &paths, &progress, purpose) else {
         return out_of_memory(rt);
     };
     files.folder.is_decrypting = decrypts(words);
@@ -291,6 +319,7 @@ fn serve(rt: &HostRuntime, file: &str, words: &[&str]) -> Status
         &mut out,
         &mut entropy,
         with_log,
+        settles,
         files,
     );
     progress.clear();
@@ -309,7 +338,7 @@ fn serve(rt: &HostRuntime, file: &str, words: &[&str]) -> Status
         words,
         failure,
         near: served.near.unwrap_or(Vec::new(alloc)),
-        has_other_salt: served.has_other_salt,
+        signs: served.signs,
     };
     advice::explain(rt, &run, &input, &mut disk.folder);
     if status == Status::Done && words.first() == Some(&"salvage") {

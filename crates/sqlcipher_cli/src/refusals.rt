@@ -4,6 +4,7 @@ use crate::key_words::missing_key;
 use crate::log_advice::{is_log_explained, say_reader};
 use crate::near::explain_names;
 use crate::plain::{self, is_plain_word};
+use crate::settle_advice::say_settle;
 use cipher_profile::probed_profiles;
 use edge_files::{Folder, say};
 use sqlcipher_tool::Refusal;
@@ -67,7 +68,11 @@ pub fn explain_refusal(rt: &HostRuntime, run: &Ended, refusal: Refusal, folder: 
         Refusal::LayoutDiffers => say(rt, other_layout(run.words)),
         Refusal::NoTable => explain_names(rt, run.words, run.near.as_slice()),
         Refusal::JournalPageSize { found } => explain_journal(rt, run.version(), found, folder),
-        Refusal::WalMode | Refusal::AutoVacuum => explain_mode(rt, run),
+        Refusal::WalMode => {
+            explain_mode(rt, run);
+            say_settle(rt, run);
+        }
+        Refusal::AutoVacuum => explain_mode(rt, run),
         Refusal::ScriptLine { line } => say(
             rt,
             format_args!("line {line} of the script is no step: {SCRIPT_FORMS}"),
@@ -125,7 +130,10 @@ fn is_plain_explained(
     match refusal {
         Refusal::NoTags => say(rt, plain::NO_TAGS),
         Refusal::HeaderFault { offset, found } => plain::explain_header(rt, word, offset, found),
-        Refusal::WalMode => explain_plain_mode(rt, run, IN_LOG_MODE, plain::LOG_MODE),
+        Refusal::WalMode => {
+            explain_plain_mode(rt, run, IN_LOG_MODE, plain::LOG_MODE);
+            say_settle(rt, run);
+        }
         Refusal::AutoVacuum => explain_plain_mode(rt, run, WITH_MAPS, plain::VACUUM),
         Refusal::Short { .. } => return plain::explain_other_size(rt, word, folder.plain_head()),
         _ => return false,

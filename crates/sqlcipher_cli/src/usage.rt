@@ -3,8 +3,8 @@ use cipher_profile::profile_with_setting;
 use edge_files::{Shown, say};
 
 /// The commands that take a version and nothing else.
-const ON_ONE_VERSION: [&str; 8] = [
-    "tags", "header", "verify", "export", "agree", "salvage", "recover", "play",
+const ON_ONE_VERSION: [&str; 9] = [
+    "tags", "header", "verify", "export", "agree", "salvage", "recover", "settle", "play",
 ];
 
 /// Says what is missing, or which word is none.

@@ -11,7 +11,7 @@ use Rattle.sqlcipher_tool.specs.Holding.{DiskRun, disk_run}
 use Rattle.sqlcipher_tool.specs.Renewal.{Renewal, renewal, renewed_with}
 use Rattle.sqlcipher_tool.specs.Due.{key_lines, word_refusal}
 use Rattle.sqlcipher_tool.specs.declared.change.Change.{Change}
-use Rattle.sqlcipher_tool.specs.declared.change.Change.TheVariants.{Stamp, Rekey, Migrate}
+use Rattle.sqlcipher_tool.specs.declared.change.Change.TheVariants.{Stamp, Settle, Rekey, Migrate}
 use Rattle.sqlcipher_tool.specs.Promises.{asks_some}
 use Rattle.sqlcipher_tool.specs.Words.{alters, changes_layout, is_in_place, is_only_read, lacks_tags, layouts_differ, writes_beside}
 use Rattle.sqlcipher_tool.specs.declared.status.Refusal.TheVariants.{NoTags, LayoutDiffers, OnlyRead}
@@ -113,6 +113,7 @@ same_layout old new is = equal (is_plain old) old.page_size new.page_size old.re
 -- one in place keeps Fresh
 pub change_keeps : (profile : Profile) (change : Change) (run : DiskRun) → (is_in_place change ≡ true → KeepsFresh run) → Keeps (ChangeFile profile change) run
 change_keeps profile (Stamp field value) run fresh = fresh refl
+change_keeps profile (Settle frames) run fresh = fresh refl
 change_keeps profile (Rekey new) run fresh = fresh refl
 change_keeps profile (Migrate new) run fresh = tt
 

@@ -2,7 +2,8 @@
 use Rattle.std.proofs.Common.{◌≡◌, ⊎_elim, inl, inr, ℕ, ℤ, zero, suc, ◌<◌, ◌≤◌, ◌+◌, ◌*◌, ◌/◌, ◌==◌, Bool, true, false, not, List, [], ◌∷◌, length, Option, Some, None, Result, Ok, Err, if◌then◌else◌, unwrap_or, refl, sym, ap, subst, ◌∙◌, rules, arith}
 use Rattle.std.specs.List.{Contains}
 use Rattle.std.proofs.lemmas.Nat.{div_below}
-use Rattle.std.specs.Prelude.{IsOk, find, is_some, nat_le, nat_lt, slice_get}
+use Rattle.db_format.specs.Bytes.{u8_at}
+use Rattle.std.specs.Prelude.{◌&&◌, IsOk, find, is_some, nat_le, nat_lt, slice_get}
 use Rattle.btree_model.proofs.UnmarkedLemmas.{and_left}
 use Rattle.btree_model.specs.Content.{Content}
 use Rattle.btree_model.specs.Parts.{counts}
@@ -10,7 +11,7 @@ use Rattle.cipher_profile.specs.declared.key_line.KeyError.{KeyError}
 use Rattle.cipher_profile.specs.declared.keys.Secret.{Secret}
 use Rattle.cipher_profile.specs.declared.keys.Secret.TheVariants.{Raw, Pass, NoKey}
 use Rattle.cipher_profile.specs.declared.profile.Profile.{Profile}
-use Rattle.cipher_profile.specs.Profile.{IsListed, is_plain, probed_profiles, sqlcipher_1, sqlcipher_2, sqlcipher_3, sqlcipher_4, sqlcipher_4_of, without_log}
+use Rattle.cipher_profile.specs.Profile.{IsListed, is_plain, probed_profiles, sqlcipher_1, sqlcipher_2, sqlcipher_3, sqlcipher_4, sqlcipher_4_of, with_log, without_log}
 use Rattle.cipher_profile.proofs.Layouts.{IsListed-each}
 use Rattle.db_format.specs.Count.{count_of_pages, largest_database}
 use Rattle.db_format.specs.declared.count.CountRefusal.{CountRefusal}
@@ -40,7 +41,7 @@ use Rattle.sqlcipher_tool.specs.Answer.{Answer, IsFault, done, first_answer, key
 use Rattle.sqlcipher_tool.specs.declared.command.Command.{Command}
 use Rattle.sqlcipher_tool.specs.declared.command.Command.TheVariants.{Probe, Recover, Read, Change as ChangeFile, Make}
 use Rattle.sqlcipher_tool.specs.declared.change.Change.{Change}
-use Rattle.sqlcipher_tool.specs.declared.change.Change.TheVariants.{Stamp, Rekey, Migrate}
+use Rattle.sqlcipher_tool.specs.declared.change.Change.TheVariants.{Stamp, Settle, Rekey, Migrate}
 use Rattle.sqlcipher_tool.specs.declared.reading.Job.TheVariants.{Verify, Export, Agree, Find}
 use Rattle.sqlcipher_tool.specs.declared.reading.Reading.{Reading}
 use Rattle.sqlcipher_tool.specs.declared.reading.Reading.TheVariants.{Tags, Header, Salvage, OnPages}
@@ -63,9 +64,11 @@ use Rattle.sqlcipher_tool.specs.Rekey.{rekey_answers}
 use Rattle.sqlcipher_tool.specs.Renewal.{pages_under, renewed}
 use Rattle.sqlcipher_tool.specs.Salvage.{file_pages, salvage_answer, salvage_causes, salvaged_answer}
 use Rattle.sqlcipher_tool.specs.Servable.{AfterRecovery, CanBeServed, ForOne, ForTwo, HasAgreeingIndexes, HasFewPages, HasServablePages, HasTable, HasTags, IsChangeable, IsDoneAlone, IsDoneOrStarved, CanMake, IsProbed, IsReadable, IsServable, NoneRose}
+use Rattle.sqlcipher_tool.specs.Settle.{first_plain, has_maps, marked_answer, settled_answer}
 use Rattle.sqlcipher_tool.specs.Stamp.{stamped_answer}
+use Rattle.sqlcipher_tool.specs.declared.settle.Marks.TheVariants.{Rollback, Wal, Maps}
 use Rattle.sqlcipher_tool.specs.Tags.{file_answer, is_refused, pages_answer, refused_pages, tags_answer, tags_causes}
-use Rattle.sqlcipher_tool.specs.Text.{header_report, made_report, migrated_report, probe_report, recovery_line, rekeyed_report, stamped_report, tags_report, verify_report}
+use Rattle.sqlcipher_tool.specs.Text.{header_report, made_report, migrated_report, probe_report, recovery_line, rekeyed_report, settled_report, stamped_report, tags_report, verify_report}
 use Rattle.sqlcipher_tool.specs.Verify.{opened_answers}
 use Rattle.sqlcipher_tool.specs.Words.{IsServed, plays_with_log}
 use Rattle.sqlcipher_tool.proofs.DoneAnswers.{agree_done, export_done, made_fits, migrate_done, migrate_fits, rekey_done, verify_done}
@@ -383,6 +386,16 @@ make_alone profile rows files free = (made_report rows (total_len rows), none_th
     none_there false true one two = cc
     none_there false false one two = refl
 
+-- of a file that opens and has no pointer-map pages nothing else is due to `settle`
+settle_alone : (frames : ℕ) (first : List ℕ) (opened : Result Opened OpenError) → IsOk opened → has_maps first ≡ false → IsDoneAlone (settled_answer frames first opened ∷ [])
+settle_alone frames first (Err error) opens none = cc
+settle_alone frames first (Ok found) opens none = by_marks (has_maps first) (u8_at first 18 == 1 && u8_at first 19 == 1) none
+  where
+    by_marks : (maps rollback : Bool) → maps ≡ false → IsDoneAlone (marked_answer frames (if maps then Maps else (if rollback then Rollback else Wal)) ∷ [])
+    by_marks true rollback none = cc
+    by_marks false true none = (settled_report frames 0, refl)
+    by_marks false false none = (settled_report frames 0, refl)
+
 -- ---- each command
 
 one_secret : (secrets : List Secret) (P : Secret → Type 0) (answers : Secret → List Answer) → ((secret : Secret) → P secret → IsDoneAlone (answers secret))
@@ -409,6 +422,8 @@ reading_alone (OnPages (Find name low high)) profile secret file served way = fi
 change_alone : (change : Change) (profile : Profile) (first second : Secret) (file after : List ℕ) → IsListed profile → IsChangeable change profile first file
     → IsDoneAlone (change_answers change (renewed profile change first second) file after)
 change_alone (Stamp field value) profile first second file after served way = stamp_alone (opened_with profile first file) way
+change_alone (Settle frames) profile first second file after served way =
+    settle_alone frames (first_plain (keys_of (with_log profile) first file) file) (opened_with (with_log profile) first file) way.opens way.no_maps
 change_alone (Rekey new) profile first second file after served way = rekey_alone profile first file served way
 change_alone (Migrate new) profile first second file after served way =
     migrate_alone profile new first (pages_under new second after) file served way

@@ -9,11 +9,11 @@ use Rattle.cipher_profile.specs.declared.keys.Secret.{Secret}
 use Rattle.cipher_profile.specs.declared.profile.Profile.{Profile}
 use Rattle.cipher_profile.specs.Profile.{IsListed, is_plain}
 use Rattle.page_codec.specs.Page.{FileKeys, codec_salt, enciphered, fits, keys_of, magic, salt_of, sealed}
+use Rattle.pager.specs.Changed.{with_bytes}
 use Rattle.pager.specs.File.{first_page}
-use Rattle.sqlcipher_tool.specs.Stamp.{field_at, next_change, stamped_page, with_field}
-use Rattle.sqlcipher_tool.specs.declared.command.Field.{Field}
+use Rattle.sqlcipher_tool.specs.FirstPage.{changed_page, next_change, with_field}
 use Rattle.sqlcipher_tool.proofs.OpenedParts.{plain_fits}
-use Rattle.sqlcipher_tool.proofs.StampedFields.{field_length}
+use Rattle.sqlcipher_tool.proofs.ChangedFields.{bytes_length, field_length}
 
 -- ---- the salt
 
@@ -54,25 +54,22 @@ pub sealed_plain_file : (keys : FileKeys) (n : ℕ) (plain draw : List ℕ) → 
 unfolding sealed
 sealed_plain_file keys n plain draw is = ap (λ (b : Bool). if b then plain else enciphered keys n plain draw) is
 
--- ---- page 1 with other fields
+-- ---- page 1 with other bytes
 
-field_first : (at value : ℕ) (page : List ℕ) → 16 ≤ at → at + 4 ≤ length page → take 16 (with_field at value page) ≡ take 16 page
-field_first at value page from long =
-    take-append-le 16 (take at page) (to_be_bytes w32 value ++ drop (at + 4) page) (omega (arith, from, long, length-take at page))
+bytes_first : (at : ℕ) (bytes page : List ℕ) → 16 ≤ at → at ≤ length page → take 16 (with_bytes at bytes page) ≡ take 16 page
+bytes_first at bytes page from long =
+    take-append-le 16 (take at page) (bytes ++ drop (at + length bytes) page) (omega (arith, from, long, length-take at page))
     ∙ take-take 16 at page from
 
-pub stamped_first : (field : Field) (value count : ℕ) (plain : List ℕ) → (60 ≤ field_at field) × (field_at field ≤ 68) → 100 ≤ length plain
-    → take 16 (stamped_page field value count plain) ≡ take 16 plain
-stamped_first field value count plain place long = by_change (next_change _)
+pub changed_first : (at : ℕ) (bytes : List ℕ) (count : ℕ) (plain : List ℕ) → 16 ≤ at → at + length bytes ≤ 92 → 100 ≤ length plain
+    → take 16 (changed_page at bytes count plain) ≡ take 16 plain
+changed_first at bytes count plain low high long = by_change (next_change _)
   where
-    at : ℕ
-    at = field_at field
-
     one : List ℕ
-    one = with_field at value plain
+    one = with_bytes at bytes plain
 
     one_long : length one ≡ length plain
-    one_long = field_length at value plain (omega (arith, place.1, long))
+    one_long = bytes_length at bytes plain (omega (arith, high, long))
 
     by_change : (change : ℕ) → take 16 (with_field 92 change (with_field 28 count (with_field 24 change one))) ≡ take 16 plain
     by_change change =
@@ -80,7 +77,7 @@ stamped_first field value count plain place long = by_change (next_change _)
         let two_long : length two ≡ length one = field_length 24 change one (omega (arith, one_long, long)) in
         let three = with_field 28 count two in
         let three_long : length three ≡ length two = field_length 28 count two (omega (arith, two_long, one_long, long)) in
-        field_first 92 change three (omega arith) (omega (arith, three_long, two_long, one_long, long))
-        ∙ (field_first 28 count two (omega arith) (omega (arith, two_long, one_long, long))
-        ∙ (field_first 24 change one (omega arith) (omega (arith, one_long, long))
-        ∙ field_first at value plain (omega (arith, place.0)) (omega (arith, place.1, long))))
+        bytes_first 92 (to_be_bytes w32 change) three (omega arith) (omega (arith, three_long, two_long, one_long, long))
+        ∙ (bytes_first 28 (to_be_bytes w32 count) two (omega arith) (omega (arith, two_long, one_long, long))
+        ∙ (bytes_first 24 (to_be_bytes w32 change) one (omega arith) (omega (arith, one_long, long))
+        ∙ bytes_first at bytes plain low (omega (arith, high, long))))

@@ -1,5 +1,5 @@
 -- Nothing stands in the way of a command that reads a made file, nor of a recovery where no file is.
-use Rattle.std.proofs.Common.{List, ◌≡◌, ℕ, ◌≤◌, ◌*◌, ◌/◌, true, false, [], ◌∷◌, length, Option, Result, refl, sym, ap, subst, ◌∙◌, arith}
+use Rattle.std.proofs.Common.{List, ◌≡◌, ℕ, Bool, Ok, ◌≤◌, ◌*◌, ◌/◌, true, false, [], ◌∷◌, length, Option, Result, refl, sym, ap, subst, ◌∙◌, arith}
 use Rattle.std.proofs.Math.Nat.{mul-div_cancel}
 use Rattle.std.proofs.lemmas.Nat.{le-div}
 use Rattle.std.specs.Prelude.{IsOk, codes, is_ok}
@@ -7,23 +7,25 @@ use Rattle.std.specs.Cmp.Derive.{both_true}
 use Rattle.cipher_profile.specs.declared.keys.Secret.{Secret}
 use Rattle.cipher_profile.specs.declared.keys.Secret.TheVariants.{NoKey}
 use Rattle.cipher_profile.specs.declared.profile.Profile.{Profile}
-use Rattle.cipher_profile.specs.Profile.{IsListed, is_plain, profile_named, sqlcipher_4}
+use Rattle.cipher_profile.specs.Profile.{IsListed, is_plain, profile_named, sqlcipher_4, with_log}
 use Rattle.db_format.specs.Count.{largest_database}
 use Rattle.edge_model.specs.Files.{File, no_files}
 use Rattle.make_job.specs.Made.{IsMade, made_header}
 use Rattle.page_codec.specs.Page.{FileKeys, keys_of}
-use Rattle.pager.specs.File.{whole_pages}
-use Rattle.pager.specs.Opening.{Opened}
+use Rattle.db_format.specs.Header.{header_read, header_read_as}
+use Rattle.pager.specs.File.{page_stored, whole_pages}
+use Rattle.pager.specs.Opening.{Opened, file_opened}
 use Rattle.pager.specs.Pages.{is_page_number}
 use Rattle.pager.specs.declared.opening.OpenError.{OpenError}
 use Rattle.pager.proofs.BatchLemmas.{number_is}
 use Rattle.sqlcipher_tool.specs.declared.command.Command.{Command}
 use Rattle.sqlcipher_tool.specs.declared.command.Command.TheVariants.{Probe, Recover, Read, Change as ChangeFile, Make}
-use Rattle.sqlcipher_tool.specs.declared.change.Change.TheVariants.{Stamp, Rekey, Migrate}
+use Rattle.sqlcipher_tool.specs.declared.change.Change.TheVariants.{Stamp, Settle, Rekey, Migrate}
 use Rattle.sqlcipher_tool.specs.declared.reading.Job.TheVariants.{Verify, Export, Agree, Find}
 use Rattle.sqlcipher_tool.specs.declared.reading.Reading.TheVariants.{Tags, Header, Salvage, OnPages}
 use Rattle.sqlcipher_tool.specs.Opening.{opened_with}
 use Rattle.sqlcipher_tool.specs.Plain.{IsClean}
+use Rattle.sqlcipher_tool.specs.Settle.{CanBeSettled, first_plain, has_maps}
 use Rattle.sqlcipher_tool.specs.Servable.{CanBeServed, HasServablePages, HasTags, IsProbed, IsForAnySize, IsServable, standing}
 use Rattle.sqlcipher_tool.proofs.Completeness.{listed_some}
 use Rattle.sqlcipher_tool.proofs.Databases.{counted_pages}
@@ -31,6 +33,7 @@ use Rattle.sqlcipher_tool.proofs.MadeFile.{made_clean}
 use Rattle.sqlcipher_tool.proofs.Numbers.{le_true}
 use Rattle.sqlcipher_tool.proofs.OpenedParts.{IsOpen, open_parts}
 use Rattle.sqlcipher_tool.proofs.Salvaging.{page_opened}
+use Rattle.sqlcipher_tool.proofs.Unmarked.{file_set, keys_set_of, no_maps, opened_set}
 
 module _ (profile : Profile) (secret : Secret) (rows : ℕ) (file : File) (fresh : Option File) (listed : IsListed profile) (made : IsMade profile secret rows file.bytes) where
   abbrev keys : FileKeys
@@ -70,6 +73,20 @@ module _ (profile : Profile) (secret : Secret) (rows : ℕ) (file : File) (fresh
     fit = both_true (le_true profile.page_size (length file.bytes) is_open.long) is_open.fit;
   }
 
+  -- it has no marks, so that `settle` opens it too
+  settles : profile.reads_log ≡ false → CanBeSettled (with_log profile) secret file.bytes
+  settles unset =
+      let read : header_read (first_plain keys file.bytes) profile.page_size profile.reserve ≡ Ok (made_header profile made.count) =
+      subst (λ (b : Bool). header_read_as b (first_plain keys file.bytes) profile.page_size profile.reserve ≡ Ok (made_header profile made.count)) unset is_open.read in
+      let set = keys_set_of true profile.reads_log profile secret file.bytes in
+      let as_made : file_opened (keys_of (with_log profile) secret file.bytes) file.bytes ≡ file_opened keys file.bytes =
+      ap (λ (k : FileKeys). file_opened k file.bytes) (sym set) ∙ file_set true keys file.bytes (made_header profile made.count) read in
+      let same : first_plain (keys_of (with_log profile) secret file.bytes) file.bytes ≡ first_plain keys file.bytes =
+      ap (λ (k : FileKeys). first_plain k file.bytes) (sym set) ∙ opened_set true keys 1 (page_stored keys file.bytes 1) in record {
+        opens = ap (λ (r : Result Opened OpenError). is_ok r) (as_made ∙ made.opens);
+        no_maps = ap has_maps same ∙ no_maps (first_plain keys file.bytes) profile.page_size profile.reserve (made_header profile made.count) read;
+      }
+
   pub made_servable : (second : Secret) (command : Command) → IsForAnySize profile command → IsServable command (secret ∷ second ∷ []) (standing file fresh)
   made_servable second Probe is = probed is
   made_servable second (Recover other) is = refl
@@ -87,6 +104,8 @@ module _ (profile : Profile) (secret : Secret) (rows : ℕ) (file : File) (fresh
   made_servable second (Read other (OnPages (Find name low high))) is = absurd is
   made_servable second (ChangeFile other (Stamp field value)) is =
       subst (λ (p : Profile). IsServable (ChangeFile p (Stamp field value)) (secret ∷ second ∷ []) (standing file fresh)) (sym is) (record { recovers = refl; holds = opens })
+  made_servable second (ChangeFile other (Settle frames)) is =
+      subst (λ (p : Profile). IsServable (ChangeFile p (Settle frames)) (secret ∷ second ∷ []) (standing file fresh)) (sym is.0) (record { recovers = refl; holds = settles is.1 })
   made_servable second (ChangeFile other (Rekey new)) is =
       subst (λ (p : Profile). IsServable (ChangeFile p (Rekey new)) (secret ∷ second ∷ []) (standing file fresh)) (sym is) (record { recovers = refl; holds = clean })
   made_servable second (ChangeFile other (Migrate new)) is = absurd is

@@ -20,7 +20,7 @@ use Rattle.pager.specs.Opening.{Opened, file_header, file_opened, first_broken, 
 use Rattle.pager.specs.declared.opening.OpenError.{OpenError}
 use Rattle.pager.specs.declared.opening.OpenError.TheVariants.{Empty, Short}
 use Rattle.rekey_job.proofs.Checked.{not_not}
-use Rattle.sqlcipher_tool.proofs.StampedFields.{none_broken}
+use Rattle.sqlcipher_tool.proofs.ChangedFields.{none_broken}
 use Rattle.sqlcipher_tool.proofs.Numbers.{no_less}
 
 pub record IsOpen (keys : FileKeys) (file : List ℕ) (header : Header) (n : ℕ) : Type 0 where

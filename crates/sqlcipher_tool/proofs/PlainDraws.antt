@@ -2,6 +2,7 @@
 use Rattle.std.proofs.Common.{◌≡◌, ⊎_elim, inl, inr, ℕ, Bool, true, false, not, List, [], ◌∷◌, Some, arith}
 use Rattle.cipher_profile.specs.declared.keys.Secret.{Secret}
 use Rattle.cipher_profile.specs.Profile.{is_plain}
+use Rattle.cipher_profile.specs.declared.profile.Profile.{Profile}
 use Rattle.fresh_disk.specs.Published.{IsAlone}
 use Rattle.edge_model.specs.Files.{Files}
 use Rattle.make_job.specs.Made.{IsMade}
@@ -10,7 +11,8 @@ use Rattle.sqlcipher_tool.specs.Crash.{ChangesBy, DrewOwn, HasNoMain, IsDrawnFor
 use Rattle.sqlcipher_tool.specs.Holding.{DiskRun}
 use Rattle.sqlcipher_tool.specs.Renewal.{AreDrawnBy, Renewal, WithDraws, renewal, renewed, renewed_with}
 use Rattle.sqlcipher_tool.specs.Words.{draws}
-use Rattle.sqlcipher_tool.specs.declared.change.Change.TheVariants.{Stamp, Rekey, Migrate}
+use Rattle.sqlcipher_tool.specs.declared.change.Change.{Change}
+use Rattle.sqlcipher_tool.specs.declared.change.Change.TheVariants.{Stamp, Settle, Rekey, Migrate}
 use Rattle.sqlcipher_tool.specs.declared.command.Command.{Command}
 use Rattle.sqlcipher_tool.specs.declared.command.Command.TheVariants.{Probe, Recover, Read, Change as ChangeFile, Make}
 use Rattle.sqlcipher_tool.specs.declared.status.Status.{Status}
@@ -29,6 +31,8 @@ plain_drawn (ChangeFile profile change) [] file drawn none = tt
 plain_drawn (ChangeFile profile change) (first ∷ []) file drawn none = tt
 plain_drawn (ChangeFile profile (Stamp field value)) (first ∷ second ∷ rest) file drawn none =
     λ ciphered. absurd (never_both (is_plain profile) none ciphered)
+plain_drawn (ChangeFile profile (Settle frames)) (first ∷ second ∷ rest) file drawn none =
+    inr (λ ciphered. absurd (never_both (is_plain profile) none ciphered))
 plain_drawn (ChangeFile profile (Rekey new)) (first ∷ second ∷ rest) file drawn none = λ ciphered. absurd (never_both (is_plain new) none ciphered)
 plain_drawn (ChangeFile profile (Migrate new)) (first ∷ second ∷ rest) file drawn none = λ ciphered. absurd (never_both (is_plain new) none ciphered)
 plain_drawn (Make profile rows) [] file drawn none = tt
@@ -57,6 +61,14 @@ safely_as : (status : Status) (command : Command) (tells : Bool) (was drawn : Li
     → IsSafely status command false was run (Some renewal) → IsSafely status command tells drawn run (Some renewal)
 safely_as status command tells was drawn run renewal all safe = λ start. renews_as status _ _ _ _ _ tells run all (safe start)
 
+-- the same of one change, whose secrets are these two
+pub plain_safely : (status : Status) (profile : Profile) (what : Change) (first second : Secret) (tells : Bool) (was drawn : List ℕ) (run : DiskRun) → draws (ChangeFile profile what) ≡ false
+    → IsSafely status (ChangeFile profile what) false was run (Some (renewed profile what first second))
+    → IsSafely status (ChangeFile profile what) tells drawn run (Some (renewed profile what first second))
+plain_safely status profile what first second tells was drawn run none safe =
+    safely_as status (ChangeFile profile what) tells was drawn run (renewed profile what first second)
+    (λ file. plain_drawn (ChangeFile profile what) (first ∷ second ∷ []) file drawn none) safe
+
 pub plain_changes : (status : Status) (command : Command) (gave : List Secret → Type 0) (tells : Bool) (was drawn : List ℕ) (run : DiskRun) → draws command ≡ false
     → ChangesBy status command gave false was run → ChangesBy status command gave tells drawn run
 plain_changes status Probe gave tells was drawn run none change = tt
@@ -68,9 +80,7 @@ plain_changes status (ChangeFile profile what) gave tells was drawn run none cha
         → IsSafely status (ChangeFile profile what) tells drawn run (renewed_with profile what secrets)
     by_secrets [] safe = tt
     by_secrets (first ∷ []) safe = tt
-    by_secrets (first ∷ second ∷ rest) safe =
-        safely_as status (ChangeFile profile what) tells was drawn run (renewed profile what first second)
-        (λ file. plain_drawn (ChangeFile profile what) (first ∷ second ∷ rest) file drawn none) safe
+    by_secrets (first ∷ second ∷ rest) safe = plain_safely status profile what first second tells was drawn run none safe
 plain_changes status (Make profile rows) gave tells was drawn run none change = λ secrets has. by_secrets secrets (change secrets has)
   where
     by_secrets : (secrets : List Secret) → MakesWith status profile rows false was run secrets → MakesWith status profile rows tells drawn run secrets

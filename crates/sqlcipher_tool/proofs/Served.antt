@@ -8,9 +8,9 @@ use Rattle.cipher_profile.specs.Profile.{IsListed, has_log_setting, profile_name
 use Rattle.cipher_profile.proofs.Names.{named_listed}
 use Rattle.text_lines.specs.Numbers.{number_named}
 use Rattle.sqlcipher_tool.specs.declared.command.Command.{Command}
-use Rattle.sqlcipher_tool.specs.declared.command.Command.TheVariants.{Probe, Recover, Read}
+use Rattle.sqlcipher_tool.specs.declared.command.Command.TheVariants.{Probe, Recover, Read, Change as ChangeFile}
 use Rattle.sqlcipher_tool.specs.declared.change.Change.{Change}
-use Rattle.sqlcipher_tool.specs.declared.change.Change.TheVariants.{Rekey, Migrate}
+use Rattle.sqlcipher_tool.specs.declared.change.Change.TheVariants.{Settle, Rekey, Migrate}
 use Rattle.sqlcipher_tool.specs.declared.reading.Job.TheVariants.{Verify, Export, Agree}
 use Rattle.sqlcipher_tool.specs.declared.reading.Reading.TheVariants.{Tags, Header, Salvage, OnPages}
 use Rattle.sqlcipher_tool.specs.Words.{IsChangeServed, IsServed, field_named, find_form, form, make_form, rowid_named, stamp_form, two_profiles}
@@ -78,7 +78,8 @@ maybe_served (name ∷ word ∷ []) =
     (either (bytes_eq name (codes "export")) _ _ (mapped (λ p. Read p (OnPages Export)) profile listed)
     (either (bytes_eq name (codes "agree")) _ _ (mapped (λ p. Read p (OnPages Agree)) profile listed)
     (either (bytes_eq name (codes "salvage")) _ _ (mapped (λ p. Read p Salvage) profile listed)
-    (either (bytes_eq name (codes "recover")) _ _ (mapped Recover profile listed) tt))))))
+    (either (bytes_eq name (codes "recover")) _ _ (mapped Recover profile listed)
+    (either (bytes_eq name (codes "settle")) _ _ (mapped (λ p. ChangeFile p (Settle 0)) profile (λ p named. (listed p named, tt))) tt)))))))
 maybe_served (name ∷ first ∷ second ∷ []) =
     either (bytes_eq name (codes "rekey")) _ _ (two_served Rekey (λ new listed. listed) first second)
     (either (bytes_eq name (codes "migrate")) _ _ (two_served Migrate (λ new listed. listed) first second)

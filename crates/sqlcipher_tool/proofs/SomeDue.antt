@@ -25,7 +25,7 @@ use Rattle.sqlcipher_tool.specs.Find.{find_answers, table_answer}
 use Rattle.sqlcipher_tool.specs.Reading.{job_due, reading_answers}
 use Rattle.sqlcipher_tool.specs.Due.{change_answers}
 use Rattle.sqlcipher_tool.specs.declared.change.Change.{Change}
-use Rattle.sqlcipher_tool.specs.declared.change.Change.TheVariants.{Stamp, Rekey, Migrate}
+use Rattle.sqlcipher_tool.specs.declared.change.Change.TheVariants.{Stamp, Settle, Rekey, Migrate}
 use Rattle.sqlcipher_tool.specs.declared.reading.Job.{Job}
 use Rattle.sqlcipher_tool.specs.declared.reading.Job.TheVariants.{Verify, Export, Agree, Find}
 use Rattle.sqlcipher_tool.specs.declared.reading.Reading.{Reading}
@@ -118,6 +118,7 @@ migrated_some old secret new count file =
 
 pub change_some : (change : Change) (renewal : Renewal) (file last : List ℕ) → 0 < length (change_answers change renewal file last)
 change_some (Stamp field value) renewal file last = omega arith
+change_some (Settle frames) renewal file last = omega arith
 change_some (Rekey new) renewal file last = rekeyed_some renewal.old_profile renewal.old_secret file
 change_some (Migrate new) renewal file last = migrated_some renewal.old_profile renewal.old_secret renewal.new_profile _ file
 

@@ -1,4 +1,4 @@
--- A transaction that stamps page 1, as its disk shows it.
+-- A transaction that changes page 1 alone, as its disk shows it.
 use Rattle.std.proofs.Common.{◌≡◌, ◌≤◌, ◌*◌, ℕ, Bool, List, [], length, drop, Option, Some, None, Result, Ok, Err, IsTrue, refl, sym, ap, subst, ◌∙◌, arith, rules}
 use Rattle.std.specs.Bool.{beq}
 use Rattle.std.specs.Prelude.{OnOk, if◌then◌else◌, ◌&&◌, ◌==◌, true, false}
@@ -18,7 +18,7 @@ use Rattle.cipher_profile.specs.declared.keys.Secret.{Secret}
 use Rattle.edge_model.specs.Causes.{Rose}
 use Rattle.page_codec.specs.Page.{FileKeys, accepts, keys_of, keys_with_salt, magic, opened, salt_of}
 use Rattle.pager.specs.Base.{base_of}
-use Rattle.pager.specs.Changed.{same_layout}
+use Rattle.pager.specs.Changed.{same_layout, with_bytes}
 use Rattle.pager.specs.Database.{count_by, count_of}
 use Rattle.pager.specs.File.{page_stored}
 use Rattle.pager.specs.Opening.{file_opened}
@@ -39,8 +39,7 @@ use Rattle.sqlcipher_tool.specs.Stop.{IsLateStop, stop_of}
 use Rattle.rekey_job.specs.Draws.{FileDraws}
 use Rattle.sqlcipher_tool.specs.Holding.{HoldsOnly, held_by}
 use Rattle.sqlcipher_tool.specs.Renewal.{WithDraws}
-use Rattle.sqlcipher_tool.specs.Stamp.{IsStamped, field_at, next_change, stamped_page, with_field}
-use Rattle.sqlcipher_tool.specs.declared.command.Field.{Field}
+use Rattle.sqlcipher_tool.specs.FirstPage.{IsFirstChanged, IsHarmless, changed_page, next_change, with_field}
 use Rattle.sqlcipher_tool.specs.declared.opening.Stop.TheVariants.{DiskFault as StopDisk}
 use Rattle.sqlcipher_tool.specs.declared.opening.ChangeError.{ChangeError}
 use Rattle.sqlcipher_tool.specs.declared.status.Status.{Status}
@@ -48,13 +47,13 @@ use Rattle.sqlcipher_tool.specs.declared.status.Status.TheVariants.{Done, DiskFa
 use Rattle.sqlcipher_tool.proofs.Changing.{broken, committed}
 use Rattle.sqlcipher_tool.proofs.Databases.{alone_old, any_base, counted_pages, holds_new, holds_old, is_base, start_of, whole_count}
 use Rattle.sqlcipher_tool.proofs.OpenedParts.{IsOpen, header_size, open_accepts, open_count, open_parts}
-use Rattle.sqlcipher_tool.proofs.StampedPages.{is_stamped, new_count, new_long, own_draws, count_read}
+use Rattle.sqlcipher_tool.proofs.ChangedPages.{is_changed, new_count, new_long, own_draws, count_read}
 
 -- what holds where a call was done
 pub was_ok : {A E : Type 0} {P : Type 0} (r : Result A E) (a : A) → r ≡ Ok a → OnOk r P → P
 was_ok {P = P} r a is on = subst (λ (r : Result _ _). OnOk r P) is on
 
-some_file : (o : Option File) → 1 ≤ length (contents o) → bytes_of o ≡ Some (contents o)
+pub some_file : (o : Option File) → 1 ≤ length (contents o) → bytes_of o ≡ Some (contents o)
 some_file None some = absurd (omega (arith, some))
 some_file (Some file) some = refl
 
@@ -119,14 +118,14 @@ sees_first keys read write file main header n count marks held one two three fre
           ∙ (ap (λ (b : Bool). b && accepts keys 1 (page_stored keys file 1)) (one_number n some) ∙ open_accepts keys file header n listed (open_parts keys file header n opens));
     }
 
--- the page that is written is the stamped one
-pub page_is : (keys : FileKeys) (file seen : List ℕ) (header fields : Header) (n pages change : ℕ) (field : Field) (value : ℕ)
+-- the page that is written is the changed one
+pub page_is : (keys : FileKeys) (file seen : List ℕ) (header fields : Header) (n pages change at : ℕ) (bytes : List ℕ)
     → file_opened keys file ≡ Ok (record { header = header; count = n }) → seen ≡ opened keys 1 (page_stored keys file 1) → fields ≡ header → change ≡ next_change fields.change → pages ≡ n
-    → with_field 92 change (with_field 28 pages (with_field 24 change (with_field (field_at field) value seen))) ≡ stamped_page field value n (opened keys 1 (page_stored keys file 1))
-page_is keys file seen header fields n pages change field value opens first same is all =
-    ap (λ (l : List ℕ). with_field 92 change (with_field 28 pages (with_field 24 change (with_field (field_at field) value l)))) first
-    ∙ (ap (λ (k : ℕ). with_field 92 change (with_field 28 k (with_field 24 change (with_field (field_at field) value plain)))) all
-    ∙ ap (λ (k : ℕ). with_field 92 k (with_field 28 n (with_field 24 k (with_field (field_at field) value plain)))) next)
+    → with_field 92 change (with_field 28 pages (with_field 24 change (with_bytes at bytes seen))) ≡ changed_page at bytes n (opened keys 1 (page_stored keys file 1))
+page_is keys file seen header fields n pages change at bytes opens first same is all =
+    ap (λ (l : List ℕ). with_field 92 change (with_field 28 pages (with_field 24 change (with_bytes at bytes l)))) first
+    ∙ (ap (λ (k : ℕ). with_field 92 change (with_field 28 k (with_field 24 change (with_bytes at bytes plain)))) all
+    ∙ ap (λ (k : ℕ). with_field 92 k (with_field 28 n (with_field 24 k (with_bytes at bytes plain)))) next)
   where
     plain : List ℕ
     plain = opened keys 1 (page_stored keys file 1)
@@ -260,11 +259,11 @@ module _ {D : Type 0} (reads : D → Files) (images : D → Files → Type 0) (m
     pub unwritten : (status : Status) → (status ≡ Done → ⊥) → LeavesOnly moment since mid new (HoldsOld start.base) → KeepsOld moment since status Old old new
     unwritten status never next = record { any_moment = and_then before (weaker was_old next); not_done = never }
 
-    module _ (field : Field) (value : ℕ) (salt : keys.salt ≡ salt_of file) (listed : IsListed keys.profile)
+    module _ (at : ℕ) (bytes : List ℕ) (harmless : IsHarmless keys.profile at bytes) (salt : keys.salt ≡ salt_of file) (listed : IsListed keys.profile)
         (touched : ℕ → Bool) (pages : ℕ → List ℕ) (tells : Bool) (after : List ℕ)
-        (is_page : pages 1 ≡ stamped_page field value n (opened keys 1 (page_stored keys file 1))) (one : (m : ℕ) → is_page_number n m ≡ true → touched m ≡ (m == 1)) where
+        (is_page : pages 1 ≡ changed_page at bytes n (opened keys 1 (page_stored keys file 1))) (one : (m : ℕ) → is_page_number n m ≡ true → touched m ≡ (m == 1)) where
       abbrev pub IsNew : List ℕ → Type 0
-      IsNew = WithDraws (IsStamped keys field value file) tells (λ main. FileDraws keys main (λ m. m == 1) 0 (drop (length start.drawn) after))
+      IsNew = WithDraws (IsFirstChanged keys at bytes file) tells (λ main. FileDraws keys main (λ m. m == 1) 0 (drop (length start.drawn) after))
 
       abbrev pub HasNew : List ℕ → Type 0
       HasNew main = HasNewPages start keys touched pages tells after main
@@ -280,16 +279,16 @@ module _ {D : Type 0} (reads : D → Files) (images : D → Files → Type 0) (m
 
       is_new : (main : List ℕ) → HasNew main → IsNew main
       is_new main has = (
-        is_stamped keys field value n file header parts some salt room touched pages tells start.drawn after main is_page one (as_file main has),
-        own_draws keys field value n file header parts some salt room touched pages tells start.drawn after main is_page one (as_file main has),
+        is_changed keys at bytes harmless n file header parts some salt room touched pages tells start.drawn after main is_page one (as_file main has),
+        own_draws keys at bytes harmless n file header parts some salt room touched pages tells start.drawn after main is_page one (as_file main has),
       )
 
       is_long : (main : List ℕ) → HasNew main → n * keys.profile.page_size ≤ length main
-      is_long main has = new_long keys field value n file header parts some salt room touched pages tells start.drawn after main is_page one (as_file main has)
+      is_long main has = new_long keys at bytes harmless n file header parts some salt room touched pages tells start.drawn after main is_page one (as_file main has)
 
       holds : (main : List ℕ) → HasNew main → (image : Files) → HoldsPages start.base (stored_pages start.base.size start.base.pages main) image → New main image
       holds main has image is =
-          holds_new keys file main n image some (new_count keys field value n file header parts some salt room touched pages tells start.drawn after main is_page one (as_file main has)) (is_long main has)
+          holds_new keys file main n image some (new_count keys at bytes harmless n file header parts some salt room touched pages tells start.drawn after main is_page one (as_file main has)) (is_long main has)
           (subst (λ (b : Base). HoldsPages b (stored_pages b.size b.pages main) image) is_start is)
 
       -- the commit was done

@@ -49,10 +49,13 @@ use Rattle.sqlcipher_tool.specs.Promises.{AnswersOne, IsUnrecovered}
 use Rattle.sqlcipher_tool.specs.Recovered.{answers_after, recovery_answer, refused_answer}
 use Rattle.sqlcipher_tool.specs.Due.{change_answers}
 use Rattle.sqlcipher_tool.specs.Rekey.{rekey_due}
+use Rattle.sqlcipher_tool.specs.Settle.{first_plain, marked_answer, marks_of, settled_answer}
+use Rattle.sqlcipher_tool.specs.declared.settle.Marks.{Marks}
+use Rattle.sqlcipher_tool.specs.declared.settle.Marks.TheVariants.{Rollback, Wal, Maps}
 use Rattle.sqlcipher_tool.specs.Stamp.{stamped_answer}
 use Rattle.sqlcipher_tool.specs.Opening.{opened_with}
 use Rattle.sqlcipher_tool.specs.declared.change.Change.{Change}
-use Rattle.sqlcipher_tool.specs.declared.change.Change.TheVariants.{Stamp, Rekey, Migrate}
+use Rattle.sqlcipher_tool.specs.declared.change.Change.TheVariants.{Stamp, Settle, Rekey, Migrate}
 use Rattle.cipher_profile.specs.Profile.{usable}
 use Rattle.cipher_profile.specs.declared.profile.Profile.{Profile}
 use Rattle.sqlcipher_tool.specs.Stop.{IsOutside, stop_answer}
@@ -95,7 +98,7 @@ opened_header keys file header n is some = sym (opened_fields keys file header n
 
 -- ---- which answers are due
 
-outside_none : (stop : Stop) (answer : Answer) → IsOutside stop → stop_answer stop ≡ Some answer → ⊥
+pub outside_none : (stop : Stop) (answer : Answer) → IsOutside stop → stop_answer stop ≡ Some answer → ⊥
 outside_none stop answer outside is =
     ⊎_elim (λ (disk : stop ≡ StopDisk). let none : None ≡ Some answer = sym (ap stop_answer disk) ∙ is in cc)
     (λ (memory : stop ≡ StopMemory). let none : None ≡ Some answer = sym (ap stop_answer memory) ∙ is in cc) outside
@@ -236,6 +239,15 @@ stamped_of_file : (opened : Result Opened OpenError) → IsOfFile (stamped_answe
 stamped_of_file (Ok opened) is = is
 stamped_of_file (Err error) is = open_of_file error is
 
+marked_of_file : (frames : ℕ) (marks : Marks) → IsOfFile (marked_answer frames marks)
+marked_of_file frames Rollback is = is
+marked_of_file frames Wal is = is
+marked_of_file frames Maps is = is
+
+settled_of_file : (frames : ℕ) (first : List ℕ) (opened : Result Opened OpenError) → IsOfFile (settled_answer frames first opened)
+settled_of_file frames first (Ok opened) is = marked_of_file frames (marks_of first) is
+settled_of_file frames first (Err error) is = open_of_file error is
+
 -- that there are too many pages is no answer of a recovery
 too_many_of_file : (limit : ℕ) (b : Bool) → AreOfFile (if b then refused (TooManyPages limit) ∷ [] else [])
 too_many_of_file limit true = ((λ is. is), tt)
@@ -252,6 +264,9 @@ migrated_of_file profile count (Err error) pages = (open_of_file error, tt)
 
 pub change_of_file : (change : Change) (renewal : Renewal) (file last : List ℕ) → AreOfFile (change_answers change renewal file last)
 change_of_file (Stamp field value) renewal file last = (stamped_of_file (opened_with renewal.old_profile renewal.old_secret file), tt)
+change_of_file (Settle frames) renewal file last =
+    let keys = keys_of renewal.old_profile renewal.old_secret file in
+    (settled_of_file frames (first_plain keys file) (opened_with renewal.old_profile renewal.old_secret file), tt)
 change_of_file (Rekey new) renewal file last =
     rekeyed_of_file (opened_with renewal.old_profile renewal.old_secret file) (λ n. opened_pages (keys_of renewal.old_profile renewal.old_secret file) file n)
 change_of_file (Migrate new) renewal file last =

@@ -3,7 +3,7 @@ use Rattle.std.specs.Prelude.{◌≡◌, ◌⊎◌, ◌≤◌, ℕ, Bool, true, 
 use Rattle.edge_model.specs.Causes.{Rose}
 use Rattle.text_lines.specs.Text.{PutsPart}
 use Rattle.sqlcipher_tool.specs.declared.status.Refusal.{Refusal}
-use Rattle.sqlcipher_tool.specs.declared.status.Refusal.TheVariants.{NoTags, LayoutDiffers, OnlyRead, LogVersion, LogPageSize, LogShort, LogTooLarge, KeyMissing, KeyEmpty, KeyTooLong, KeyForm, FileThere, JournalThere, Empty, Short, HeaderFault, WalMode, AutoVacuum, Ragged, TooLarge, PageTag, JournalPageSize, SuperJournal, Defect, TooManyPages, NoTable, IndexesDiffer, ScriptLine, LineTooLong, TooManyLines}
+use Rattle.sqlcipher_tool.specs.declared.status.Refusal.TheVariants.{NoTags, LayoutDiffers, OnlyRead, LogVersion, LogPageSize, LogShort, LogTooLarge, LogOfOther, KeyMissing, KeyEmpty, KeyTooLong, KeyForm, FileThere, JournalThere, Empty, Short, HeaderFault, WalMode, AutoVacuum, Ragged, TooLarge, PageTag, JournalPageSize, SuperJournal, Defect, TooManyPages, NoTable, IndexesDiffer, ScriptLine, LineTooLong, TooManyLines}
 use Rattle.sqlcipher_tool.specs.declared.status.Status.{Status}
 use Rattle.sqlcipher_tool.specs.declared.status.Status.TheVariants.{Done, Usage, Refused, KeyRefused, DiskFault, OutputFault, InputFault, EntropyFault, OutOfMemory}
 use Rattle.sqlcipher_tool.specs.Text.{refusal_line, usage_line, key_refused_line}
@@ -109,6 +109,7 @@ is_early_refusal (LogVersion found) = false
 is_early_refusal (LogPageSize found) = false
 is_early_refusal (LogShort pages) = false
 is_early_refusal LogTooLarge = false
+is_early_refusal LogOfOther = false
 is_early_refusal (Defect defect) = false
 is_early_refusal (TooManyPages limit) = false
 is_early_refusal NoTable = false
@@ -142,6 +143,7 @@ has_lines_before (LogVersion found) = false
 has_lines_before (LogPageSize found) = false
 has_lines_before (LogShort pages) = false
 has_lines_before LogTooLarge = false
+has_lines_before LogOfOther = false
 has_lines_before (Defect defect) = false
 has_lines_before (TooManyPages limit) = false
 has_lines_before NoTable = false

@@ -11,7 +11,7 @@ use Rattle.cipher_profile.specs.declared.profile.Profile.{Profile}
 use Rattle.rollback_journal.specs.Recovery.{KeepsRecovered}
 use Rattle.sqlcipher_tool.specs.declared.command.Command.{Command}
 use Rattle.sqlcipher_tool.specs.declared.command.Command.TheVariants.{Probe, Recover, Read, Change as ChangeFile, Make}
-use Rattle.sqlcipher_tool.specs.declared.change.Change.TheVariants.{Stamp, Rekey, Migrate}
+use Rattle.sqlcipher_tool.specs.declared.change.Change.TheVariants.{Stamp, Settle, Rekey, Migrate}
 use Rattle.sqlcipher_tool.specs.declared.status.Status.{Status}
 use Rattle.sqlcipher_tool.specs.declared.status.Status.TheVariants.{Done, Usage, Refused, KeyRefused, DiskFault, OutputFault, InputFault, EntropyFault, OutOfMemory}
 use Rattle.sqlcipher_tool.specs.Due.{key_lines}
@@ -131,6 +131,7 @@ Keeps Probe run = Stays run
 Keeps (Recover profile) run = KeepsHeld profile.page_size run
 Keeps (Read profile reading) run = KeepsHeld profile.page_size run
 Keeps (ChangeFile profile (Stamp field value)) run = KeepsFresh run
+Keeps (ChangeFile profile (Settle frames)) run = KeepsFresh run
 Keeps (ChangeFile profile (Rekey new)) run = KeepsFresh run
 Keeps (ChangeFile profile (Migrate new)) run = Unit {0}
 Keeps (Make profile rows) run = KeepsFiles run

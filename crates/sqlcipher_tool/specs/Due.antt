@@ -9,7 +9,7 @@ use Rattle.cipher_profile.specs.declared.keys.Secret.TheVariants.{NoKey}
 use Rattle.cipher_profile.specs.KeyLine.{after_line, key_line}
 use Rattle.sqlcipher_tool.specs.Answer.{Answer, refused, usage}
 use Rattle.sqlcipher_tool.specs.declared.change.Change.{Change}
-use Rattle.sqlcipher_tool.specs.declared.change.Change.TheVariants.{Stamp, Rekey, Migrate}
+use Rattle.sqlcipher_tool.specs.declared.change.Change.TheVariants.{Stamp, Settle, Rekey, Migrate}
 use Rattle.sqlcipher_tool.specs.declared.command.Command.{Command}
 use Rattle.sqlcipher_tool.specs.declared.command.Command.TheVariants.{Probe, Recover, Read, Change as ChangeFile, Make}
 use Rattle.sqlcipher_tool.specs.declared.status.Refusal.{Refusal}
@@ -22,6 +22,7 @@ use Rattle.sqlcipher_tool.specs.Probe.{probe_answer}
 use Rattle.sqlcipher_tool.specs.Recovered.{recovered_answers, recovery_answer, recovery_of}
 use Rattle.sqlcipher_tool.specs.Rekey.{rekey_answers}
 use Rattle.sqlcipher_tool.specs.Renewal.{Renewal, pages_under, renewed}
+use Rattle.sqlcipher_tool.specs.Settle.{settle_answer}
 use Rattle.sqlcipher_tool.specs.Stamp.{stamp_answer}
 use Rattle.sqlcipher_tool.specs.Words.{form, asked_keys, is_only_read, lacks_tags, layouts_differ, plays_with_log}
 
@@ -73,6 +74,7 @@ with_two (first ∷ second ∷ rest) answers = answers first second
 -- what may be answered of the file that is changed, once it is recovered; it is `after` at the end
 abbrev pub change_answers : Change → Renewal → List ℕ → List ℕ → List Answer
 change_answers (Stamp field value) renewal file after = stamp_answer renewal.old_profile renewal.old_secret file ∷ []
+change_answers (Settle frames) renewal file after = settle_answer renewal.old_profile renewal.old_secret frames file ∷ []
 change_answers (Rekey new) renewal file after = rekey_answers renewal.old_profile renewal.old_secret file
 change_answers (Migrate new) renewal file after =
     migrate_answers renewal.old_profile renewal.old_secret renewal.new_profile (pages_under renewal.new_profile renewal.new_secret after) file

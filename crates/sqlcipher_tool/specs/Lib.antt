@@ -8,6 +8,7 @@ pub mod Play
 pub mod Due
 pub mod Export
 pub mod Find
+pub mod FirstPage
 pub mod Header
 pub mod Holding
 pub mod Make
@@ -16,6 +17,7 @@ pub mod Names
 pub mod Opening
 pub mod Probe
 pub mod Promises
+pub mod ReadAlike
 pub mod Reading
 pub mod Recovered
 pub mod Rekey
@@ -23,6 +25,9 @@ pub mod Renewal
 pub mod Reported
 pub mod Salvage
 pub mod Servable
+pub mod Settle
+pub mod Settling
+pub mod Seams
 pub mod Stamp
 pub mod Stop
 pub mod Tags

@@ -6,7 +6,7 @@ use Rattle.page_codec.specs.Page.{FileKeys, keys_of}
 use Rattle.sqlcipher_tool.specs.declared.command.Command.{Command}
 use Rattle.sqlcipher_tool.specs.declared.command.Command.TheVariants.{Probe, Recover, Read, Change as ChangeFile, Make}
 use Rattle.sqlcipher_tool.specs.declared.change.Change.{Change}
-use Rattle.sqlcipher_tool.specs.declared.change.Change.TheVariants.{Stamp, Rekey, Migrate}
+use Rattle.sqlcipher_tool.specs.declared.change.Change.TheVariants.{Stamp, Settle, Rekey, Migrate}
 use Rattle.fresh_file.specs.Draws.{HasOwnDraws}
 use Rattle.make_job.specs.Made.{IsMade}
 use Rattle.pager.specs.Database.{count_of}
@@ -15,8 +15,9 @@ use Rattle.rekey_job.specs.Rekeyed.{IsRekeyed}
 use Rattle.rekey_job.specs.Draws.{FileDraws}
 use Rattle.sqlcipher_tool.specs.Migrate.{IsMigratedSo}
 use Rattle.sqlcipher_tool.specs.Plain.{IsClean, Opens}
+use Rattle.sqlcipher_tool.specs.Settle.{IsSettledFrom, SettledDraws}
 use Rattle.sqlcipher_tool.specs.Stamp.{IsStamped}
-use Rattle.sqlcipher_tool.specs.Words.{profile_after}
+use Rattle.sqlcipher_tool.specs.Words.{profile_after, profile_before}
 
 -- A command that leaves a new file: the profile and the secret of the old one, and those of the new one. Before `make` there is no
 -- old one, and both are those of the new one.
@@ -35,15 +36,16 @@ abbrev pub same_key : Profile → List Secret → Option Renewal
 same_key profile [] = None
 same_key profile (secret ∷ rest) = Some (from_to profile secret profile secret)
 
--- the secret of the new file: a stamp keeps the key
+-- the secret of the new file: a stamp keeps the key, and so does a settling
 abbrev pub secret_after : Change → Secret → Secret → Secret
 secret_after (Stamp field value) first second = first
+secret_after (Settle frames) first second = first
 secret_after (Rekey new) first second = second
 secret_after (Migrate new) first second = second
 
 -- what a change of a file of this profile makes of it, with its secrets
 abbrev pub renewed : Profile → Change → Secret → Secret → Renewal
-renewed profile change first second = from_to profile first (profile_after profile change) (secret_after change first second)
+renewed profile change first second = from_to (profile_before profile change) first (profile_after profile change) (secret_after change first second)
 
 abbrev pub renewed_with : Profile → Change → List Secret → Option Renewal
 renewed_with profile change [] = None
@@ -86,6 +88,7 @@ IsMadeBy Probe renewal before after = ⊥
 IsMadeBy (Recover profile) renewal before after = ⊥
 IsMadeBy (Read profile reading) renewal before after = ⊥
 IsMadeBy (ChangeFile profile (Stamp field value)) renewal before after = IsStamped (old_keys renewal before) field value before after
+IsMadeBy (ChangeFile profile (Settle frames)) renewal before after = IsSettledFrom (old_keys renewal before) (new_keys renewal after) before after
 IsMadeBy (ChangeFile profile (Rekey new)) renewal before after = IsRekeyedSo (old_keys renewal before) (new_keys renewal after) before after
 IsMadeBy (ChangeFile profile (Migrate new)) renewal before after = IsMigratedSo (old_keys renewal before) (new_keys renewal after) before after
 IsMadeBy (Make profile rows) renewal before after = IsMade renewal.new_profile renewal.new_secret rows after
@@ -96,6 +99,7 @@ AreDrawnBy Probe renewal file drawn = ⊥
 AreDrawnBy (Recover profile) renewal file drawn = ⊥
 AreDrawnBy (Read profile reading) renewal file drawn = ⊥
 AreDrawnBy (ChangeFile profile (Stamp field value)) renewal file drawn = FileDraws (new_keys renewal file) file (λ n. n == 1) 0 drawn
+AreDrawnBy (ChangeFile profile (Settle frames)) renewal file drawn = SettledDraws (new_keys renewal file) file drawn
 AreDrawnBy (ChangeFile profile (Rekey new)) renewal file drawn = FileDraws (new_keys renewal file) file (is_page_number (page_count_of (new_keys renewal file) file)) 0 drawn
 AreDrawnBy (ChangeFile profile (Migrate new)) renewal file drawn = HasOwnDraws (new_keys renewal file) file drawn
 AreDrawnBy (Make profile rows) renewal file drawn = HasOwnDraws (new_keys renewal file) file drawn

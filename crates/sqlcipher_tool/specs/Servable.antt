@@ -8,7 +8,7 @@ use Rattle.btree_model.specs.Schema.{schema_part}
 use Rattle.btree_page.specs.declared.kind.Family.TheVariants.{Table}
 use Rattle.cipher_profile.specs.declared.keys.Secret.{Secret}
 use Rattle.cipher_profile.specs.declared.profile.Profile.{Profile}
-use Rattle.cipher_profile.specs.Profile.{IsListed, is_plain, usable}
+use Rattle.cipher_profile.specs.Profile.{IsListed, is_plain, usable, with_log}
 use Rattle.db_format.specs.Count.{largest_database}
 use Rattle.db_format.specs.Pages.{nothing}
 use Rattle.edge_model.specs.Causes.{Rose}
@@ -26,7 +26,7 @@ use Rattle.sqlcipher_tool.specs.Answer.{Answer, done}
 use Rattle.sqlcipher_tool.specs.declared.command.Command.{Command}
 use Rattle.sqlcipher_tool.specs.declared.command.Command.TheVariants.{Probe, Recover, Read, Change as ChangeFile, Make}
 use Rattle.sqlcipher_tool.specs.declared.change.Change.{Change}
-use Rattle.sqlcipher_tool.specs.declared.change.Change.TheVariants.{Stamp, Rekey, Migrate}
+use Rattle.sqlcipher_tool.specs.declared.change.Change.TheVariants.{Stamp, Settle, Rekey, Migrate}
 use Rattle.sqlcipher_tool.specs.declared.reading.Job.TheVariants.{Verify, Export, Agree, Find}
 use Rattle.sqlcipher_tool.specs.declared.reading.Reading.{Reading}
 use Rattle.sqlcipher_tool.specs.declared.reading.Reading.TheVariants.{Tags, Header, Salvage, OnPages}
@@ -38,6 +38,7 @@ use Rattle.sqlcipher_tool.specs.Plain.{IsClean, Opens}
 use Rattle.sqlcipher_tool.specs.Probe.{is_fitting}
 use Rattle.sqlcipher_tool.specs.Recovered.{recovered_main, recovery_of}
 use Rattle.sqlcipher_tool.specs.Salvage.{opens_none}
+use Rattle.sqlcipher_tool.specs.Settle.{CanBeSettled}
 use Rattle.sqlcipher_tool.specs.Words.{form, asked_keys}
 
 -- ---- what each command asks of the files
@@ -119,6 +120,7 @@ IsReadable (OnPages (Find name low high)) profile secret file = HasTable profile
 -- nor of a change of it
 abbrev pub IsChangeable : Change → Profile → Secret → List ℕ → Type 0
 IsChangeable (Stamp field value) profile secret file = IsOk (opened_with profile secret file)
+IsChangeable (Settle frames) profile secret file = CanBeSettled (with_log profile) secret file
 IsChangeable (Rekey new) profile secret file = IsClean (keys_of profile secret file) file
 IsChangeable (Migrate new) profile secret file = (held : Content) × Opens (keys_of profile secret file) file held × HasFewPages new held
 
@@ -157,6 +159,7 @@ IsForAnySize profile (Read other (OnPages Export)) = other ≡ profile
 IsForAnySize profile (Read other (OnPages Agree)) = ⊥
 IsForAnySize profile (Read other (OnPages (Find name low high))) = ⊥
 IsForAnySize profile (ChangeFile old (Stamp field value)) = old ≡ profile
+IsForAnySize profile (ChangeFile old (Settle frames)) = (old ≡ profile) × (profile.reads_log ≡ false)
 IsForAnySize profile (ChangeFile old (Rekey new)) = old ≡ profile
 IsForAnySize profile (ChangeFile old (Migrate new)) = ⊥
 IsForAnySize profile (Make other rows) = ⊥

@@ -11,7 +11,7 @@ use Rattle.rollback_journal.specs.declared.recovery.Recovery.{Recovery}
 use Rattle.rollback_journal.specs.declared.recovery.Recovery.TheVariants.{Nothing, Cold, Played}
 use Rattle.text_lines.specs.Text.{line, field_line}
 use Rattle.sqlcipher_tool.specs.declared.status.Refusal.{Refusal}
-use Rattle.sqlcipher_tool.specs.declared.status.Refusal.TheVariants.{NoTags, LayoutDiffers, OnlyRead, LogVersion, LogPageSize, LogShort, LogTooLarge, KeyMissing, KeyEmpty, KeyTooLong, KeyForm, FileThere, JournalThere, Empty, Short, HeaderFault, WalMode, AutoVacuum, Ragged, TooLarge, PageTag, JournalPageSize, SuperJournal, Defect as RefusedDefect, TooManyPages, NoTable, IndexesDiffer, ScriptLine, LineTooLong, TooManyLines}
+use Rattle.sqlcipher_tool.specs.declared.status.Refusal.TheVariants.{NoTags, LayoutDiffers, OnlyRead, LogVersion, LogPageSize, LogShort, LogTooLarge, LogOfOther, KeyMissing, KeyEmpty, KeyTooLong, KeyForm, FileThere, JournalThere, Empty, Short, HeaderFault, WalMode, AutoVacuum, Ragged, TooLarge, PageTag, JournalPageSize, SuperJournal, Defect as RefusedDefect, TooManyPages, NoTable, IndexesDiffer, ScriptLine, LineTooLong, TooManyLines}
 
 -- what is said of a page
 abbrev pub of_page : ℕ → List ℕ → List ℕ
@@ -57,6 +57,7 @@ refusal_text (LogVersion found) = codes "log version " ++ decimal found
 refusal_text (LogPageSize found) = codes "log page size " ++ decimal found
 refusal_text (LogShort pages) = codes "log is short: " ++ decimal pages ++ codes " pages"
 refusal_text LogTooLarge = codes "log is too large"
+refusal_text LogOfOther = codes "log is another file's"
 refusal_text SuperJournal = codes "journal names a super-journal"
 refusal_text (RefusedDefect defect) = defect_text defect
 refusal_text (TooManyPages limit) = codes "too many pages: limit " ++ decimal limit
@@ -128,6 +129,10 @@ recovery_line (Played records) = line (codes "played: " ++ decimal records)
 -- what `stamp` prints
 abbrev pub stamped_report : List ℕ
 stamped_report = line (codes "stamped")
+
+-- what `settle` prints: how many frames of the log were laid, and how many pointer-map pages became free
+abbrev pub settled_report : ℕ → ℕ → List ℕ
+settled_report frames maps = line (codes "settled: " ++ (decimal frames ++ (codes " log frames, " ++ (decimal maps ++ codes " map pages"))))
 
 -- what `rekey` prints
 abbrev pub rekeyed_report : ℕ → List ℕ

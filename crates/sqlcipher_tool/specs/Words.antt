@@ -14,6 +14,7 @@
 -- | `find P NAME LOW HIGH`     | Read profile P, OnPages (Find NAME LOW HIGH) |
 -- | `stamp P user-version N`   | Change profile P, Stamp UserVersion N |
 -- | `stamp P application-id N` | Change profile P, Stamp ApplicationId N |
+-- | `settle P`                 | Change profile P, Settle 0            |
 -- | `rekey P P2`               | Change profile P, Rekey profile P2    |
 -- | `migrate P P2`             | Change profile P, Migrate profile P2  |
 -- | `make P N`                 | Make profile P N                      |
@@ -26,7 +27,7 @@ use Rattle.std.specs.List.{list_all}
 use Rattle.std.specs.Option.{option_map, option_and_then}
 use Rattle.std.specs.Str.{bytes_eq}
 use Rattle.std.specs.Str.Parse.{digits_value, starts_with_minus}
-use Rattle.cipher_profile.specs.Profile.{IsListed, is_plain, profile_named, profile_set_named}
+use Rattle.cipher_profile.specs.Profile.{IsListed, is_plain, profile_named, profile_set_named, set_log}
 use Rattle.cipher_profile.specs.declared.profile.Profile.{Profile}
 use Rattle.text_lines.specs.Numbers.{number_named}
 use Rattle.sqlcipher_tool.specs.declared.command.Command.{Command}
@@ -34,7 +35,7 @@ use Rattle.sqlcipher_tool.specs.declared.command.Command.TheVariants.{Probe, Rec
 use Rattle.sqlcipher_tool.specs.declared.command.Field.{Field}
 use Rattle.sqlcipher_tool.specs.declared.command.Field.TheVariants.{UserVersion, ApplicationId}
 use Rattle.sqlcipher_tool.specs.declared.change.Change.{Change}
-use Rattle.sqlcipher_tool.specs.declared.change.Change.TheVariants.{Stamp, Rekey, Migrate}
+use Rattle.sqlcipher_tool.specs.declared.change.Change.TheVariants.{Stamp, Settle, Rekey, Migrate}
 use Rattle.sqlcipher_tool.specs.declared.reading.Job.{Job}
 use Rattle.sqlcipher_tool.specs.declared.reading.Job.TheVariants.{Verify, Export, Agree, Find}
 use Rattle.sqlcipher_tool.specs.declared.reading.Reading.{Reading}
@@ -98,7 +99,8 @@ form (name ∷ word ∷ []) =
     else (if bytes_eq name (codes "export") then option_map (λ profile. Read profile (OnPages Export)) (profile_set_named word)
     else (if bytes_eq name (codes "agree") then option_map (λ profile. Read profile (OnPages Agree)) (profile_set_named word)
     else (if bytes_eq name (codes "salvage") then option_map (λ profile. Read profile Salvage) (profile_set_named word)
-    else (if bytes_eq name (codes "recover") then option_map Recover (profile_set_named word) else None))))))
+    else (if bytes_eq name (codes "recover") then option_map Recover (profile_set_named word)
+    else (if bytes_eq name (codes "settle") then option_map (λ profile. ChangeFile profile (Settle 0)) (profile_set_named word) else None)))))))
 form (name ∷ first ∷ second ∷ []) =
     if bytes_eq name (codes "rekey") then two_profiles Rekey first second
     else (if bytes_eq name (codes "migrate") then two_profiles Migrate first second
@@ -127,21 +129,35 @@ plays_with_log (name ∷ word ∷ next ∷ rest) = false
 
 -- ---- what is yes or no of a command
 
+-- the marks of WAL mode and of auto-vacuum pass where the old file is opened: they are what `settle` looks for
+abbrev pub passes_marks : Profile → Change → Bool
+passes_marks profile (Stamp field value) = profile.reads_log
+passes_marks profile (Settle frames) = true
+passes_marks profile (Rekey new) = profile.reads_log
+passes_marks profile (Migrate new) = profile.reads_log
+
+-- the profile by which the old file is opened
+abbrev pub profile_before : Profile → Change → Profile
+profile_before profile change = set_log (passes_marks profile change) profile
+
 -- the profile of the new file
 abbrev pub profile_after : Profile → Change → Profile
 profile_after profile (Stamp field value) = profile
+profile_after profile (Settle frames) = profile
 profile_after profile (Rekey new) = new
 profile_after profile (Migrate new) = new
 
 -- a key line is read for the new file alone, which is not that of a plain file
 abbrev pub asks_again : Change → Bool
 asks_again (Stamp field value) = false
+asks_again (Settle frames) = false
 asks_again (Rekey new) = not (is_plain new)
 asks_again (Migrate new) = not (is_plain new)
 
 -- it goes by a journal, and leaves Fresh as it is
 abbrev pub is_in_place : Change → Bool
 is_in_place (Stamp field value) = true
+is_in_place (Settle frames) = true
 is_in_place (Rekey new) = true
 is_in_place (Migrate new) = false
 
@@ -149,6 +165,7 @@ is_in_place (Migrate new) = false
 -- file, which has no key
 abbrev pub changes_layout : Profile → Change → Bool
 changes_layout old (Stamp field value) = false
+changes_layout old (Settle frames) = false
 changes_layout old (Rekey new) = is_plain old || not (old.page_size == new.page_size && old.reserve == new.reserve && beq old.reads_log new.reads_log)
 changes_layout old (Migrate new) = false
 
@@ -299,6 +316,7 @@ layouts_differ command = (traits command).mismatched
 -- the profile of a new file is served
 abbrev pub IsChangeServed : Change → Type 0
 IsChangeServed (Stamp field value) = Unit {0}
+IsChangeServed (Settle frames) = Unit {0}
 IsChangeServed (Rekey new) = IsListed new
 IsChangeServed (Migrate new) = IsListed new
 

@@ -20,7 +20,7 @@ ghost use Rattle.sqlcipher_tool.specs.Promises.{AnswersOne, IsUnrecovered};
 ghost use Rattle.sqlcipher_tool.specs.Recovered.{recovered_answers};
 ghost use Rattle.sqlcipher_tool.specs.Renewal.{AreDrawnBy, IsNewDrawn, renewed, secret_after};
 ghost use Rattle.sqlcipher_tool.specs.Untouched.{HasNoFile, IsUnwritten};
-ghost use Rattle.sqlcipher_tool.specs.Words.{IsServed, asks_again, changes_layout, is_in_place, profile_after};
+ghost use Rattle.sqlcipher_tool.specs.Words.{IsServed, asks_again, changes_layout, is_in_place, profile_after, profile_before};
 ghost use Rattle.sqlcipher_tool.specs.declared.command.Command.TheVariants.{Change as ChangeFile};
 
 use crate::command::Field;
@@ -30,6 +30,7 @@ use crate::opening::{ChangeError, Stop};
 use crate::recovery::recover_main;
 use crate::rekey::rekey_file;
 use crate::secrets::Secrets;
+use crate::settle::settle_file;
 use crate::stamp::stamp_file;
 use crate::status::Status;
 use cipher_profile::Profile;
@@ -47,6 +48,11 @@ pub enum Change {
         /// Its new number.
         value: u32,
     },
+    /// The marks of WAL mode, which go.
+    Settle {
+        /// How many frames of the log were laid into the file before.
+        frames: u64,
+    },
     /// The key of every page, to one of this profile.
     Rekey(Profile),
     /// The profile, to this one: the database is written anew in a file beside, which takes the old one's place.
@@ -54,12 +60,26 @@ pub enum Change {
 }
 
 impl Change {
+    /// The profile by which the old file is opened.
+    pub fn profile_before(&self, profile: Profile) -> Profile
+        ensures { result ≡ profile_before profile self.now }
+    {
+        let passes = match self {
+            Change::Settle { .. } => true,
+            Change::Stamp { .. } | Change::Rekey(_) | Change::Migrate(_) => profile.reads_log,
+        };
+        Profile {
+            reads_log: passes,
+            ..profile
+        }
+    }
+
     /// The profile of the new file.
     pub fn profile_after(&self, profile: Profile) -> Profile
         ensures { result ≡ profile_after profile self.now }
     {
         match self {
-            Change::Stamp { .. } => profile,
+            Change::Stamp { .. } | Change::Settle { .. } => profile,
             Change::Rekey(new) | Change::Migrate(new) => *new,
         }
     }
@@ -69,7 +89,7 @@ impl Change {
         ensures { result ≡ asks_again self.now }
     {
         match self {
-            Change::Stamp { .. } => false,
+            Change::Stamp { .. } | Change::Settle { .. } => false,
             Change::Rekey(new) | Change::Migrate(new) => !new.is_plain(),
         }
     }
@@ -86,7 +106,7 @@ impl Change {
                         && old.reserve == new.reserve
                         && old.reads_log == new.reads_log)
             }
-            Change::Stamp { .. } | Change::Migrate(_) => false,
+            Change::Stamp { .. } | Change::Settle { .. } | Change::Migrate(_) => false,
         }
     }
 }
@@ -146,15 +166,15 @@ fn change_main<S: Sink, E: Entropy, D: Disk>(
         (main_of (D.reads disk.old)) (main_of (D.reads disk.new))) result S.tells (S.taken out.old) (S.taken out.new) }
     ensures line { IsTrue S.tells → PutsLine result (S.taken out.old) (S.taken out.new) }
     ensures causes { HasDrawnCauses result true (D.faults disk.old) (D.faults disk.new) (S.faults out.old) (S.faults out.new) (E.faults entropy.old) (E.faults entropy.new) }
-    ensures safely { IsTrue D.tells → Each (D.images disk.old) (HoldsOnly (held_by (keys_of profile secrets.now.first (main_of (D.reads disk.old))) (main_of (D.reads disk.old))))
+    ensures safely { IsTrue D.tells → Each (D.images disk.old) (HoldsOnly (held_by (keys_of (profile_before profile change) secrets.now.first (main_of (D.reads disk.old))) (main_of (D.reads disk.old))))
         → KeepsOrCommits D.reads D.images D.moment D.since result
         (IsNewDrawn (ChangeFile profile change) (renewed profile change secrets.now.first secrets.now.second) E.tells
         (drop (length (E.drawn entropy.old)) (E.drawn entropy.new)) (main_of (D.reads disk.old)))
-        (HoldsOnly (held_by (keys_of profile secrets.now.first (main_of (D.reads disk.old))) (main_of (D.reads disk.old))))
+        (HoldsOnly (held_by (keys_of (profile_before profile change) secrets.now.first (main_of (D.reads disk.old))) (main_of (D.reads disk.old))))
         (λ file. HoldsOnly (held_by (keys_of (profile_after profile change) (secret_after change secrets.now.first secrets.now.second) file) file)) disk.old disk.new }
     ensures fresh { IsTrue D.tells → is_in_place change ≡ true → LeavesOnly D.moment D.since disk.old disk.new (From SameFresh (D.images disk.old)) }
     ensures stays { IsTrue D.tells → HasOnlyRead true result → Each (D.images disk.new) (IsOld (D.images disk.old)) }
-    ensures unopened { IsTrue D.tells → IsErr (opened_with profile secrets.now.first (main_of (D.reads disk.old)))
+    ensures unopened { IsTrue D.tells → IsErr (opened_with (profile_before profile change) secrets.now.first (main_of (D.reads disk.old)))
         → OnlyRead D.reads D.images D.moment D.since disk.old disk.new }
     ensures fresh_gone { IsTrue D.tells → result ≡ Status.Done → is_in_place change ≡ false → (D.reads disk.new).fresh ≡ None }
     ensures own_draws { IsTrue D.tells → IsTrue E.tells → result ≡ Status.Done
@@ -184,15 +204,15 @@ fn change_opened<E: Entropy, D: Disk>(
         → Each (D.images disk.old) (IsAlone (main_of (D.reads disk.old))) }
     ensures told { IsTrue D.tells → (answer : Answer) → change_answer result ≡ Some answer
         → Contains (change_answers change (renewed profile change secrets.now.first secrets.now.second) (main_of (D.reads disk.old)) (main_of (D.reads disk.new))) answer }
-    ensures safely { IsTrue D.tells → Each (D.images disk.old) (HoldsOnly (held_by (keys_of profile secrets.now.first (main_of (D.reads disk.old))) (main_of (D.reads disk.old))))
+    ensures safely { IsTrue D.tells → Each (D.images disk.old) (HoldsOnly (held_by (keys_of (profile_before profile change) secrets.now.first (main_of (D.reads disk.old))) (main_of (D.reads disk.old))))
         → KeepsOrCommits D.reads D.images D.moment D.since (change_status result)
         (IsNewDrawn (ChangeFile profile change) (renewed profile change secrets.now.first secrets.now.second) E.tells
         (drop (length (E.drawn entropy.old)) (E.drawn entropy.new)) (main_of (D.reads disk.old)))
-        (HoldsOnly (held_by (keys_of profile secrets.now.first (main_of (D.reads disk.old))) (main_of (D.reads disk.old))))
+        (HoldsOnly (held_by (keys_of (profile_before profile change) secrets.now.first (main_of (D.reads disk.old))) (main_of (D.reads disk.old))))
         (λ file. HoldsOnly (held_by (keys_of (profile_after profile change) (secret_after change secrets.now.first secrets.now.second) file) file)) disk.old disk.new }
     ensures fresh { IsTrue D.tells → is_in_place change ≡ true → LeavesOnly D.moment D.since disk.old disk.new (From SameFresh (D.images disk.old)) }
     ensures stays { IfErr result (λ e. IsRefusedChange e → IsTrue D.tells → Each (D.images disk.new) (IsOld (D.images disk.old))) }
-    ensures unopened { IsTrue D.tells → IsErr (opened_with profile secrets.now.first (main_of (D.reads disk.old)))
+    ensures unopened { IsTrue D.tells → IsErr (opened_with (profile_before profile change) secrets.now.first (main_of (D.reads disk.old)))
         → OnlyRead D.reads D.images D.moment D.since disk.old disk.new }
     ensures fresh_gone { IsTrue D.tells → is_in_place change ≡ false → OnOk result ((D.reads disk.new).fresh ≡ None) }
     ensures own_draws { OnOk result (IsTrue D.tells → IsTrue E.tells
@@ -214,6 +234,9 @@ fn change_opened<E: Entropy, D: Disk>(
             entropy,
             disk,
         ),
+        Change::Settle { frames } => {
+            settle_file(alloc, profile, frames, &secrets.first, entropy, disk)
+        }
         Change::Rekey(new) => rekey_file(
             alloc,
             profile,

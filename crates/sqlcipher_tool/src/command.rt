@@ -225,6 +225,9 @@ fn command_on<'w>(name: &str, word: &str) -> Option<Command<'w>>
     if name == "recover" {
         return Some(Command::Recover(profile?));
     }
+    if name == "settle" {
+        return Some(Command::Change(profile?, Change::Settle { frames: 0 }));
+    }
     None
 }
 

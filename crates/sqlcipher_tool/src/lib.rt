@@ -8,11 +8,13 @@ mod complete;
 mod conclusion;
 mod export;
 mod find;
+mod first_page;
 mod header;
 mod in_use;
 mod laws;
 mod make;
 mod migrate;
+mod mute;
 mod names;
 mod no_entropy;
 mod opening;
@@ -22,7 +24,10 @@ mod reading;
 mod recovery;
 mod rekey;
 mod salvage;
+mod seams;
 mod secrets;
+mod settle;
+mod settling;
 mod stamp;
 mod status;
 mod tags;
@@ -43,6 +48,12 @@ pub use laws::{
 };
 pub use names::near_names;
 pub use opening::Stop;
+pub use seams::{read_alike_law, seams_law, settle_done_law, settled_clean_law};
+pub use secrets::Secrets;
+pub use settling::{
+    check_to_settle, key_to_settle, lay_log, profile_to_settle, recover_to_settle,
+    refuse_other_log, settle_marks,
+};
 pub use status::{Refusal, Status};
 pub use top::run;
 pub use with_log::{MOST_PAGES, conclude_view, profile_with_log};

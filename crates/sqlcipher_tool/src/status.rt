@@ -82,6 +82,8 @@ pub enum Refusal {
     },
     /// The log has more pages, or more frames, than can be read with it.
     LogTooLarge,
+    /// Page 1 of the log has another salt than the file, so the log is another file's.
+    LogOfOther,
     /// The structure of the database has this defect.
     Defect(Defect),
     /// The new database has more pages than are served.

@@ -1,7 +1,7 @@
 // Printed lines, in place: none takes memory.
 ghost use Rattle.std.specs.Prelude.{◌≡◌, ◌+◌, ◌≤◌, ◌++◌, [], length, codes};
 ghost use Rattle.text_lines.specs.Text.{field_line};
-ghost use Rattle.sqlcipher_tool.specs.Text.{defect_text, of_page, verify_report, refusal_text, refusal_line, tags_report, probe_report, profile_word, recovery_line, stamped_report, rekeyed_report, migrated_report, made_report, header_report, usage_line, key_refused_line};
+ghost use Rattle.sqlcipher_tool.specs.Text.{defect_text, of_page, verify_report, refusal_text, refusal_line, tags_report, probe_report, profile_word, recovery_line, stamped_report, settled_report, rekeyed_report, migrated_report, made_report, header_report, usage_line, key_refused_line};
 
 use crate::status::Refusal;
 use cipher_profile::Profile;
@@ -96,6 +96,7 @@ fn refusal_text(refusal: &Refusal) -> Text
             b" pages",
         ),
         Refusal::LogTooLarge => text.push(b"log is too large"),
+        Refusal::LogOfOther => text.push(b"log is another file's"),
         Refusal::SuperJournal => text.push(b"journal names a super-journal"),
         Refusal::TooManyPages { limit } => {
             text.push(b"too many pages: limit ");
@@ -207,6 +208,17 @@ pub fn migrated_report(pages: u32) -> Text
 {
     let mut text = Text::new();
     text.push_around(b"migrated: ", u64::from(pages), b" pages\n");
+    text
+}
+
+/// The line of a file that was settled: so many frames of its log were laid, so many pointer-map pages became free.
+pub fn settled_report(frames: u64, maps: u64) -> Text
+    ensures { result ≡ settled_report frames maps }
+{
+    let mut text = Text::new();
+    text.push_around(b"settled: ", frames, b" log frames, ");
+    text.push_number(maps);
+    text.push(b" map pages\n");
     text
 }
 

@@ -11,7 +11,7 @@ use Rattle.sqlcipher_tool.specs.Due.{change_answers}
 use Rattle.sqlcipher_tool.specs.Holding.{HoldsOnly, held_by}
 use Rattle.sqlcipher_tool.specs.Recovered.{recovered_main, recovery_of}
 use Rattle.sqlcipher_tool.specs.Renewal.{IsNewDrawn, Renewal, renewed, secret_after}
-use Rattle.sqlcipher_tool.specs.Words.{profile_after}
+use Rattle.sqlcipher_tool.specs.Words.{profile_after, profile_before}
 use Rattle.sqlcipher_tool.specs.declared.command.Command.TheVariants.{Change as ChangeFile}
 use Rattle.sqlcipher_tool.proofs.Answered.{holds_on}
 use Rattle.sqlcipher_tool.proofs.Behind.{old_done, recovery_last}
@@ -33,17 +33,17 @@ returns-in-Ok-clause-changes g c = λ told start.
     let profile = c.args.profile in
     let secret = c.args.secrets.now.first in
     let file = recovered_main profile (d.reads c.args.disk.now) in
-    let keys = keys_of profile secret file in
+    let keys = keys_of (profile_before profile c.args.change) secret file in
     let first : LeavesOnly d.moment d.since c.args.disk.now c.recover_main.new.disk (HoldsOnly (held_by keys file)) =
     weaker (λ image from. holds_on profile.page_size (held_by keys file) from.0 image refl from.2 (start from.0 from.1)) (c.recover_main.ensures.keeps told) in
     let main = main_of (d.reads c.recover_main.new.disk) in
     let same : file ≡ main = sym (c.in-Ok.ensures.main told) in
-    let begun : Each (d.images c.recover_main.new.disk) (HoldsOnly (held_by (keys_of profile secret main) main)) =
-    subst (λ (l : List ℕ). Each (d.images c.recover_main.new.disk) (HoldsOnly (held_by (keys_of profile secret l) l))) same (at_exit g.met.D.Disk.counts_now first) in
+    let begun : Each (d.images c.recover_main.new.disk) (HoldsOnly (held_by (keys_of (profile_before profile c.args.change) secret main) main)) =
+    subst (λ (l : List ℕ). Each (d.images c.recover_main.new.disk) (HoldsOnly (held_by (keys_of (profile_before profile c.args.change) secret l) l))) same (at_exit g.met.D.Disk.counts_now first) in
     let drawn = drop (length (g.E.Entropy.drawn c.args.entropy.now)) (g.E.Entropy.drawn c.change_main.new.entropy) in
     let renewal : Renewal = renewed c.args.profile c.args.change c.args.secrets.now.first c.args.secrets.now.second in
     let next = subst (λ (l : List ℕ). KeepsOrCommits d.reads d.images d.moment d.since c.change_main.result (IsNewDrawn (ChangeFile c.args.profile c.args.change) renewal g.E.Entropy.tells drawn l)
-    (HoldsOnly (held_by (keys_of profile secret l) l)) (λ n. HoldsOnly (held_by (keys_of (profile_after c.args.profile c.args.change) (secret_after c.args.change c.args.secrets.now.first c.args.secrets.now.second) n) n)) c.recover_main.new.disk c.change_main.new.disk) (sym same)
+    (HoldsOnly (held_by (keys_of (profile_before profile c.args.change) secret l) l)) (λ n. HoldsOnly (held_by (keys_of (profile_after c.args.profile c.args.change) (secret_after c.args.change c.args.secrets.now.first c.args.secrets.now.second) n) n)) c.recover_main.new.disk c.change_main.new.disk) (sym same)
     (c.change_main.ensures.safely told begun) in
     as_run d.reads d.images d.moment d.since g.met.D.Disk.counts_now g.met.D.Disk.only_now c.change_main.result
     (after_old d.reads d.images d.moment d.since g.met.D.Disk.counts_now g.met.D.Disk.only_now c.change_main.result first next)
@@ -103,7 +103,7 @@ pub returns-in-Err-clause-changes : goal.returns-in-Err-clause-changes
 returns-in-Err-clause-changes g c = λ told start.
     let profile = c.args.profile in
     let file = recovered_main profile (g.D.Disk.reads c.args.disk.now) in
-    let held = held_by (keys_of profile c.args.secrets.now.first file) file in
+    let held = held_by (keys_of (profile_before profile c.args.change) c.args.secrets.now.first file) file in
     inl (record {
       any_moment = λ image ever. let from = (c.recover_main.ensures.keeps told).each image ever in holds_on profile.page_size held from.0 image refl from.2 (start from.0 from.1);
       not_done = last_not_done c.in-Err.stop c.conclude_stop.result (stop_last c.in-Err.stop c.conclude_stop.result c.conclude_stop.ensures.status
@@ -126,7 +126,7 @@ returns-in-Ok-clause-untouched g c = λ told none.
     let same : main ≡ main_of files = ap (λ (f : Files). main_of f) unwritten.reads in
     let empty = ap (λ (l : List ℕ). length l) same ∙ has_no_byte c.args.profile files c.in-Ok.field-0 (c.in-Ok.ensures.recovery told) none in
     unwritten_read g.met.D.Disk.counts_now (c.recover_main.ensures.keeps told).later unwritten
-    (c.change_main.ensures.unopened told (empty_unopened c.args.profile c.args.secrets.now.first main empty))
+    (c.change_main.ensures.unopened told (empty_unopened (profile_before c.args.profile c.args.change) c.args.secrets.now.first main empty))
 
 pub returns-in-Err-clause-fresh_gone : goal.returns-in-Err-clause-fresh_gone
 returns-in-Err-clause-fresh_gone g c = λ told is beside.

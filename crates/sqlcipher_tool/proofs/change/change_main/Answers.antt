@@ -10,7 +10,7 @@ use Rattle.sqlcipher_tool.specs.Change.{KeepsOrCommits, change_answer, change_st
 use Rattle.sqlcipher_tool.specs.Due.{change_answers}
 use Rattle.sqlcipher_tool.specs.Holding.{HoldsOnly, held_by}
 use Rattle.sqlcipher_tool.specs.Renewal.{IsNewDrawn, renewed, secret_after}
-use Rattle.sqlcipher_tool.specs.Words.{profile_after}
+use Rattle.sqlcipher_tool.specs.Words.{profile_after, profile_before}
 use Rattle.sqlcipher_tool.specs.declared.command.Command.TheVariants.{Change as ChangeFile}
 use Rattle.sqlcipher_tool.specs.declared.opening.ChangeError.{ChangeError}
 use Rattle.sqlcipher_tool.specs.declared.opening.ChangeError.TheVariants.{Stopped, EntropyFault as EntropyFails}
@@ -44,7 +44,7 @@ returns-in-Ok-clause-safely g c = λ told start.
     let file = main_of (d.reads c.args.disk.now) in
     let renewal = renewed c.args.profile c.args.change c.args.secrets.now.first c.args.secrets.now.second in
     let was = subst (λ (r : Outcome). KeepsOrCommits d.reads d.images d.moment d.since (change_status r) (IsNewDrawn (ChangeFile c.args.profile c.args.change) renewal g.E.Entropy.tells (drop (length (g.E.Entropy.drawn c.args.entropy.now)) (g.E.Entropy.drawn c.change_opened.new.entropy)) file)
-    (HoldsOnly (held_by (keys_of c.args.profile c.args.secrets.now.first file) file)) (λ n. HoldsOnly (held_by (keys_of (profile_after c.args.profile c.args.change) (secret_after c.args.change c.args.secrets.now.first c.args.secrets.now.second) n) n)) c.args.disk.now c.change_opened.new.disk) c.in-Ok.is (c.change_opened.ensures.safely told start) in
+    (HoldsOnly (held_by (keys_of (profile_before c.args.profile c.args.change) c.args.secrets.now.first file) file)) (λ n. HoldsOnly (held_by (keys_of (profile_after c.args.profile c.args.change) (secret_after c.args.change c.args.secrets.now.first c.args.secrets.now.second) n) n)) c.args.disk.now c.change_opened.new.disk) c.in-Ok.is (c.change_opened.ensures.safely told start) in
     printed d.reads d.images d.moment d.since g.met.D.Disk.counts_now g.met.D.Disk.only_now Done c.conclude.result
     (⊎_elim (λ same. inl same) (λ out. inr (out, tt)) c.conclude.ensures.status) was
 
@@ -85,7 +85,7 @@ returns-in-Err-Stopped-clause-safely g c = λ told start.
     let file = main_of (d.reads c.args.disk.now) in
     let renewal = renewed c.args.profile c.args.change c.args.secrets.now.first c.args.secrets.now.second in
     let was = subst (λ (r : Outcome). KeepsOrCommits d.reads d.images d.moment d.since (change_status r) (IsNewDrawn (ChangeFile c.args.profile c.args.change) renewal g.E.Entropy.tells (drop (length (g.E.Entropy.drawn c.args.entropy.now)) (g.E.Entropy.drawn c.change_opened.new.entropy)) file)
-    (HoldsOnly (held_by (keys_of c.args.profile c.args.secrets.now.first file) file)) (λ n. HoldsOnly (held_by (keys_of (profile_after c.args.profile c.args.change) (secret_after c.args.change c.args.secrets.now.first c.args.secrets.now.second) n) n)) c.args.disk.now c.change_opened.new.disk) is (c.change_opened.ensures.safely told start) in
+    (HoldsOnly (held_by (keys_of (profile_before c.args.profile c.args.change) c.args.secrets.now.first file) file)) (λ n. HoldsOnly (held_by (keys_of (profile_after c.args.profile c.args.change) (secret_after c.args.change c.args.secrets.now.first c.args.secrets.now.second) n) n)) c.args.disk.now c.change_opened.new.disk) is (c.change_opened.ensures.safely told start) in
     printed d.reads d.images d.moment d.since g.met.D.Disk.counts_now g.met.D.Disk.only_now _ c.conclude_stop.result
     (stop_last _ c.conclude_stop.result c.conclude_stop.ensures.status (λ same. (c.conclude_stop.ensures.disk same).0) (λ same. (c.conclude_stop.ensures.memory same).0)) was
 
@@ -117,7 +117,7 @@ returns-in-Err-EntropyFault-clause-safely g c = λ told start.
     let file = main_of (d.reads c.args.disk.now) in
     let renewal = renewed c.args.profile c.args.change c.args.secrets.now.first c.args.secrets.now.second in
     subst (λ (r : Outcome). KeepsOrCommits d.reads d.images d.moment d.since (change_status r) (IsNewDrawn (ChangeFile c.args.profile c.args.change) renewal g.E.Entropy.tells (drop (length (g.E.Entropy.drawn c.args.entropy.now)) (g.E.Entropy.drawn c.change_opened.new.entropy)) file)
-    (HoldsOnly (held_by (keys_of c.args.profile c.args.secrets.now.first file) file)) (λ n. HoldsOnly (held_by (keys_of (profile_after c.args.profile c.args.change) (secret_after c.args.change c.args.secrets.now.first c.args.secrets.now.second) n) n)) c.args.disk.now c.change_opened.new.disk) is (c.change_opened.ensures.safely told start)
+    (HoldsOnly (held_by (keys_of (profile_before c.args.profile c.args.change) c.args.secrets.now.first file) file)) (λ n. HoldsOnly (held_by (keys_of (profile_after c.args.profile c.args.change) (secret_after c.args.change c.args.secrets.now.first c.args.secrets.now.second) n) n)) c.args.disk.now c.change_opened.new.disk) is (c.change_opened.ensures.safely told start)
 
 pub returns-in-Err-EntropyFault-clause-fresh : goal.returns-in-Err-EntropyFault-clause-fresh
 returns-in-Err-EntropyFault-clause-fresh g c = λ told in_place. c.change_opened.ensures.fresh told in_place

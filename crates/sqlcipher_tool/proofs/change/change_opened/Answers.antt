@@ -1,15 +1,17 @@
 use Rattle.std.proofs.Common.{◌≡◌, true, false, length, drop, refl, sym, ap, subst, ◌∙◌}
 use Rattle.std.specs.List.{Contains}
-use Rattle.std.specs.Prelude.{OnOk, IsTrue}
+use Rattle.std.specs.Prelude.{IsErr, OnOk, IsTrue}
 use Rattle.edge_model.specs.Files.{main_of}
+use Rattle.edge_model.specs.Images.{Each}
 use Rattle.page_codec.specs.Page.{keys_of}
 use Rattle.sqlcipher_tool.specs.Change.{KeepsOrCommits, change_status}
 use Rattle.sqlcipher_tool.specs.Due.{change_answers}
 use Rattle.sqlcipher_tool.specs.Holding.{HoldsOnly, held_by}
+use Rattle.sqlcipher_tool.specs.Opening.{opened_with}
 use Rattle.sqlcipher_tool.specs.Renewal.{AreDrawnBy, IsNewDrawn, renewed, secret_after}
-use Rattle.sqlcipher_tool.specs.Words.{changes_layout, is_in_place, profile_after}
+use Rattle.sqlcipher_tool.specs.Words.{changes_layout, is_in_place, profile_after, profile_before}
 use Rattle.sqlcipher_tool.specs.declared.change.Change.{Change}
-use Rattle.sqlcipher_tool.specs.declared.change.Change.TheVariants.{Stamp, Rekey, Migrate}
+use Rattle.sqlcipher_tool.specs.declared.change.Change.TheVariants.{Stamp, Settle, Rekey, Migrate}
 use Rattle.sqlcipher_tool.specs.declared.command.Command.TheVariants.{Change as ChangeFile}
 use Rattle.sqlcipher_tool.proofs.Asked.{same_layout}
 use Rattle.sqlcipher_tool.proofs.Changed.{the_only}
@@ -35,8 +37,8 @@ returns-in-Stamp-clause-safely g c = λ told start.
     let second = c.args.secrets.now.second in
     subst (λ (ch : Change). KeepsOrCommits d.reads d.images d.moment d.since (change_status c.stamp_file.result)
     (IsNewDrawn (ChangeFile old ch) (renewed old ch first second) tells drawn file)
-    (HoldsOnly (held_by (keys_of old first file) file)) (λ n. HoldsOnly (held_by (keys_of (profile_after old ch) (secret_after ch first second) n) n)) c.args.disk.now c.stamp_file.new.disk)
-    (sym c.in-Stamp.is) (c.stamp_file.ensures.safely told start)
+    (HoldsOnly (held_by (keys_of (profile_before old ch) first file) file)) (λ n. HoldsOnly (held_by (keys_of (profile_after old ch) (secret_after ch first second) n) n)) c.args.disk.now c.stamp_file.new.disk)
+    (sym c.in-Stamp.is) (c.stamp_file.ensures.safely told (subst (λ (ch : Change). Each (d.images c.args.disk.now) (HoldsOnly (held_by (keys_of (profile_before old ch) first file) file))) c.in-Stamp.is start))
 
 pub returns-in-Stamp-clause-own_draws : goal.returns-in-Stamp-clause-own_draws
 returns-in-Stamp-clause-own_draws g c =
@@ -46,6 +48,38 @@ returns-in-Stamp-clause-own_draws g c =
     let old = c.args.profile in
     subst (λ (ch : Change). OnOk c.stamp_file.result (IsTrue d.tells → IsTrue g.E.Entropy.tells
     → AreDrawnBy (ChangeFile old ch) (renewed old ch c.args.secrets.now.first c.args.secrets.now.second) main drawn)) (sym c.in-Stamp.is) c.stamp_file.ensures.own_draws
+
+-- ---- and so does a settling
+
+pub returns-in-Settle-clause-told : goal.returns-in-Settle-clause-told
+returns-in-Settle-clause-told g c = λ told answer is.
+    let file = main_of (g.D.Disk.reads c.args.disk.now) in
+    let after = main_of (g.D.Disk.reads c.settle_file.new.disk) in
+    subst (λ (ch : Change). Contains (change_answers ch (renewed c.args.profile ch c.args.secrets.now.first c.args.secrets.now.second) file after) answer) (sym c.in-Settle.is)
+    (the_only _ answer (sym (c.settle_file.ensures.told told answer is)))
+
+pub returns-in-Settle-clause-safely : goal.returns-in-Settle-clause-safely
+returns-in-Settle-clause-safely g c = λ told start.
+    let d = g.D.Disk in
+    let file = main_of (d.reads c.args.disk.now) in
+    let tells = g.E.Entropy.tells in
+    let drawn = drop (length (g.E.Entropy.drawn c.args.entropy.now)) (g.E.Entropy.drawn c.settle_file.new.entropy) in
+    let old = c.args.profile in
+    let first = c.args.secrets.now.first in
+    let second = c.args.secrets.now.second in
+    subst (λ (ch : Change). KeepsOrCommits d.reads d.images d.moment d.since (change_status c.settle_file.result)
+    (IsNewDrawn (ChangeFile old ch) (renewed old ch first second) tells drawn file)
+    (HoldsOnly (held_by (keys_of (profile_before old ch) first file) file)) (λ n. HoldsOnly (held_by (keys_of (profile_after old ch) (secret_after ch first second) n) n)) c.args.disk.now c.settle_file.new.disk)
+    (sym c.in-Settle.is) (c.settle_file.ensures.safely told (subst (λ (ch : Change). Each (d.images c.args.disk.now) (HoldsOnly (held_by (keys_of (profile_before old ch) first file) file))) c.in-Settle.is start))
+
+pub returns-in-Settle-clause-own_draws : goal.returns-in-Settle-clause-own_draws
+returns-in-Settle-clause-own_draws g c =
+    let d = g.D.Disk in
+    let main = main_of (d.reads c.settle_file.new.disk) in
+    let drawn = drop (length (g.E.Entropy.drawn c.args.entropy.now)) (g.E.Entropy.drawn c.settle_file.new.entropy) in
+    let old = c.args.profile in
+    subst (λ (ch : Change). OnOk c.settle_file.result (IsTrue d.tells → IsTrue g.E.Entropy.tells
+    → AreDrawnBy (ChangeFile old ch) (renewed old ch c.args.secrets.now.first c.args.secrets.now.second) main drawn)) (sym c.in-Settle.is) c.settle_file.ensures.own_draws
 
 -- ---- a rekey keeps the layout
 
@@ -71,8 +105,8 @@ returns-in-Rekey-clause-safely g c = λ told start.
     let second = c.args.secrets.now.second in
     subst (λ (ch : Change). KeepsOrCommits d.reads d.images d.moment d.since (change_status c.rekey_file.result)
     (IsNewDrawn (ChangeFile old ch) (renewed old ch first second) tells drawn file)
-    (HoldsOnly (held_by (keys_of old first file) file)) (λ n. HoldsOnly (held_by (keys_of (profile_after old ch) (secret_after ch first second) n) n)) c.args.disk.now c.rekey_file.new.disk)
-    (sym c.in-Rekey.is) (c.rekey_file.ensures.safely told start)
+    (HoldsOnly (held_by (keys_of (profile_before old ch) first file) file)) (λ n. HoldsOnly (held_by (keys_of (profile_after old ch) (secret_after ch first second) n) n)) c.args.disk.now c.rekey_file.new.disk)
+    (sym c.in-Rekey.is) (c.rekey_file.ensures.safely told (subst (λ (ch : Change). Each (d.images c.args.disk.now) (HoldsOnly (held_by (keys_of (profile_before old ch) first file) file))) c.in-Rekey.is start))
 
 pub returns-in-Rekey-clause-own_draws : goal.returns-in-Rekey-clause-own_draws
 returns-in-Rekey-clause-own_draws g c =
@@ -103,8 +137,8 @@ returns-in-Migrate-clause-safely g c = λ told start.
     let second = c.args.secrets.now.second in
     subst (λ (ch : Change). KeepsOrCommits d.reads d.images d.moment d.since (change_status c.migrate_file.result)
     (IsNewDrawn (ChangeFile old ch) (renewed old ch first second) tells drawn file)
-    (HoldsOnly (held_by (keys_of old first file) file)) (λ n. HoldsOnly (held_by (keys_of (profile_after old ch) (secret_after ch first second) n) n)) c.args.disk.now c.migrate_file.new.disk)
-    (sym c.in-Migrate.is) (c.migrate_file.ensures.safely told start)
+    (HoldsOnly (held_by (keys_of (profile_before old ch) first file) file)) (λ n. HoldsOnly (held_by (keys_of (profile_after old ch) (secret_after ch first second) n) n)) c.args.disk.now c.migrate_file.new.disk)
+    (sym c.in-Migrate.is) (c.migrate_file.ensures.safely told (subst (λ (ch : Change). Each (d.images c.args.disk.now) (HoldsOnly (held_by (keys_of (profile_before old ch) first file) file))) c.in-Migrate.is start))
 
 pub returns-in-Migrate-clause-own_draws : goal.returns-in-Migrate-clause-own_draws
 returns-in-Migrate-clause-own_draws g c =
@@ -129,8 +163,31 @@ none_beside change kind is in_place beside = let none = sym in_place ∙ (sym (a
 pub returns-in-Stamp-clause-fresh_gone : goal.returns-in-Stamp-clause-fresh_gone
 returns-in-Stamp-clause-fresh_gone g c = λ told beside. absurd (none_beside c.args.change (Stamp c.in-Stamp.field c.in-Stamp.value) c.in-Stamp.is refl beside)
 
+pub returns-in-Settle-clause-fresh_gone : goal.returns-in-Settle-clause-fresh_gone
+returns-in-Settle-clause-fresh_gone g c = λ told beside. absurd (none_beside c.args.change (Settle c.in-Settle.frames) c.in-Settle.is refl beside)
+
 pub returns-in-Rekey-clause-fresh_gone : goal.returns-in-Rekey-clause-fresh_gone
 returns-in-Rekey-clause-fresh_gone g c = λ told beside. absurd (none_beside c.args.change (Rekey c.in-Rekey.new) c.in-Rekey.is refl beside)
 
 pub returns-in-Migrate-clause-fresh_gone : goal.returns-in-Migrate-clause-fresh_gone
 returns-in-Migrate-clause-fresh_gone g c = λ told beside. c.migrate_file.ensures.fresh_gone told
+
+pub returns-in-Stamp-clause-unopened : goal.returns-in-Stamp-clause-unopened
+returns-in-Stamp-clause-unopened g c = λ told err.
+    let file = main_of (g.D.Disk.reads c.args.disk.now) in
+    c.stamp_file.ensures.unopened told (subst (λ (ch : Change). IsErr (opened_with (profile_before c.args.profile ch) c.args.secrets.now.first file)) c.in-Stamp.is err)
+
+pub returns-in-Settle-clause-unopened : goal.returns-in-Settle-clause-unopened
+returns-in-Settle-clause-unopened g c = λ told err.
+    let file = main_of (g.D.Disk.reads c.args.disk.now) in
+    c.settle_file.ensures.unopened told (subst (λ (ch : Change). IsErr (opened_with (profile_before c.args.profile ch) c.args.secrets.now.first file)) c.in-Settle.is err)
+
+pub returns-in-Rekey-clause-unopened : goal.returns-in-Rekey-clause-unopened
+returns-in-Rekey-clause-unopened g c = λ told err.
+    let file = main_of (g.D.Disk.reads c.args.disk.now) in
+    c.rekey_file.ensures.unopened told (subst (λ (ch : Change). IsErr (opened_with (profile_before c.args.profile ch) c.args.secrets.now.first file)) c.in-Rekey.is err)
+
+pub returns-in-Migrate-clause-unopened : goal.returns-in-Migrate-clause-unopened
+returns-in-Migrate-clause-unopened g c = λ told err.
+    let file = main_of (g.D.Disk.reads c.args.disk.now) in
+    c.migrate_file.ensures.unopened told (subst (λ (ch : Change). IsErr (opened_with (profile_before c.args.profile ch) c.args.secrets.now.first file)) c.in-Migrate.is err)

@@ -1,4 +1,5 @@
 use Rattle.std.proofs.Common.{◌≡◌, ⊎_elim, inl, ◌≤◌, ◌==◌, ℕ, List, [], drop, length, Option, Result, Ok, Err, IsTrue, refl, sym, ap, subst, ◌∙◌, arith, rules}
+use Rattle.std.specs.Int.{w32, to_be_bytes}
 use Rattle.std.specs.Prelude.{OnOk, unwrap_or}
 use Rattle.fresh_disk.specs.Published.{IsAlone}
 use Rattle.edge_model.specs.Files.{Files, main_of}
@@ -15,7 +16,8 @@ use Rattle.sqlcipher_tool.specs.Holding.{HoldsOnly, held_by}
 use Rattle.sqlcipher_tool.specs.Opening.{opened_with}
 use Rattle.rekey_job.specs.Draws.{FileDraws}
 use Rattle.sqlcipher_tool.specs.Renewal.{WithDraws}
-use Rattle.sqlcipher_tool.specs.Stamp.{IsStamped, stamped_answer}
+use Rattle.sqlcipher_tool.specs.FirstPage.{IsFirstChanged, IsHarmless}
+use Rattle.sqlcipher_tool.specs.Stamp.{IsStamped, field_at, stamped_answer}
 use Rattle.sqlcipher_tool.specs.Text.{stamped_report}
 use Rattle.sqlcipher_tool.specs.declared.status.Status.{Status}
 use Rattle.sqlcipher_tool.specs.declared.status.Status.TheVariants.{Done}
@@ -24,6 +26,7 @@ use Rattle.sqlcipher_tool.proofs.Changing.{after_old, read_fresh, read_only, sai
 use Rattle.sqlcipher_tool.proofs.OpenedParts.{open_parts, opened_same}
 use Rattle.sqlcipher_tool.proofs.Databases.{told_base}
 use Rattle.sqlcipher_tool.proofs.FirstBytes.{fitting_salt}
+use Rattle.sqlcipher_tool.proofs.Harmless.{field_harmless}
 use Rattle.sqlcipher_tool.proofs.Stamping.{same_keys, starts}
 use Rattle.sqlcipher_tool.proofs.Changed.{fault_none}
 use Rattle.sqlcipher_tool.proofs.Verified.{some_is}
@@ -48,9 +51,9 @@ returns-in-Err-clause-fresh g c = λ told.
     let d = g.D.Disk in
     read_fresh d.reads d.images d.moment d.since g.met.D.Disk.counts_now g.met.D.Disk.only_now (c.open_main.ensures.only_read told)
 
--- the conditions, by their places: base, base_is, sizes, drawn, write, listed, salt, opened, alone
-pub stamp_pages-disk-requires : goal.stamp_pages-disk-requires
-stamp_pages-disk-requires g c κs within =
+-- the conditions, by their places: base, base_is, sizes, drawn, write, listed, salt, opened, alone, harmless
+pub change_first-disk-requires : goal.change_first-disk-requires
+change_first-disk-requires g c κs within =
     let d = g.D.Disk in
     let p = c.into_pager-pager.result in
     let made = c.into_pager-pager.ensures in
@@ -84,11 +87,15 @@ stamp_pages-disk-requires g c κs within =
                           ∙ (fitting_salt c.args.profile c.args.secret.now file c.requires.listed is_open.fit ∙ ap (λ (l : List ℕ). salt_of l) (sym (same told))),
                       (
                         opened,
-                        λ told image now.
-                            let read = c.open_main.ensures.only_read told in
-                            let is_open = open_parts keys file _ _ (c.in-Ok.ensures.opens told) in
-                            let at_first = read.same_images.no_more image (subst (λ (x : _). d.images x image) made.disk.1 now) in
-                            subst (λ (l : List ℕ). IsAlone l image) (sym (same told)) (c.requires.alone told is_open.long image at_first),
+                        (
+                          λ told image now.
+                              let read = c.open_main.ensures.only_read told in
+                              let is_open = open_parts keys file _ _ (c.in-Ok.ensures.opens told) in
+                              let at_first = read.same_images.no_more image (subst (λ (x : _). d.images x image) made.disk.1 now) in
+                              subst (λ (l : List ℕ). IsAlone l image) (sym (same told)) (c.requires.alone told is_open.long image at_first),
+                          subst (λ (k : ℕ). IsHarmless p.codec.profile k c.u32_bytes-bytes.result) (sym c.field_at.ensures.value)
+                              (subst (λ (l : List ℕ). IsHarmless p.codec.profile (field_at c.args.field) l) (sym c.u32_bytes-bytes.ensures) (field_harmless p.codec.profile c.args.field c.args.value)),
+                        ),
                       ),
                     ),
                   ),
@@ -102,9 +109,9 @@ stamp_pages-disk-requires g c κs within =
 
 pub returns-clause-told : goal.returns-clause-told
 returns-clause-told g c = λ told answer same. ⊎_elim
-    (λ fault. absurd (fault_none c.stamp_pages-disk.result.2 answer fault same))
-    (λ is. some_is answer (done stamped_report) (sym same ∙ ap change_answer is) ∙ sym (ap stamped_answer (c.in-Ok.ensures.opens told)))
-    (c.stamp_pages-disk.ensures.told told)
+    (λ fault. absurd (fault_none c.change_first-disk.result.2 answer fault same))
+    (λ is. some_is answer (done stamped_report) (sym same ∙ ap change_answer (is ∙ ap (λ (l : List ℕ). Ok l) c.stamped_report-report.ensures)) ∙ sym (ap stamped_answer (c.in-Ok.ensures.opens told)))
+    (c.change_first-disk.ensures.told told)
 
 pub returns-clause-safely : goal.returns-clause-safely
 returns-clause-safely g c = λ told start.
@@ -116,16 +123,20 @@ returns-clause-safely g c = λ told start.
     let secret = c.args.secret.now in
     let profile = c.args.profile in
     let keys = keys_of profile secret file in
-    let status = change_status c.stamp_pages-disk.result.2 in
-    let end = c.stamp_pages-disk.result.0.now in
+    let status = change_status c.change_first-disk.result.2 in
+    let end = c.change_first-disk.result.0.now in
     let n = g.E.Entropy in
-    let after = n.drawn c.stamp_pages-disk.result.1.now in
+    let after = n.drawn c.change_first-disk.result.1.now in
     let own : FileKeys → List ℕ → Type 0 = λ k m. FileDraws k m (λ i. i == 1) 0 (drop (length (n.drawn p.entropy.now)) after) in
     let drawn = drop (length (n.drawn c.args.entropy.now)) after in
     let codec : p.codec ≡ keys = c.into_pager-pager.ensures.file.0 ∙ c.in-Ok.ensures.codec told in
     let same : main_of (d.reads p.disk.now) ≡ file = ap (λ (x : _). main_of (d.reads x)) made ∙ ap (λ (files : Files). main_of files) read.stays in
+    let bytes = subst (λ (l : List ℕ). KeepsOrCommits d.reads d.images d.moment d.since status (WithDraws (IsFirstChanged p.codec c.field_at.result l (main_of (d.reads p.disk.now))) n.tells (own p.codec))
+    (HoldsOnly (held_by p.codec (main_of (d.reads p.disk.now)))) (λ m. HoldsOnly (held_by p.codec m)) p.disk.now end) c.u32_bytes-bytes.ensures (c.change_first-disk.ensures.safely told) in
+    let zero = subst (λ (k : ℕ). KeepsOrCommits d.reads d.images d.moment d.since status (WithDraws (IsFirstChanged p.codec k (to_be_bytes w32 c.args.value) (main_of (d.reads p.disk.now))) n.tells (own p.codec))
+    (HoldsOnly (held_by p.codec (main_of (d.reads p.disk.now)))) (λ m. HoldsOnly (held_by p.codec m)) p.disk.now end) c.field_at.ensures.value bytes in
     let one = subst (λ (k : FileKeys). KeepsOrCommits d.reads d.images d.moment d.since status (WithDraws (IsStamped k c.args.field c.args.value (main_of (d.reads p.disk.now))) n.tells (own k))
-    (HoldsOnly (held_by k (main_of (d.reads p.disk.now)))) (λ m. HoldsOnly (held_by k m)) p.disk.now end) codec (c.stamp_pages-disk.ensures.safely told) in
+    (HoldsOnly (held_by k (main_of (d.reads p.disk.now)))) (λ m. HoldsOnly (held_by k m)) p.disk.now end) codec zero in
     let two = subst (λ (l : List ℕ). KeepsOrCommits d.reads d.images d.moment d.since status (WithDraws (IsStamped keys c.args.field c.args.value l) n.tells (own keys))
     (HoldsOnly (held_by keys l)) (λ m. HoldsOnly (held_by keys m)) p.disk.now end) same one in
     let three = said_so d.reads d.images d.moment d.since g.met.D.Disk.counts_now g.met.D.Disk.only_now {R = λ m. HoldsOnly (held_by (keys_of profile secret m) m)}
@@ -139,7 +150,7 @@ returns-clause-safely g c = λ told start.
     let first : LeavesOnly d.moment d.since c.args.disk.now p.disk.now (HoldsOnly (held_by keys file)) =
     rw made (read_only d.reads d.images d.moment d.since g.met.D.Disk.counts_now g.met.D.Disk.only_now start read) in
     let last : c.disk-1.given.0 ≡ end = search rules in
-    let drawn_last : c.entropy-1.given.0 ≡ c.stamp_pages-disk.result.1.now = search rules in
+    let drawn_last : c.entropy-1.given.0 ≡ c.change_first-disk.result.1.now = search rules in
     rw (last, drawn_last) (after_old d.reads d.images d.moment d.since g.met.D.Disk.counts_now g.met.D.Disk.only_now status first three)
 
 pub returns-clause-fresh : goal.returns-clause-fresh
@@ -147,11 +158,11 @@ returns-clause-fresh g c = λ told.
     let d = g.D.Disk in
     let p = c.into_pager-pager.result in
     let made = c.into_pager-pager.ensures.disk.1 in
-    let end = c.stamp_pages-disk.result.0.now in
+    let end = c.change_first-disk.result.0.now in
     let first : LeavesOnly d.moment d.since c.args.disk.now p.disk.now (From SameFresh (d.images c.args.disk.now)) =
     rw made (read_fresh d.reads d.images d.moment d.since g.met.D.Disk.counts_now g.met.D.Disk.only_now (c.open_main.ensures.only_read told)) in
     let last : c.disk-1.given.0 ≡ end = search rules in
-    rw last (then_from g.met.D.Disk.counts_now (λ a b e ab be. be ∙ ab) first (c.stamp_pages-disk.ensures.fresh told))
+    rw last (then_from g.met.D.Disk.counts_now (λ a b e ab be. be ∙ ab) first (c.change_first-disk.ensures.fresh told))
 
 pub returns-in-Err-clause-unopened : goal.returns-in-Err-clause-unopened
 returns-in-Err-clause-unopened g c = λ told err. c.open_main.ensures.only_read told
@@ -163,7 +174,7 @@ pub returns-in-Err-clause-stays : goal.returns-in-Err-clause-stays
 returns-in-Err-clause-stays g c = λ refused told. read_stays (c.open_main.ensures.only_read told)
 
 pub returns-clause-stays : goal.returns-clause-stays
-returns-clause-stays g c = unrefused _ c.stamp_pages-disk.result.2 stamped_report c.stamp_pages-disk.ensures.told
+returns-clause-stays g c = unrefused _ c.change_first-disk.result.2 c.stamped_report-report.result c.change_first-disk.ensures.told
 
 -- after Done Main is the new file
 committed_new : {D : Type 0} (reads : D → Files) (images : D → Files → Type 0) (moment : D → ℕ) (since : D → ℕ → Files → Type 0) (status : Status) (new_file : List ℕ → Type 0)
@@ -186,16 +197,16 @@ returns-clause-own_draws g c =
     let secret = c.args.secret.now in
     let file = main_of (d.reads c.args.disk.now) in
     let keys = keys_of profile secret file in
-    let end = c.stamp_pages-disk.result.0.now in
-    let after = c.stamp_pages-disk.result.1.now in
+    let end = c.change_first-disk.result.0.now in
+    let after = c.change_first-disk.result.1.now in
     let main = main_of (d.reads end) in
     let last : c.disk-1.given.0 ≡ end = search rules in
     let drawn_last : c.entropy-1.given.0 ≡ after = search rules in
-    rw (last, drawn_last) (ok_with c.stamp_pages-disk.result.2 c.stamp_pages-disk.ensures.own_draws (λ report is draws told drawing.
+    rw (last, drawn_last) (ok_with c.change_first-disk.result.2 c.change_first-disk.ensures.own_draws (λ report is draws told drawing.
     let codec : p.codec ≡ keys = made.file.0 ∙ c.in-Ok.ensures.codec told in
     let same : main_of (d.reads p.disk.now) ≡ file = ap (λ (x : _). main_of (d.reads x)) made.disk.1 ∙ ap (λ (files : Files). main_of files) (c.open_main.ensures.only_read told).stays in
-    let stamped : IsStamped p.codec c.args.field c.args.value (main_of (d.reads p.disk.now)) main =
-    (committed_new d.reads d.images d.moment d.since (change_status c.stamp_pages-disk.result.2) _ _ _ p.disk.now end (ap change_status is) (c.stamp_pages-disk.ensures.safely told)).0 in
+    let stamped : IsFirstChanged p.codec c.field_at.result c.u32_bytes-bytes.result (main_of (d.reads p.disk.now)) main =
+    (committed_new d.reads d.images d.moment d.since (change_status c.change_first-disk.result.2) _ _ _ p.disk.now end (ap change_status is) (c.change_first-disk.ensures.safely told)).0 in
     let key : p.codec ≡ keys_of profile secret main = codec ∙ sym (same_keys profile secret main file (stamped.salt ∙ ap (λ (l : List ℕ). salt_of l) same)) in
     subst (λ (k : FileKeys). FileDraws k main (λ i. i == 1) 0 (drop (length (n.drawn c.args.entropy.now)) (n.drawn after))) key
     (subst (λ (x : _). FileDraws p.codec main (λ i. i == 1) 0 (drop (length (n.drawn x)) (n.drawn after))) made.entropy.1 (draws told drawing))))

@@ -2,8 +2,8 @@ use Rattle.edge_model.specs.Files.{main_of}
 use Rattle.sqlcipher_tool.proofs.Databases.{any_base}
 use Rattle.sqlcipher_tool.proofs.stamp.stamp_file.Given as goal
 
-abbrev pub ghost-stamp_pages : goal.ghost-stamp_pages
-ghost-stamp_pages g a = record {
+abbrev pub ghost-change_first : goal.ghost-change_first
+ghost-change_first g a = record {
   base = any_base g.D.Disk.tells a.pager.codec (main_of (g.D.Disk.reads a.pager.disk.now)) a.pager.count;
   drawn = g.E.Entropy.drawn a.pager.entropy.now;
 }

@@ -14,13 +14,12 @@ use Rattle.atomic_commit.specs.Facts.{SameFresh}
 use Rattle.sqlcipher_tool.specs.Change.{KeepsOrCommits, change_status}
 use Rattle.sqlcipher_tool.specs.Holding.{HoldsOnly, held_by}
 use Rattle.sqlcipher_tool.specs.Renewal.{WithDraws}
-use Rattle.sqlcipher_tool.specs.Stamp.{IsStamped}
-use Rattle.sqlcipher_tool.specs.declared.command.Field.{Field}
+use Rattle.sqlcipher_tool.specs.FirstPage.{IsFirstChanged}
 use Rattle.rekey_job.specs.Draws.{FileDraws}
 use Rattle.sqlcipher_tool.specs.declared.opening.ChangeError.{ChangeError}
 use Rattle.sqlcipher_tool.specs.declared.status.Status.TheVariants.{Done, DiskFault, OutOfMemory, EntropyFault}
 use Rattle.sqlcipher_tool.proofs.Stamping.{SeesFirst, begun, done, draws, failed, page_faults, page_is, page_late, sees_first, unbegun, unended, unwritten, was_ok, differ, layout_same}
-use Rattle.sqlcipher_tool.proofs.stamp.stamp_pages.Goals as goal
+use Rattle.sqlcipher_tool.proofs.first_page.change_first.Goals as goal
 use Rattle.sqlcipher_tool.proofs.Changing.{error_not_done}
 
 memory_not_done : OutOfMemory ≡ Done → ⊥
@@ -29,9 +28,9 @@ memory_not_done is = cc
 entropy_not_done : EntropyFault ≡ Done → ⊥
 entropy_not_done is = cc
 
--- a stamped file, sealed with bytes that were drawn behind the first
-abbrev IsNewBy : FileKeys → Field → ℕ → List ℕ → Bool → List ℕ → List ℕ → List ℕ → Type 0
-IsNewBy keys field value file tells after before = WithDraws (IsStamped keys field value file) tells (λ main. FileDraws keys main (λ m. m == 1) 0 (drop (length before) after))
+-- a changed file, sealed with bytes that were drawn behind the first
+abbrev IsNewBy : FileKeys → ℕ → List ℕ → List ℕ → Bool → List ℕ → List ℕ → List ℕ → Type 0
+IsNewBy keys at bytes file tells after before = WithDraws (IsFirstChanged keys at bytes file) tells (λ main. FileDraws keys main (λ m. m == 1) 0 (drop (length before) after))
 
 -- the conditions, by their places: base, base_is, sizes, drawn, write, listed, salt, opened, alone
 pub begin-requires : goal.begin-requires
@@ -49,7 +48,7 @@ begin-requires g c κs within =
             (
               r.1.1.1.0,
               λ told. begun d.reads d.images d.moment d.since g.met.D.Disk.counts_now g.met.D.Disk.only_now p.codec (main_of (d.reads p.disk.now)) p.header p.count (r.1.1.1.1.1.1.1.0 told) p.some
-                  g.start (r.0 told) p.disk.now p.disk.now p.disk.now (r.1.1.1.1.1.1.1.1 told) r.1.0,
+                  g.start (r.0 told) p.disk.now p.disk.now p.disk.now (r.1.1.1.1.1.1.1.1.0 told) r.1.0,
             ),
           ),
         ),
@@ -69,7 +68,7 @@ returns-in-Err-clause-safely g c = λ told.
     let r = c.requires.1.1 in
     let same = c.into_parts-disk.ensures.disk.1 ∙ c.in-Err.ensures.back.1 in
     inl (unbegun d.reads d.images d.moment d.since g.met.D.Disk.counts_now g.met.D.Disk.only_now p.codec (main_of (d.reads p.disk.now)) p.header p.count (r.1.1.1.1.1.1.1.0 told) p.some
-    g.start (r.0 told) p.disk.now p.disk.now c.into_parts-disk.result.0.now (r.1.1.1.1.1.1.1.1 told) (change_status (Err c.begin_error.result))
+    g.start (r.0 told) p.disk.now p.disk.now c.into_parts-disk.result.0.now (r.1.1.1.1.1.1.1.1.0 told) (change_status (Err c.begin_error.result))
     (subst (λ (error : ChangeError). change_status (Err error) ≡ Done → ⊥) (sym c.begin_error.ensures) memory_not_done) same)
 
 pub returns-in-Err-clause-fresh : goal.returns-in-Err-clause-fresh
@@ -103,7 +102,7 @@ returns-in-Err-write_fields-clause-safely g c = λ told.
     let run = subst (λ (x : _). LeavesOnly d.moment d.since x c.write_fields.new.txn.disk.now (HoldsOld g.start.base)) c.in-Ok.ensures.disk.1 (c.write_fields.ensures.any_moment told) in
     let last = c.into_parts-disk-in-Err-write_fields in
     inl (unended d.reads d.images d.moment d.since g.met.D.Disk.counts_now g.met.D.Disk.only_now p.codec (main_of (d.reads p.disk.now)) p.header p.count (r.1.1.1.1.1.1.1.0 told) p.some
-    g.start (r.0 told) p.disk.now c.write_fields.new.txn.disk.now last.result.0.now (r.1.1.1.1.1.1.1.1 told) run (change_status (Err c.page_error.result))
+    g.start (r.0 told) p.disk.now c.write_fields.new.txn.disk.now last.result.0.now (r.1.1.1.1.1.1.1.1.0 told) run (change_status (Err c.page_error.result))
     (error_not_done c.page_error.result) last.ensures.disk.1)
 
 pub returns-in-Err-write_fields-clause-fresh : goal.returns-in-Err-write_fields-clause-fresh
@@ -141,7 +140,7 @@ returns-in-Ok-done-clause-safely g c = λ told.
     let touched = is_touched txn.written txn.changed.held in
     let seen = (seen_pages txn.read txn.write (main_of (d.reads txn.disk.now)) txn.count txn.written txn.changed.held).page in
     let stamped = c.in_default.ensures in
-    let page = stamped.stamped told ∙ page_is p.codec file _ p.header c.header.result.now p.count c.pages-pages.result _ c.args.field c.args.value (r.1.1.1.1.1.1.1.0 told) sees.page c.header.ensures refl c.pages-pages.ensures in
+    let page = stamped.changed told ∙ page_is p.codec file _ p.header c.header.result.now p.count c.pages-pages.result _ c.args.at c.args.bytes.now (r.1.1.1.1.1.1.1.0 told) sees.page c.header.ensures refl c.pages-pages.ensures in
     let one : (m : ℕ) → is_page_number p.count m ≡ true → touched m ≡ (m == 1) = λ m num.
     stamped.touched m (subst (λ (k : ℕ). is_page_number k m ≡ true) (sym e.file.2) num) ∙ one_alone m (is_touched t.written t.changed.held m) (e.untouched m) in
     let run = subst (λ (x : _). LeavesOnly d.moment d.since x txn.disk.now (HoldsOld g.start.base)) e.disk.1 (c.write_fields.ensures.any_moment told) in
@@ -149,10 +148,10 @@ returns-in-Ok-done-clause-safely g c = λ told.
     let now = main_of (d.reads end) in
     let after = g.E.Entropy.drawn c.end-disk.result.1.now in
     let has = subst (λ (k : FileKeys). HasNewPages g.start k touched seen g.E.Entropy.tells after now) keys (was_ok c.end-disk.result.2 c.in-Ok-done.field-0 c.in-Ok-done.is c.end-disk.ensures.changed told) in
-    subst (λ (l : List ℕ). KeepsOrCommits d.reads d.images d.moment d.since Done (IsNewBy p.codec c.args.field c.args.value file g.E.Entropy.tells after l)
+    subst (λ (l : List ℕ). KeepsOrCommits d.reads d.images d.moment d.since Done (IsNewBy p.codec c.args.at c.args.bytes.now file g.E.Entropy.tells after l)
     (HoldsOnly (held_by p.codec file)) (λ m. HoldsOnly (held_by p.codec m)) p.disk.now end) r.1.1.1.0
     (inr (done d.reads d.images d.moment d.since g.met.D.Disk.counts_now g.met.D.Disk.only_now p.codec file p.header p.count (r.1.1.1.1.1.1.1.0 told) p.some
-    g.start (r.0 told) p.disk.now txn.disk.now end (r.1.1.1.1.1.1.1.1 told) run c.args.field c.args.value (r.1.1.1.1.1.1.0 told) r.1.1.1.1.1.0 touched seen g.E.Entropy.tells after page one has
+    g.start (r.0 told) p.disk.now txn.disk.now end (r.1.1.1.1.1.1.1.1.0 told) run c.args.at c.args.bytes.now r.1.1.1.1.1.1.1.1.1 (r.1.1.1.1.1.1.0 told) r.1.1.1.1.1.0 touched seen g.E.Entropy.tells after page one has
     (was_ok c.end-disk.result.2 c.in-Ok-done.field-0 c.in-Ok-done.is c.end-disk.ensures.new told)
     (was_ok c.end-disk.result.2 c.in-Ok-done.field-0 c.in-Ok-done.is c.end-disk.ensures.one_new told)))
 
@@ -172,7 +171,7 @@ returns-in-Ok-done-clause-own_draws g c = λ told drawing.
     let touched = is_touched txn.written txn.changed.held in
     let seen = (seen_pages txn.read txn.write (main_of (d.reads txn.disk.now)) txn.count txn.written txn.changed.held).page in
     let stamped = c.in_default.ensures in
-    let page = stamped.stamped told ∙ page_is p.codec file _ p.header c.header.result.now p.count c.pages-pages.result _ c.args.field c.args.value (r.1.1.1.1.1.1.1.0 told) sees.page c.header.ensures refl c.pages-pages.ensures in
+    let page = stamped.changed told ∙ page_is p.codec file _ p.header c.header.result.now p.count c.pages-pages.result _ c.args.at c.args.bytes.now (r.1.1.1.1.1.1.1.0 told) sees.page c.header.ensures refl c.pages-pages.ensures in
     let one : (m : ℕ) → is_page_number p.count m ≡ true → touched m ≡ (m == 1) = λ m num.
     stamped.touched m (subst (λ (k : ℕ). is_page_number k m ≡ true) (sym e.file.2) num) ∙ one_alone m (is_touched t.written t.changed.held m) (e.untouched m) in
     let run = subst (λ (x : _). LeavesOnly d.moment d.since x txn.disk.now (HoldsOld g.start.base)) e.disk.1 (c.write_fields.ensures.any_moment told) in
@@ -182,7 +181,7 @@ returns-in-Ok-done-clause-own_draws g c = λ told drawing.
     let has = subst (λ (k : FileKeys). HasNewPages g.start k touched seen g.E.Entropy.tells after now) keys (was_ok c.end-disk.result.2 c.in-Ok-done.field-0 c.in-Ok-done.is c.end-disk.ensures.changed told) in
     subst (λ (l : List ℕ). FileDraws p.codec (main_of (d.reads end)) (λ m. m == 1) 0 (drop (length l) after)) r.1.1.1.0
     (draws d.reads d.images d.moment d.since g.met.D.Disk.counts_now g.met.D.Disk.only_now p.codec file p.header p.count (r.1.1.1.1.1.1.1.0 told) p.some
-    g.start (r.0 told) p.disk.now txn.disk.now end (r.1.1.1.1.1.1.1.1 told) run c.args.field c.args.value (r.1.1.1.1.1.1.0 told) r.1.1.1.1.1.0 touched seen g.E.Entropy.tells after page one drawing has)
+    g.start (r.0 told) p.disk.now txn.disk.now end (r.1.1.1.1.1.1.1.1.0 told) run c.args.at c.args.bytes.now r.1.1.1.1.1.1.1.1.1 (r.1.1.1.1.1.1.0 told) r.1.1.1.1.1.0 touched seen g.E.Entropy.tells after page one drawing has)
 
 pub returns-in-Err-DiskFault-clause-safely : goal.returns-in-Err-DiskFault-clause-safely
 returns-in-Err-DiskFault-clause-safely g c = λ told.
@@ -200,7 +199,7 @@ returns-in-Err-DiskFault-clause-safely g c = λ told.
     let touched = is_touched txn.written txn.changed.held in
     let seen = (seen_pages txn.read txn.write (main_of (d.reads txn.disk.now)) txn.count txn.written txn.changed.held).page in
     let stamped = c.in_default.ensures in
-    let page = stamped.stamped told ∙ page_is p.codec file _ p.header c.header.result.now p.count c.pages-pages.result _ c.args.field c.args.value (r.1.1.1.1.1.1.1.0 told) sees.page c.header.ensures refl c.pages-pages.ensures in
+    let page = stamped.changed told ∙ page_is p.codec file _ p.header c.header.result.now p.count c.pages-pages.result _ c.args.at c.args.bytes.now (r.1.1.1.1.1.1.1.0 told) sees.page c.header.ensures refl c.pages-pages.ensures in
     let one : (m : ℕ) → is_page_number p.count m ≡ true → touched m ≡ (m == 1) = λ m num.
     stamped.touched m (subst (λ (k : ℕ). is_page_number k m ≡ true) (sym e.file.2) num) ∙ one_alone m (is_touched t.written t.changed.held m) (e.untouched m) in
     let run = subst (λ (x : _). LeavesOnly d.moment d.since x txn.disk.now (HoldsOld g.start.base)) e.disk.1 (c.write_fields.ensures.any_moment told) in
@@ -208,10 +207,10 @@ returns-in-Err-DiskFault-clause-safely g c = λ told.
     let now = main_of (d.reads end) in
     let after = g.E.Entropy.drawn c.end-disk.result.1.now in
     let next = subst (λ (k : FileKeys). LeavesChanged d.moment d.since g.start.base (HasNewPages g.start k touched seen g.E.Entropy.tells after) txn.disk.now end) keys (c.end-disk.ensures.any_moment told) in
-    subst (λ (l : List ℕ). KeepsOrCommits d.reads d.images d.moment d.since DiskFault (IsNewBy p.codec c.args.field c.args.value file g.E.Entropy.tells after l)
+    subst (λ (l : List ℕ). KeepsOrCommits d.reads d.images d.moment d.since DiskFault (IsNewBy p.codec c.args.at c.args.bytes.now file g.E.Entropy.tells after l)
     (HoldsOnly (held_by p.codec file)) (λ m. HoldsOnly (held_by p.codec m)) p.disk.now end) r.1.1.1.0
     (failed d.reads d.images d.moment d.since g.met.D.Disk.counts_now g.met.D.Disk.only_now p.codec file p.header p.count (r.1.1.1.1.1.1.1.0 told) p.some
-    g.start (r.0 told) p.disk.now txn.disk.now end (r.1.1.1.1.1.1.1.1 told) run c.args.field c.args.value (r.1.1.1.1.1.1.0 told) r.1.1.1.1.1.0 touched seen g.E.Entropy.tells after page one next)
+    g.start (r.0 told) p.disk.now txn.disk.now end (r.1.1.1.1.1.1.1.1.0 told) run c.args.at c.args.bytes.now r.1.1.1.1.1.1.1.1.1 (r.1.1.1.1.1.1.0 told) r.1.1.1.1.1.0 touched seen g.E.Entropy.tells after page one next)
 
 pub returns-in-Err-EntropyFault-clause-safely : goal.returns-in-Err-EntropyFault-clause-safely
 returns-in-Err-EntropyFault-clause-safely g c = λ told.
@@ -223,7 +222,7 @@ returns-in-Err-EntropyFault-clause-safely g c = λ told.
     let end = c.end-disk.result.0.now in
     let is : c.end-disk.result.2 ≡ Err Undrawn = search rules in
     inl (unwritten d.reads d.images d.moment d.since g.met.D.Disk.counts_now g.met.D.Disk.only_now p.codec (main_of (d.reads p.disk.now)) p.header p.count (r.1.1.1.1.1.1.1.0 told) p.some
-    g.start (r.0 told) p.disk.now txn.disk.now end (r.1.1.1.1.1.1.1.1 told) run EntropyFault entropy_not_done (c.end-disk.ensures.only_old is told))
+    g.start (r.0 told) p.disk.now txn.disk.now end (r.1.1.1.1.1.1.1.1.0 told) run EntropyFault entropy_not_done (c.end-disk.ensures.only_old is told))
 
 pub returns-in-Ok-done-clause-fresh : goal.returns-in-Ok-done-clause-fresh
 returns-in-Ok-done-clause-fresh g c = λ told.

@@ -1,4 +1,4 @@
-use Rattle.sqlcipher_tool.proofs.stamp.stamp_pages.Given as goal
+use Rattle.sqlcipher_tool.proofs.first_page.change_first.Given as goal
 
 abbrev pub ghost-begin : goal.ghost-begin
 ghost-begin g a = g.start

@@ -10,7 +10,7 @@ use Rattle.pager.specs.Pages.{is_page_number, opened_pages}
 use Rattle.pager.specs.UnderWay.{keys_at, seen_pages}
 use Rattle.pager.specs.declared.fill.PageError.{PageError}
 use Rattle.pager.specs.declared.fill.PageError.TheVariants.{OutOfRange}
-use Rattle.sqlcipher_tool.proofs.stamp.write_number.Goals as goal
+use Rattle.sqlcipher_tool.proofs.first_page.write_bytes.Goals as goal
 
 no_refusal : {T : Type 0} (done : T) (r : Result T PageError) → r ≡ Ok done → r ≡ Err OutOfRange → ⊥
 no_refusal done r ok is = cc
@@ -31,9 +31,7 @@ written_accepted read write file count marks number mark accepted =
 
 pub returns-clause-written : goal.returns-clause-written
 returns-clause-written g c = λ told.
-    let s = c.args.txn.now in
-    let old : List ℕ = (seen_pages s.read s.write (main_of (g.D.Disk.reads s.disk.now)) s.count s.written s.changed.held).page 1 in
-    c.in_ok-write.ensures.changed told 1 ∙ ap (λ (bytes : List ℕ). with_bytes c.args.at bytes old) c.u32_bytes.ensures
+    c.in_ok-write.ensures.changed told 1
 
 pub returns-clause-accepted : goal.returns-clause-accepted
 returns-clause-accepted g c = λ told.

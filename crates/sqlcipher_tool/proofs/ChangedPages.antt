@@ -1,7 +1,8 @@
--- What a transaction leaves that changed page 1 to the stamped one.
+-- What a transaction leaves that changed page 1 alone.
 use Rattle.std.proofs.Common.{◌≡◌, ◌⊎◌, ⊎_elim, ◌==◌, ◌≤◌, ◌<◌, ◌+◌, ◌-◌, ◌*◌, ◌^◌, ◌++◌, ℕ, suc, zero, Bool, true, false, IsTrue, List, length, take, drop, Some, Result, Ok, refl, sym, ap, subst, ◌∙◌, arith, rules, length-append, length-take, length-drop}
 use Rattle.std.proofs.lemmas.List.{take-take, length-take-le}
 use Rattle.std.specs.Cmp.Derive.{both_true}
+use Rattle.std.specs.Int.{w32, to_be_bytes}
 use Rattle.cipher_profile.specs.Profile.{is_plain, usable}
 use Rattle.db_format.specs.Bytes.{u32_at}
 use Rattle.db_format.specs.Count.{count_of_pages, largest_database}
@@ -10,6 +11,7 @@ use Rattle.db_format.specs.declared.header.Header.{Header}
 use Rattle.db_format.specs.declared.header.HeaderRefusal.{HeaderRefusal}
 use Rattle.page_codec.proofs.Parts.{opened_plain_file}
 use Rattle.page_codec.specs.Page.{FileKeys, opened, salt_of, sealed}
+use Rattle.pager.specs.Changed.{with_bytes}
 use Rattle.pager.specs.Database.{count_by, counted, ok_count}
 use Rattle.pager.specs.File.{page_stored}
 use Rattle.pager.specs.Pages.{is_page_number}
@@ -17,47 +19,41 @@ use Rattle.pager.specs.UnderWay.{HasNewPages}
 use Rattle.pager.proofs.BatchLemmas.{number_is}
 use Rattle.page_codec.proofs.Salt.{salt_stands}
 use Rattle.rekey_job.specs.Draws.{FileDraws}
-use Rattle.sqlcipher_tool.specs.Stamp.{IsStamped, field_at, next_change, stamped_page, with_field}
-use Rattle.sqlcipher_tool.specs.declared.command.Field.{Field}
-use Rattle.sqlcipher_tool.specs.declared.command.Field.TheVariants.{UserVersion, ApplicationId}
+use Rattle.sqlcipher_tool.specs.FirstPage.{IsFirstChanged, IsHarmless, changed_page, next_change, with_field}
 use Rattle.sqlcipher_tool.proofs.Databases.{counted_pages, start_of}
 use Rattle.sqlcipher_tool.proofs.FileDraws.{file_draws}
-use Rattle.sqlcipher_tool.proofs.FirstBytes.{first_of_page, sealed_plain_file, stamped_first}
+use Rattle.sqlcipher_tool.proofs.FirstBytes.{changed_first, first_of_page, sealed_plain_file}
 use Rattle.sqlcipher_tool.proofs.OpenedParts.{IsOpen, header_size, open_count}
-use Rattle.sqlcipher_tool.proofs.StampedFields.{stamped_count, stamped_read}
+use Rattle.sqlcipher_tool.proofs.ChangedFields.{bytes_length, changed_count, changed_read}
 
 -- ---- lengths
 
-short_stays : (at value : ℕ) (page : List ℕ) → at ≤ 92 → length page < 100 → length (with_field at value page) < 100
-short_stays at value page to short = omega (
+short_stays : (at : ℕ) (bytes page : List ℕ) → at + length bytes ≤ 96 → length page < 100 → length (with_bytes at bytes page) < 100
+short_stays at bytes page to short = omega (
   arith,
   short,
   to,
-  length-append (take at page) (Rattle.std.specs.Int.to_be_bytes Rattle.std.specs.Int.w32 value ++ drop (at + 4) page),
-  length-append (Rattle.std.specs.Int.to_be_bytes Rattle.std.specs.Int.w32 value) (drop (at + 4) page),
+  length-append (take at page) (bytes ++ drop (at + length bytes) page),
+  length-append bytes (drop (at + length bytes) page),
   length-take at page,
-  length-drop (at + 4) page,
+  length-drop (at + length bytes) page,
 )
 
 order : (a b : ℕ) → (a < b) ⊎ (b ≤ a)
 order a b = search arith
 
--- a page is long that was stamped to a long one
-pub long_before : (at value count change : ℕ) (plain : List ℕ) → at ≤ 68
-    → 100 ≤ length (with_field 92 change (with_field 28 count (with_field 24 change (with_field at value plain)))) → 100 ≤ length plain
-long_before at value count change plain to long = ⊎_elim
+-- a page is long that was changed to a long one
+pub long_before : (at : ℕ) (bytes : List ℕ) (count change : ℕ) (plain : List ℕ) → at + length bytes ≤ 92
+    → 100 ≤ length (with_field 92 change (with_field 28 count (with_field 24 change (with_bytes at bytes plain)))) → 100 ≤ length plain
+long_before at bytes count change plain to long = ⊎_elim
     (λ (short : length plain < 100).
-    let one = short_stays at value plain (omega (arith, to)) short in
-    let two = short_stays 24 change (with_field at value plain) (omega arith) one in
-    let three = short_stays 28 count (with_field 24 change (with_field at value plain)) (omega arith) two in
-    absurd (omega (arith, long, short_stays 92 change (with_field 28 count (with_field 24 change (with_field at value plain))) (omega arith) three)))
+    let one = short_stays at bytes plain (omega (arith, to)) short in
+    let two = short_stays 24 (to_be_bytes w32 change) (with_bytes at bytes plain) (omega arith) one in
+    let three = short_stays 28 (to_be_bytes w32 count) (with_field 24 change (with_bytes at bytes plain)) (omega arith) two in
+    absurd (omega (arith, long, short_stays 92 (to_be_bytes w32 change) (with_field 28 count (with_field 24 change (with_bytes at bytes plain))) (omega arith) three)))
     (λ long. long) (order (length plain) 100)
 
-pub field_place : (field : Field) → (60 ≤ field_at field) × (field_at field ≤ 68)
-field_place UserVersion = (omega arith, omega arith)
-field_place ApplicationId = (omega arith, omega arith)
-
-count_few : (n size : ℕ) → 120 ≤ size → n * size ≤ largest_database → n < 2 ^ 32
+pub count_few : (n size : ℕ) → 120 ≤ size → n * size ≤ largest_database → n < 2 ^ 32
 count_few n size some small =
     let each : n ≤ n * size = Rattle.std.proofs.Math.Nat.le-mul_of_pos_right {m = size} n (omega (arith, some)) in
     let within : n * size ≤ 1073741824 = small in
@@ -114,13 +110,13 @@ all_long keys n file main some sized within first others = ⊎_elim
       length-drop ((n - 1) * keys.profile.page_size) main,
     )
 
--- ---- the stamped file
+-- ---- the changed file
 
 -- A file that opens, and what a transaction leaves of it that changed page 1 alone, to this page.
-module _ (keys : FileKeys) (field : Field) (value n : ℕ) (file : List ℕ) (header : Header) (is_open : IsOpen keys file header n) (some : 1 ≤ n)
+module _ (keys : FileKeys) (at : ℕ) (bytes : List ℕ) (harmless : IsHarmless keys.profile at bytes) (n : ℕ) (file : List ℕ) (header : Header) (is_open : IsOpen keys file header n) (some : 1 ≤ n)
     (salt : keys.salt ≡ salt_of file) (room : 120 ≤ usable keys.profile)
     (touched : ℕ → Bool) (pages : ℕ → List ℕ) (tells : Bool) (before after main : List ℕ)
-    (is_page : pages 1 ≡ stamped_page field value n (opened keys 1 (page_stored keys file 1)))
+    (is_page : pages 1 ≡ changed_page at bytes n (opened keys 1 (page_stored keys file 1)))
     (alone : (m : ℕ) → is_page_number n m ≡ true → touched m ≡ (m == 1))
     (new : HasNewPages (start_of keys file n before) keys touched pages tells after main) where
   abbrev plain : List ℕ
@@ -138,20 +134,30 @@ module _ (keys : FileKeys) (field : Field) (value n : ℕ) (file : List ℕ) (he
   is_touched : touched 1 ≡ true
   is_touched = alone 1 numbered
 
-  pub first_opened : opened keys 1 first ≡ stamped_page field value n plain
+  pub first_opened : opened keys 1 first ≡ changed_page at bytes n plain
   first_opened = new.opens 1 numbered is_touched ∙ is_page
 
-  place : (60 ≤ field_at field) × (field_at field ≤ 68)
-  place = field_place field
-
   long : 100 ≤ length plain
-  long = long_before (field_at field) value n change plain place.1 (omega (arith, room, new.sizes 1 numbered is_touched, ap length is_page))
+  long = long_before at bytes n change plain harmless.high (omega (arith, room, new.sizes 1 numbered is_touched, ap length is_page))
+
+  abbrev one : List ℕ
+  one = with_bytes at bytes plain
+
+  long_one : 100 ≤ length one
+  long_one = omega (arith, long, harmless.high, bytes_length at bytes plain (omega (arith, long, harmless.high)))
 
   fits : change < 2 ^ 32
   fits = Rattle.std.proofs.Math.Nat.mod-lt (u32_at plain 24 + 1) (omega arith)
 
   sized : (header_fields plain ≡ header) × (header.page_size ≡ keys.profile.page_size)
   sized = header_size keys.profile.reads_log plain keys.profile.page_size keys.profile.reserve header is_open.read
+
+  -- the page with the bytes is read
+  reads : (other : Header) × (header_read_as keys.profile.reads_log one keys.profile.page_size keys.profile.reserve ≡ Ok other)
+  reads = harmless.reads plain header long is_open.read
+
+  size_one : reads.0.page_size ≡ header.page_size
+  size_one = (header_size keys.profile.reads_log one keys.profile.page_size keys.profile.reserve reads.0 reads.1).1 ∙ sym sized.1
 
   small : n * header.page_size ≤ largest_database
   small = (counted_pages header (length file) n is_open.counts).small
@@ -166,9 +172,9 @@ module _ (keys : FileKeys) (field : Field) (value n : ℕ) (file : List ℕ) (he
   pub new_count : (len : ℕ) → n * keys.profile.page_size ≤ len → count_by keys first len ≡ Some n
   new_count len there =
       let read = ap (λ (page : List ℕ). header_read_as keys.profile.reads_log page keys.profile.page_size keys.profile.reserve) first_opened
-      ∙ stamped_read keys.profile.reads_log (field_at field) value n change keys.profile.page_size keys.profile.reserve plain header place.0 place.1 long few fits is_open.read in
-      let counts = stamped_count keys.profile.reads_log (field_at field) value n change keys.profile.page_size keys.profile.reserve plain header place.0 place.1 long few fits is_open.read
-      len some small (subst (λ (k : ℕ). n * k ≤ len) (sym sized.1) there) in
+      ∙ changed_read keys.profile.reads_log n change keys.profile.page_size keys.profile.reserve one reads.0 long_one few fits reads.1 in
+      let counts = changed_count keys.profile.reads_log n change keys.profile.page_size keys.profile.reserve one reads.0 long_one few fits reads.1
+      len some (subst (λ (k : ℕ). n * k ≤ largest_database) (sym size_one) small) (subst (λ (k : ℕ). n * k ≤ len) (sym (size_one ∙ sized.1)) there) in
       let enough : keys.profile.page_size ≤ len = one_page n keys.profile.page_size len some there in
       count_read keys first len enough _ n read counts
 
@@ -203,14 +209,15 @@ module _ (keys : FileKeys) (field : Field) (value n : ℕ) (file : List ℕ) (he
       by_plain false ciphered draw = salt_stands keys (pages 1) draw ciphered salt_long
       by_plain true is draw =
           ap (λ (l : List ℕ). take 16 l) (sealed_plain_file keys 1 (pages 1) draw is ∙ is_page)
-          ∙ (stamped_first field value n plain place long
+          ∙ (changed_first at bytes n plain harmless.low harmless.high long
           ∙ (ap (λ (l : List ℕ). take 16 l) (opened_plain_file keys 1 (page_stored keys file 1) is)
           ∙ (first_of_page keys.profile.page_size file (omega (arith, size_some)) ∙ sym salt)))
 
-  pub is_stamped : IsStamped keys field value file main
-  is_stamped = record {
+  pub is_changed : IsFirstChanged keys at bytes file main
+  is_changed = record {
     count = n;
     was = open_count keys file header n is_open;
+    header = long;
     is = new_count (length main) new_long;
     salt = same_salt ∙ salt;
     first = first_opened;

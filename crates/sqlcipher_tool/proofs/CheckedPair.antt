@@ -1,0 +1,53 @@
+-- A pair of files that was checked before its log is laid.
+use Rattle.std.proofs.Common.{◌≡◌, ⊎_elim, ◌≤◌, ◌<◌, ℕ, List, [], ◌∷◌, Result, Ok, Err, false, sym, ap, subst, ◌∙◌, arith}
+use Rattle.std.specs.List.{Contains}
+use Rattle.std.specs.Prelude.{OnOk}
+use Rattle.cipher_profile.specs.Profile.{with_log}
+use Rattle.cipher_profile.specs.declared.keys.Secret.{Secret}
+use Rattle.cipher_profile.specs.declared.profile.Profile.{Profile}
+use Rattle.db_format.specs.Pages.{Pages}
+use Rattle.db_format.specs.declared.header.Header.{Header}
+use Rattle.edge_model.specs.Causes.{Rose}
+use Rattle.page_codec.specs.Page.{FileKeys, keys_of}
+use Rattle.pager.specs.Opening.{Opened}
+use Rattle.pager.specs.Pages.{opened_pages}
+use Rattle.pager.specs.declared.opening.OpenError.{OpenError}
+use Rattle.sqlcipher_tool.specs.Answer.{IsFault}
+use Rattle.sqlcipher_tool.specs.Opening.{opened_with}
+use Rattle.sqlcipher_tool.specs.Promises.{AnswersOne}
+use Rattle.sqlcipher_tool.specs.Reading.{job_due}
+use Rattle.sqlcipher_tool.specs.Settle.{first_plain, has_maps, marks_of}
+use Rattle.sqlcipher_tool.specs.Settling.{CanBeLaid, IsChecked, IsWalked}
+use Rattle.sqlcipher_tool.specs.Verify.{opened_answers, pages_answers}
+use Rattle.sqlcipher_tool.specs.declared.reading.Job.TheVariants.{Verify}
+use Rattle.sqlcipher_tool.specs.declared.status.Status.{Status}
+use Rattle.sqlcipher_tool.specs.declared.status.Status.TheVariants.{Done}
+use Rattle.sqlcipher_tool.proofs.DueReports.{done_verifies}
+use Rattle.sqlcipher_tool.proofs.SettledFile.{first_page_of}
+
+-- what holds where a call was done
+pub on_ok : {T E A B : Type 0} (r : Result T E) → OnOk r A → (A → B) → OnOk r B
+on_ok (Ok x) was other = other was
+on_ok (Err e) was other = was
+
+-- Done came, so it was due
+pub walked_if : (pages : Pages) (status : Status) (tells : _) (before after : List ℕ) → status ≡ Done → AnswersOne (pages_answers pages) status tells before after → IsWalked pages
+walked_if pages status tells before after is one = record {
+  answer = one.answer;
+  is_due = one.is_due;
+  done = ⊎_elim (λ same. sym same ∙ is) (λ fault. absurd (subst IsFault is fault)) one.answered;
+}
+
+pub no_rise : Rose 0 0 → ⊥
+no_rise rose = omega (arith, rose)
+
+-- a file that opens where marks pass, and was checked
+pub laid_if : (profile : Profile) (secret : Secret) (file : List ℕ) (header : Header) (n : ℕ) → 1 ≤ n
+    → opened_with (with_log profile) secret file ≡ Ok (record { header = header; count = n }) → IsChecked (opened_pages (keys_of (with_log profile) secret file) file n) → CanBeLaid profile secret file
+laid_if profile secret file header n some opens checked =
+    let keys = keys_of (with_log profile) secret file in
+    let walked = checked.0 in
+    let due = subst (λ (r : Result Opened OpenError). Contains (opened_answers r (λ count. job_due Verify (opened_pages keys file count))) walked.answer) (sym opens) walked.is_due in record {
+      clean = (done_verifies (with_log profile) secret file walked.answer due walked.done).0;
+      no_maps = ap has_maps (sym (first_page_of keys file n some)) ∙ checked.1;
+    }

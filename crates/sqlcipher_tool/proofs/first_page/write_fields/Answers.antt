@@ -1,0 +1,111 @@
+use Rattle.std.proofs.Common.{◌≡◌, ◌==◌, ℕ, Bool, true, false, List, Err, if◌then◌else◌, refl, sym, ap, subst, ◌∙◌, arith, rules}
+use Rattle.std.specs.Int.{w32, to_be_bytes}
+use Rattle.pager.specs.Changed.{with_bytes}
+use Rattle.pager.specs.Pages.{is_page_number}
+use Rattle.pager.specs.UnderWay.{seen_pages}
+use Rattle.edge_model.specs.Files.{main_of}
+use Rattle.edge_model.specs.Moments.{and_then, then_from}
+use Rattle.sqlcipher_tool.specs.FirstPage.{with_field}
+use Rattle.sqlcipher_tool.proofs.Stamping.{refused_later}
+use Rattle.sqlcipher_tool.proofs.first_page.write_fields.Goals as goal
+
+pub returns-in_err-write_bytes-2-clause-any_moment : goal.returns-in_err-write_bytes-2-clause-any_moment
+returns-in_err-write_bytes-2-clause-any_moment g c = λ told. and_then (c.write_bytes.ensures.any_moment told) (c.write_bytes-2.ensures.any_moment told)
+
+pub returns-in_err-write_bytes-2-clause-fresh : goal.returns-in_err-write_bytes-2-clause-fresh
+returns-in_err-write_bytes-2-clause-fresh g c = λ told. then_from g.met.D.Disk.counts_now (λ a b d ab bd. bd ∙ ab) (c.write_bytes.ensures.fresh told) (c.write_bytes-2.ensures.fresh told)
+
+pub returns-in_err-write_bytes-3-clause-any_moment : goal.returns-in_err-write_bytes-3-clause-any_moment
+returns-in_err-write_bytes-3-clause-any_moment g c = λ told. and_then (and_then (c.write_bytes.ensures.any_moment told) (c.write_bytes-2.ensures.any_moment told)) (c.write_bytes-3.ensures.any_moment told)
+
+pub returns-in_err-write_bytes-3-clause-fresh : goal.returns-in_err-write_bytes-3-clause-fresh
+returns-in_err-write_bytes-3-clause-fresh g c = λ told. then_from g.met.D.Disk.counts_now (λ a b d ab bd. bd ∙ ab) (then_from g.met.D.Disk.counts_now (λ a b d ab bd. bd ∙ ab) (c.write_bytes.ensures.fresh told) (c.write_bytes-2.ensures.fresh told)) (c.write_bytes-3.ensures.fresh told)
+
+pub returns-in_err-write_bytes-4-clause-any_moment : goal.returns-in_err-write_bytes-4-clause-any_moment
+returns-in_err-write_bytes-4-clause-any_moment g c = λ told. and_then (and_then (and_then (c.write_bytes.ensures.any_moment told) (c.write_bytes-2.ensures.any_moment told)) (c.write_bytes-3.ensures.any_moment told)) (c.write_bytes-4.ensures.any_moment told)
+
+pub returns-in_err-write_bytes-4-clause-fresh : goal.returns-in_err-write_bytes-4-clause-fresh
+returns-in_err-write_bytes-4-clause-fresh g c = λ told. then_from g.met.D.Disk.counts_now (λ a b d ab bd. bd ∙ ab) (then_from g.met.D.Disk.counts_now (λ a b d ab bd. bd ∙ ab) (then_from g.met.D.Disk.counts_now (λ a b d ab bd. bd ∙ ab) (c.write_bytes.ensures.fresh told) (c.write_bytes-2.ensures.fresh told)) (c.write_bytes-3.ensures.fresh told)) (c.write_bytes-4.ensures.fresh told)
+
+pub returns-clause-any_moment : goal.returns-clause-any_moment
+returns-clause-any_moment g c = λ told. and_then (and_then (and_then (c.write_bytes.ensures.any_moment told) (c.write_bytes-2.ensures.any_moment told)) (c.write_bytes-3.ensures.any_moment told)) (c.write_bytes-4.ensures.any_moment told)
+
+pub returns-clause-fresh : goal.returns-clause-fresh
+returns-clause-fresh g c = λ told. then_from g.met.D.Disk.counts_now (λ a b d ab bd. bd ∙ ab) (then_from g.met.D.Disk.counts_now (λ a b d ab bd. bd ∙ ab) (then_from g.met.D.Disk.counts_now (λ a b d ab bd. bd ∙ ab) (c.write_bytes.ensures.fresh told) (c.write_bytes-2.ensures.fresh told)) (c.write_bytes-3.ensures.fresh told)) (c.write_bytes-4.ensures.fresh told)
+
+changed_by : (seen one two three four bytes : List ℕ) (at change pages : ℕ) → one ≡ with_bytes at bytes seen → two ≡ with_field 24 change one
+    → three ≡ with_field 28 pages two → four ≡ with_field 92 change three → four ≡ with_field 92 change (with_field 28 pages (with_field 24 change (with_bytes at bytes seen)))
+changed_by seen one two three four bytes at change pages first second third fourth =
+    fourth
+    ∙ ap (λ (l : List ℕ). with_field 92 change l) third
+    ∙ ap (λ (l : List ℕ). with_field 92 change (with_field 28 pages l)) second
+    ∙ ap (λ (l : List ℕ). with_field 92 change (with_field 28 pages (with_field 24 change l))) first
+
+-- a number in its bytes
+field_of : (at value : ℕ) (bytes plain page : List ℕ) → bytes ≡ to_be_bytes w32 value → page ≡ with_bytes at bytes plain → page ≡ with_field at value plain
+field_of at value bytes plain page same is = is ∙ ap (λ (b : List ℕ). with_bytes at b plain) same
+
+pub returns-clause-changed : goal.returns-clause-changed
+returns-clause-changed g c = λ told.
+    changed_by _ _ _ _ _ c.args.bytes.now c.args.at c.args.change c.args.pages (c.in_ok-write_bytes.ensures.written told)
+    (field_of 24 c.args.change _ _ _ c.u32_bytes.ensures (c.in_ok-write_bytes-2.ensures.written told))
+    (field_of 28 c.args.pages _ _ _ c.u32_bytes-2.ensures (c.in_ok-write_bytes-3.ensures.written told))
+    (field_of 92 c.args.change _ _ _ c.u32_bytes-3.ensures (c.in_ok-write_bytes-4.ensures.written told))
+
+-- a page that is changed again
+again : (m : ℕ) (a b d : Bool) → a ≡ (if m == 1 then true else b) → b ≡ (if m == 1 then true else d) → a ≡ (if m == 1 then true else d)
+again m a b d one two = one ∙ ap (λ (b : Bool). if m == 1 then true else b) two ∙ both (m == 1)
+  where
+    both : (is : Bool) → (if is then true else (if is then true else d)) ≡ (if is then true else d)
+    both true = refl
+    both false = refl
+
+pub returns-clause-touched : goal.returns-clause-touched
+returns-clause-touched g c = λ m num.
+    let two = subst (λ (k : ℕ). is_page_number k m ≡ true) (sym c.write_bytes.ensures.file.2) num in
+    let three = subst (λ (k : ℕ). is_page_number k m ≡ true) (sym c.write_bytes-2.ensures.file.2) two in
+    let four = subst (λ (k : ℕ). is_page_number k m ≡ true) (sym c.write_bytes-3.ensures.file.2) three in
+    again m _ _ _ (c.in_ok-write_bytes-4.ensures.touched m four)
+    (again m _ _ _ (c.in_ok-write_bytes-3.ensures.touched m three) (again m _ _ _ (c.in_ok-write_bytes-2.ensures.touched m two) (c.in_ok-write_bytes.ensures.touched m num)))
+
+-- page 1 as it was changed so far has its tag, so each refusal is one of page 1 at the start
+pub returns-in_err-write_bytes-2-clause-refused : goal.returns-in_err-write_bytes-2-clause-refused
+returns-in_err-write_bytes-2-clause-refused g c =
+    let d = g.D.Disk in
+    let n = g.E.Entropy in
+    let first = c.args.txn.now in
+    let before = c.write_bytes.new.txn in
+    let after = c.write_bytes-2.new.txn in
+    let is : c.from_residual-in_err-write_bytes-2.result ≡ Err c.in_err-write_bytes-2.field-0.0 = search rules in
+    rw is (refused_later d.tells (seen_pages first.read first.write (main_of (d.reads first.disk.now)) first.count first.written first.changed.held)
+    (seen_pages before.read before.write (main_of (d.reads before.disk.now)) before.count before.written before.changed.held)
+    (d.faults first.disk.now) (d.faults before.disk.now) (d.faults after.disk.now) (n.faults first.entropy.now) (n.faults before.entropy.now) (n.faults after.entropy.now) c.in_err-write_bytes-2.field-0.0
+    c.write_bytes.ensures.file.2 c.in_ok-write_bytes.ensures.accepted c.write_bytes.ensures.later.0 c.write_bytes.ensures.later.1 c.in_err-write_bytes-2.ensures.refused)
+
+pub returns-in_err-write_bytes-3-clause-refused : goal.returns-in_err-write_bytes-3-clause-refused
+returns-in_err-write_bytes-3-clause-refused g c =
+    let d = g.D.Disk in
+    let n = g.E.Entropy in
+    let first = c.args.txn.now in
+    let before = c.write_bytes-2.new.txn in
+    let after = c.write_bytes-3.new.txn in
+    let is : c.from_residual-in_err-write_bytes-3.result ≡ Err c.in_err-write_bytes-3.field-0.0 = search rules in
+    rw is (refused_later d.tells (seen_pages first.read first.write (main_of (d.reads first.disk.now)) first.count first.written first.changed.held)
+    (seen_pages before.read before.write (main_of (d.reads before.disk.now)) before.count before.written before.changed.held)
+    (d.faults first.disk.now) (d.faults before.disk.now) (d.faults after.disk.now) (n.faults first.entropy.now) (n.faults before.entropy.now) (n.faults after.entropy.now) c.in_err-write_bytes-3.field-0.0
+    (c.write_bytes-2.ensures.file.2 ∙ c.write_bytes.ensures.file.2) c.in_ok-write_bytes-2.ensures.accepted
+    (omega (arith, c.write_bytes.ensures.later.0, c.write_bytes-2.ensures.later.0)) (omega (arith, c.write_bytes.ensures.later.1, c.write_bytes-2.ensures.later.1)) c.in_err-write_bytes-3.ensures.refused)
+
+pub returns-in_err-write_bytes-4-clause-refused : goal.returns-in_err-write_bytes-4-clause-refused
+returns-in_err-write_bytes-4-clause-refused g c =
+    let d = g.D.Disk in
+    let n = g.E.Entropy in
+    let first = c.args.txn.now in
+    let before = c.write_bytes-3.new.txn in
+    let after = c.write_bytes-4.new.txn in
+    let is : c.from_residual-in_err-write_bytes-4.result ≡ Err c.in_err-write_bytes-4.field-0.0 = search rules in
+    rw is (refused_later d.tells (seen_pages first.read first.write (main_of (d.reads first.disk.now)) first.count first.written first.changed.held)
+    (seen_pages before.read before.write (main_of (d.reads before.disk.now)) before.count before.written before.changed.held)
+    (d.faults first.disk.now) (d.faults before.disk.now) (d.faults after.disk.now) (n.faults first.entropy.now) (n.faults before.entropy.now) (n.faults after.entropy.now) c.in_err-write_bytes-4.field-0.0
+    (c.write_bytes-3.ensures.file.2 ∙ (c.write_bytes-2.ensures.file.2 ∙ c.write_bytes.ensures.file.2)) c.in_ok-write_bytes-3.ensures.accepted
+    (omega (arith, c.write_bytes.ensures.later.0, c.write_bytes-2.ensures.later.0, c.write_bytes-3.ensures.later.0)) (omega (arith, c.write_bytes.ensures.later.1, c.write_bytes-2.ensures.later.1, c.write_bytes-3.ensures.later.1)) c.in_err-write_bytes-4.ensures.refused)
