@@ -26,6 +26,7 @@ company.py
 stamp.sh
 hostile_files.sh
 log_pairs.sh
+settle.sh
 hostile_logs.sh
 find.sh
 agree.sh

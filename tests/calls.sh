@@ -31,7 +31,7 @@ place() { # place FILE: a folder of its own for a run, with this file and those 
     mkdir "$scratch/run" || exit 1
     [ "$1" != nothing ] || return 0
     cp "$scratch/$1" "$scratch/run/file" || exit 1
-    for beside in journal migrated; do
+    for beside in journal migrated wal shm; do
         [ ! -e "$scratch/$1-$beside" ] || cp "$scratch/$1-$beside" "$scratch/run/file-$beside" || exit 1
     done
 }
@@ -63,7 +63,7 @@ run() { # run NAME FILE STATE P P2 WORDS..: NAME is a run of compare.py
     fi
 }
 
-kept_from_syncs() { # kept_from_syncs NAME FILE P P2 WORDS..: each sync in turn is answered without being made
+kept_from_syncs() { # kept_from_syncs NAME FILE P P2 WORDS..: each sync in turn is answered without being made; `started` is the state, where it is not `none`
     local name=$1 file=$2 version=$3 written=$4 number found count
     shift 4
     place "$file"
@@ -72,7 +72,7 @@ kept_from_syncs() { # kept_from_syncs NAME FILE P P2 WORDS..: each sync in turn 
     for number in $(seq 1 "$count"); do
         place "$file"
         listed -e inject=fsync:retval=0:when="$number" -- "$@" || say "$* on $file without sync $number: ended with $?"
-        found=$("$compare" refuse "$name" "$scratch/run" "$version" "$written" none < "$scratch/calls") || say "$* on $file without sync $number: $found"
+        found=$("$compare" refuse "$name" "$scratch/run" "$version" "$written" "${started:-none}" < "$scratch/calls") || say "$* on $file without sync $number: $found"
     done
     [ "$count" -ge 3 ] || say "$* on $file: only $count syncs"
     echo "calls: $* on $file: kept from each of its $count syncs in turn, and refused each time"
@@ -122,6 +122,32 @@ run stamp small none 3 3 stamp 3 user-version 7
 run commit small none 3 3 stamp 3 user-version 7
 run stamp cold cold 3 3 stamp 3 application-id 7
 run stamp hot "hot=$hot" 3 3 stamp 3 application-id 7
+# The pairs of a file and its log are the product's: one with a commit of several frames, whose Main is longer than the database or not.
+if has sqlcipher; then
+    pair() { # pair NAME STATEMENTS: in WAL mode, with its FILE-wal and FILE-shm, copied while the product has it open
+        cp "$scratch/small" "$scratch/work"
+        echo "PRAGMA journal_mode = WAL; PRAGMA wal_autocheckpoint = 0; $2
+.system cp $scratch/work $scratch/$1; cp $scratch/work-wal $scratch/$1-wal; cp $scratch/work-shm $scratch/$1-shm" | sql 3 "$k0" "$scratch/work" > /dev/null
+        [ -s "$scratch/$1-wal" ] || say "the product leaves no log of $1"
+    }
+    frames() { "$compare" frames "$scratch/$1-wal"; }
+    pair live 'CREATE TABLE more(x); INSERT INTO more VALUES(1);'
+    pair cut 'PRAGMA wal_checkpoint; DELETE FROM items; VACUUM;'
+    cp "$scratch/live" "$scratch/bare" && cp "$scratch/live-wal" "$scratch/bare-wal"
+    cp "$scratch/live" "$scratch/void" && head -c 32 "$scratch/live-wal" > "$scratch/void-wal"
+    cp "$scratch/live" "$scratch/alone"
+    run settle live "log,laid=$(frames live),index,marked" 3 3 settle 3
+    run settle bare "log,laid=$(frames live),marked" 3 3 settle 3
+    run settle cut "log,laid=$(frames cut),shorter,index,marked" 3 3 settle 3
+    run settle void "log,marked" 3 3 settle 3
+    run settle alone marked 3 3 settle 3
+    run settle small none 3 3 settle 3
+    started="log,laid=$(frames live),index,marked"
+    kept_from_syncs settle live 3 3 settle 3
+    started=none
+else
+    leave_out "the calls of settle, since sqlcipher is missing"
+fi
 run rekey small none 3 3 rekey 3 3
 run commit small none 3 3 rekey 3 3
 run rekey large none 3 3 rekey 3 3

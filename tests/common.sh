@@ -77,8 +77,8 @@ find_files() {
 sizes='4:1024 4:2048 4:8192 4:16384 4:32768 4:65536'
 
 # The words of the commands of tests/commands.tsv, a line each: P is the file's profile there, Q that of a new file. Those of a kind, where kinds are
-# named: `check` reads the whole file or its header, `part` some rows, `search` looks for the profile; `recovery`, `change`, `making` and `script` may
-# write. The last column says whether plain files have it.
+# named: `check` reads the whole file or its header, `part` some rows, `search` looks for the profile; `recovery`, `settling`, `change`, `making` and
+# `script` may write. The last column says whether plain files have it.
 commands() { # commands P Q [KIND..]
     local profile=$1 new=$2
     shift 2

@@ -5,8 +5,10 @@
     compare.py RUN FOLDER P P2 STATE      reads what strace wrote from standard input. RUN is a name of `RUNS` below, FOLDER the
                                           folder of the run, whose database is `file` of version P, P2 the version that is
                                           written, and STATE what is true at the start, joined by commas: `hot=N` a hot journal
-                                          of N pages, `cold` a cold one, `left` an unfinished Fresh
+                                          of N pages, `cold` a cold one, `left` an unfinished Fresh, `log`, `laid=N` a log
+                                          and its N committed frames, and the other words of rows.tsv
     compare.py refuse RUN ..              the same, and the run has to be refused
+    compare.py frames LOG                 how many frames of a log that was never begun anew are laid
 
 Only calls that matter to the disk are looked at: that a file is made or cut by an open, each read, write, cut, sync, removal
 and rename of the three files, syncs of their folder, draws of random bytes, and standard output. That a file is opened,
@@ -22,7 +24,8 @@ import sys
 
 HERE = os.path.dirname(os.path.abspath(__file__))
 MODEL = os.path.join(HERE, "..", "..", "docs", "CRASH_MODEL.md")
-RECOVERY, COMMIT, STAMP, REKEY, MIGRATE = (f"A {it}, call by call" for it in ("recovery", "commit", "`stamp`", "`rekey`", "`migrate`"))
+RECOVERY, COMMIT, STAMP, SETTLE, REKEY, MIGRATE = (
+    f"A {it}, call by call" for it in ("recovery", "commit", "`stamp`", "`settle`", "`rekey`", "`migrate`"))
 # A run is the rows of a table, without so many at its head, and then calls of its own, among which the rows of another may stand:
 # all, or `|` without so many at its head `|` and so many at its end.
 RUNS = {
@@ -31,6 +34,7 @@ RUNS = {
     "recover": (RECOVERY, 0, "output"),
     "commit": (COMMIT, 0, ""),
     "stamp": (STAMP, 0, ""),
+    "settle": (SETTLE, 0, ""),
     "rekey": (REKEY, 0, ""),
     "migrate": (MIGRATE, 0, ""),
     "make": (MIGRATE, 2, ""),
@@ -103,7 +107,7 @@ def undrawn(calls):
 def expression(calls, tables, state):
     """A regular expression over calls that each end in a space. Before each call there may be reads that only look; reads are
     taken as they come (`*+`, `++`), so that a list of calls that does not agree is refused in a short time."""
-    tokens = re.findall(r"\{[^}]*\}|(?:hot|cold|left)\(|[()*+?]|[\w:@]+", calls)
+    tokens = re.findall(r"\{[^}]*\}|(?:hot|cold|left|log|laid|shorter|index|marked)\(|[()*+?]|[\w:@]+", calls)
 
     def item():
         token = tokens.pop(0)
@@ -148,7 +152,8 @@ class Reader:
     def __init__(self, folder, page_size, new_page_size):
         self.folder, self.page_size = folder, page_size
         self.sizes = {"Main": page_size, "Fresh": new_page_size}
-        self.roles = {f"{folder}/file": "Main", f"{folder}/file-journal": "Journal", f"{folder}/file-migrated": "Fresh", folder: "folder"}
+        self.roles = {f"{folder}/file": "Main", f"{folder}/file-journal": "Journal", f"{folder}/file-migrated": "Fresh",
+                      f"{folder}/file-wal": "Log", f"{folder}/file-shm": "Index", folder: "folder"}
         self.segment = self.records = 0     # where the journal's last segment begins, and its number of records
         self.linked = None                  # the roles of a link whose first name was not removed yet
 
@@ -182,7 +187,7 @@ class Reader:
         if role is None or role == "stranger" and name in READS:
             return None
         if result < 0:
-            return None if name in ("openat", "open") or name in READS else Call("failed", f"failed:{name}:{role}", 0, 0, b"")
+            return None if name in ("openat", "open") or name in READS or role == "Index" else Call("failed", f"failed:{name}:{role}", 0, 0, b"")
         if name in ("openat", "open", "creat"):
             made = "O_CREAT" in words or name == "creat"
             if "O_TRUNC" in words or name == "creat" or made and "O_EXCL" not in words:
@@ -249,7 +254,7 @@ class Run:
     def __init__(self, name, read_version, written_version, state):
         self.name, self.tables = name, rows_here()
         words = [] if state == "none" else state.split(",")
-        self.played = sum(int(it[4:]) for it in words if it.startswith("hot="))
+        self.played = sum(int(it.split("=")[1]) for it in words if it.startswith(("hot=", "laid=")))
         self.state = {it.split("=")[0] for it in words}
         self.page_size = LAYOUTS[read_version][0]
         self.new_page_size, self.reserve = LAYOUTS[written_version]
@@ -318,7 +323,7 @@ class Run:
         if sorted(written) != sorted(guarded) or len(set(recorded)) != len(recorded):
             raise Wrong(f"{len(recorded)} pages are recorded, and {len(written)} written")
         if laid != self.played:
-            raise Wrong(f"the recovery lays {laid} pages, and the journal has {self.played}")
+            raise Wrong(f"{laid} pages are laid, and the journal and the log have {self.played}")
         if sorted(fresh) != list(range(1, len(fresh) + 1)):
             raise Wrong("a page of the new file is written twice, or not at all")
         if self.name in ("migrate", "make") and len(fresh) != self.pages:
@@ -366,9 +371,27 @@ def compare(name, folder, read_version, written_version, state):
     return f"{len(calls)} calls as the table says, {syncs} syncs among them; spoilt {refused} times, and refused each time"
 
 
+def frames_laid(path):
+    """The committed frames of the pages that the last commit leaves."""
+    with open(path, "rb") as file:
+        log = file.read()
+    numbers, committed, end = [], 0, 0
+    size = 24 + int.from_bytes(log[8:12], "big")
+    for at in range(32, len(log) - size + 1, size):
+        number, pages = (int.from_bytes(log[at + i:at + i + 4], "big") for i in (0, 4))
+        if log[at + 8:at + 16] != log[16:24]:
+            break
+        numbers.append(number)
+        if pages:
+            committed, end = len(numbers), pages
+    return sum(number <= end for number in numbers[:committed])
+
+
 def main(words):
     if words == ["tables"]:
         compare_tables()
+    elif len(words) == 2 and words[0] == "frames":
+        print(frames_laid(words[1]))
     elif len(words) == 5 and words[0] in RUNS:
         print(compare(*words))
     elif len(words) == 6 and words[0] == "refuse" and words[1] in RUNS:

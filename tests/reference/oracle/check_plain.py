@@ -261,7 +261,7 @@ class Check:
     def check(self, scratch, name, word, kind):
         is_log = kind == "WAL mode" and name.startswith("live")
         for command in commands.COMMANDS:
-            if command.words == command.name + " P" and command.kind != "script":
+            if command.words == command.name + " P" and command.kind not in ("settling", "script"):
                 self.compare(scratch, name, [command.name, word], is_log and command.name != "tags")
         self.compare(scratch, name, ["stamp", word, "user-version", "4294967295"], is_log)
         self.compare(scratch, name, ["stamp", word, "application-id", "0"], is_log)

@@ -42,7 +42,7 @@ EDGES = (0, 1, 2, 3, 127, 128, 255, 256, 2 ** 15, 2 ** 16 - 1, 2 ** 24, 2 ** 31 
 # A file of version 4 with pages of another size once in a while: it has few pages, or takes long to make.
 PROFILE_WORDS = tuple("1234") * 4 + tuple(word for word in PROFILES if ":" in word)
 PLAIN_SHARE = 0.15      # of the files, and of the profiles that one is migrated to
-COMMANDS = tuple(command.name for command in commands.COMMANDS if command.kind not in ("making", "script"))
+COMMANDS = tuple(command.name for command in commands.COMMANDS if command.kind not in ("making", "settling", "script"))
 FINDS = 8               # runs of `find` on a file, where they are tried alone
 LEAST, MOST = -2 ** 63, 2 ** 63 - 1
 

@@ -1,0 +1,306 @@
+#!/usr/bin/env bash
+# `settle` on files in WAL mode with their logs, by the product, of each profile and each age (tests/reference/oracle/log_pairs.py): behind it there is
+# no log, the program's `verify`, `export`, `rekey` and `migrate` serve the file without the setting, and print what they say of the pair under it; the
+# product finds it sound, in `journal_mode` delete, and dumps the rows that it dumps of a copy of the pair which it has closed itself. Once more it
+# changes nothing. A file with auto-vacuum is refused, and so is a log of another file, before anything is written; beside a program that has the file
+# open the status is 4. Then it is stopped at each writing call of the system, and each call of the system fails once: what is left the product reads
+# with the same rows, and `settle` again goes to its end.
+#
+#     tests/settle.sh
+#
+# EVERY=N takes each N-th pair, STRIDE=1 each write of a frame in place of each 16th. PROGRAM names another program, SQLCIPHER4 the product built for
+# version 4. Needs Python's `cryptography`, and strace for the stops and the faults.
+set -u
+. "$(dirname "$0")/common.sh"
+begin 'settle'
+every=${EVERY:-1}
+stride=${STRIDE:-16}
+pairs=$top/tests/reference/oracle/log_pairs.py
+export SQLCIPHER4=$four
+
+needs sqlcipher python3
+if ! has_reference; then
+    leave_out "all of it, since Python's cryptography is missing"
+    finish
+fi
+[ -n "$four" ] || leave_out "files of version 4, since its product is missing"
+python3 "$pairs" make "$scratch/pairs" > "$scratch/made" 2>&1 || { cat "$scratch/made"; say "the pairs are not made"; finish; }
+
+raw="x'000102030405060708090a0b0c0d0e0f101112131415161718191a1b1c1d1e1f'"
+new="x'ffffffffffffffffffffffffffffffffffffffffffffffffffffffffffffffff'"
+key_of() { if [ "$1" = 2 ]; then echo "the log's key"; else echo "$raw"; fi; }
+given() { case $1 in plain:*) ;; *) printf '%s\n' "$2" ;; esac; }     # given PROFILE KEY: its key line; a plain file has none
+
+told() { given "$1" "$key" | "$program" "$scratch/now/file" "${@:2}" 2> "$scratch/errors"; }     # told PROFILE WORDS..: what it prints of the files in `now`
+place() { rm -rf "$scratch/now" && cp -r "$1" "$scratch/now" || exit 1; }     # place FOLDER: a copy of a pair, in `now`
+rows() { printf '.dump\n' | sql "$1" "$key" "$2"; }
+looks() { printf 'PRAGMA integrity_check; PRAGMA journal_mode; PRAGMA auto_vacuum;\n' | sql "$1" "$key" "$2" | tr '\n' ' '; }
+seen() { (cd "$1" && stat -c '%n %s %y' -- * && md5sum -- *); }       # seen FOLDER: its files, when they were written and what they hold
+left() { (cd "$scratch/now" && echo ./*); }
+
+# How many frames of a log are committed: those of its own salts up to the last one that ends a commit.
+committed() {
+    [ -s "$1" ] || { echo 0; return; }
+    python3 - "$1" <<'PYTHON'
+import sys
+log = open(sys.argv[1], "rb").read()
+size, count, frames = 24 + int.from_bytes(log[8:12], "big"), 0, 0
+for at in range(32, len(log) - size + 1, size):
+    if log[at + 8:at + 16] != log[16:24]:
+        break
+    frames += 1
+    if log[at + 4:at + 8] != bytes(4):
+        count = frames
+print(count)
+PYTHON
+}
+
+# ---- each pair
+settled=0 refused=0 number=0
+while IFS=$'\t' read -r name word special; do
+    number=$((number + 1))
+    [ $((number % every)) -eq 0 ] || continue
+    pair=$scratch/pairs/$name key=$(key_of "$word")
+    place "$pair"
+    told "$word" verify "$word:wal" > "$scratch/verified"
+    status=$?
+    # What is refused as a pair is refused alike, as is auto-vacuum by its name, before anything is written. (So is a file of version 1
+    # behind the product's VACUUM: its key is refused, without a log too.)
+    [ "${special#auto-vacuum}" = "$special" ] || { status=2; echo auto-vacuum > "$scratch/verified"; }
+    if [ "$status" -ne 0 ]; then
+        seen "$scratch/now" > "$scratch/before"
+        told "$word" settle "$word" > "$scratch/lines"
+        ended=$?
+        [ "$ended" -eq "$status" ] && cmp -s "$scratch/lines" "$scratch/verified" || say "$name: ends with $ended and '$(cat "$scratch/lines" "$scratch/errors")'"
+        seen "$scratch/now" | cmp -s - "$scratch/before" || say "$name: refused, and the files have changed"
+        refused=$((refused + 1))
+        continue
+    fi
+    # The product's copy is closed by it, out of WAL mode.
+    cp -r "$pair" "$scratch/theirs"
+    echo "PRAGMA journal_mode = DELETE;" | sql "$word" "$key" "$scratch/theirs/file" > /dev/null
+    rows "$word" "$scratch/theirs/file" > "$scratch/dump"
+    rm -rf "$scratch/theirs"
+    told "$word" export "$word:wal" > "$scratch/exported"
+    wanted="settled: $(committed "$pair/file-wal") log frames, 0 map pages"
+    told "$word" settle "$word" > "$scratch/lines"
+    status=$?
+    [ "$status" -eq 0 ] && [ "$(cat "$scratch/lines")" = "$wanted" ] || say "$name: ends with $status and '$(cat "$scratch/lines" "$scratch/errors")', wanted '$wanted'"
+    [ "$(left)" = ./file ] || say "$name: left are $(left)"
+    told "$word" verify "$word" | cmp -s - "$scratch/verified" || say "$name: verify says another thing: $(told "$word" verify "$word")"
+    told "$word" export "$word" | cmp -s - "$scratch/exported" || say "$name: export prints other rows"
+    cp "$scratch/now/file" "$scratch/settled"
+    rows "$word" "$scratch/settled" | cmp -s - "$scratch/dump" || say "$name: the product dumps other rows"
+    [ "$(looks "$word" "$scratch/settled")" = "ok delete 0 " ] || say "$name: the product says $(looks "$word" "$scratch/settled")"
+    # Once more: nothing is to be done, and nothing is written.
+    seen "$scratch/now" > "$scratch/before"
+    [ "$(told "$word" settle "$word")" = "settled: 0 log frames, 0 map pages" ] || say "$name: once more: $(cat "$scratch/errors")"
+    seen "$scratch/now" | cmp -s - "$scratch/before" || say "$name: once more, and the file has changed"
+    # The changes that a file in WAL mode is refused for.
+    case $word in
+        plain:*) ;;
+        *)
+            cp "$scratch/now/file" "$scratch/rekeyed"
+            printf '%s\n' "$key" "$new" | "$program" "$scratch/rekeyed" rekey "$word" "$word" > /dev/null 2> "$scratch/errors" || say "$name: rekey: $(cat "$scratch/errors")"
+            key=$new rows "$word" "$scratch/rekeyed" | cmp -s - "$scratch/dump" || say "$name: the product dumps other rows of the re-keyed file" ;;
+    esac
+    { given "$word" "$key"; echo "$new"; } | "$program" "$scratch/now/file" migrate "$word" 3 > /dev/null 2> "$scratch/errors" || say "$name: migrate: $(cat "$scratch/errors")"
+    key=$new rows 3 "$scratch/now/file" | cmp -s - "$scratch/dump" || say "$name: the product dumps other rows of the migrated file"
+    settled=$((settled + 1))
+done < "$scratch/pairs/pairs.tsv"
+[ "$settled" -gt 0 ] || say "no pair is settled"
+echo "settle: $settled pairs settled, $refused refused"
+
+# ---- a log of another file: under another key, of another page size or version, of a plain file
+strange=0
+while read -r file word log; do
+    key=$(key_of "$word")
+    [ -d "$scratch/pairs/$file" ] && [ -d "$scratch/pairs/$log" ] || continue
+    place "$scratch/pairs/$file"
+    cp "$scratch/pairs/$log/file-wal" "$scratch/now/file-wal"
+    seen "$scratch/now" > "$scratch/before"
+    told "$word" settle "$word" > "$scratch/lines"
+    status=$?
+    case $status in
+        2 | 3) ;;
+        *) say "$file with the log of $log ends with $status and '$(cat "$scratch/lines" "$scratch/errors")'" ;;
+    esac
+    [ -s "$scratch/errors" ] || say "$file with the log of $log: nothing is said of it"
+    seen "$scratch/now" | cmp -s - "$scratch/before" || say "$file with the log of $log: refused, and the files have changed"
+    strange=$((strange + 1))
+done <<'PAIRS'
+3-commits 3 2-commits
+2-commits 2 3-commits
+3-cut 3 1-commits
+4-1024-commits 4:1024 3-commits
+4-commits 4 plain-4096-commits
+4-commits 4 3-commits
+plain-1024-commits plain:1024 3-commits
+plain-4096-cut plain:4096 4-grown
+PAIRS
+# One that has every page of its file, under the same key: by its tags it holds, and it is told by its salt alone.
+key=$raw
+place "$scratch/pairs/3-commits"
+printf '%s\n' 'PRAGMA journal_mode = WAL; PRAGMA wal_autocheckpoint = 0; CREATE TABLE others(x); INSERT INTO others VALUES(1);' \
+    ".system cp $scratch/other-wal $scratch/now/file-wal" | sql 3 "$key" "$scratch/other" > /dev/null
+seen "$scratch/now" > "$scratch/before"
+told 3 verify 3:wal > /dev/null || say "the other file's log holds no whole file: $(cat "$scratch/errors")"
+told 3 settle 3 > "$scratch/lines"
+status=$?
+[ "$status" -eq 2 ] && [ "$(cat "$scratch/lines")" = "log is another file's" ] || say "a whole log of another file ends with $status and '$(cat "$scratch/lines" "$scratch/errors")'"
+seen "$scratch/now" | cmp -s - "$scratch/before" || say "a whole log of another file is refused, and the files have changed"
+grep -q 'FILE opens by its own salt' "$scratch/errors" || say "of a whole log of another file standard error has '$(cat "$scratch/errors")'"
+strange=$((strange + 1))
+[ "$strange" -gt 0 ] || say "no log of another file is tried"
+echo "settle: $strange logs of other files refused, and nothing was written"
+
+# ---- page 1 of the file torn, as a laying that was stopped may leave it: the log has that page, so `settle` goes to its end
+torn=0
+while read -r name word; do
+    pair=$scratch/pairs/$name key=$(key_of "$word")
+    [ -d "$pair" ] || continue
+    place "$pair"
+    rows "$word" "$scratch/now/file" > "$scratch/dump"
+    for bytes in 16 700; do
+        place "$pair"
+        python3 - "$scratch/now/file" "$bytes" <<'PYTHON'
+import sys
+with open(sys.argv[1], "r+b") as file:
+    file.write(b"\xaa" * int(sys.argv[2]))
+PYTHON
+        told "$word" settle "$word" > "$scratch/lines" || say "$name: with $bytes bytes of page 1 torn: '$(cat "$scratch/lines" "$scratch/errors")'"
+        case $word in
+            plain:*) ;;
+            *) grep -q 'page 1 of FILE did not open by itself' "$scratch/errors" || say "$name: with page 1 torn standard error has '$(cat "$scratch/errors")'" ;;
+        esac
+        rows "$word" "$scratch/now/file" | cmp -s - "$scratch/dump" || say "LOST: $name: with $bytes bytes of page 1 torn the product dumps other rows"
+        torn=$((torn + 1))
+    done
+done <<'PAIRS'
+3-first 3
+3-grown 3
+4-first 4
+plain-512-first plain:512
+PAIRS
+[ "$torn" -gt 0 ] || say "no page 1 is torn"
+
+# ---- a log without a commit that holds: to the product it has nothing. It is removed, and standard error says so
+key=$raw
+place "$scratch/pairs/3-commits"
+python3 - "$scratch/now/file-wal" <<'PYTHON'
+import sys
+with open(sys.argv[1], "r+b") as log:
+    log.seek(20)
+    byte = log.read(1)[0] ^ 1
+    log.seek(20)
+    log.write(bytes([byte]))
+PYTHON
+told 3 settle 3 > "$scratch/lines"
+[ "$(cat "$scratch/lines")" = "settled: 0 log frames, 0 map pages" ] && grep -q 'no commit in it holds' "$scratch/errors" ||
+    say "a log with a damaged header: '$(cat "$scratch/lines" "$scratch/errors")'"
+[ "$(left)" = ./file ] || say "a log with a damaged header: left are $(left)"
+
+# ---- a hot journal beside the two: it is played back first, and then the log is read, as the product does
+pair=$scratch/pairs/plain-4096-restarted
+place "$pair"
+cp -r "$pair" "$scratch/hot"
+# The journal has page 1, and Main's page 1 is spoilt behind the bytes that tell the product what file it is.
+python3 - "$scratch/hot/file" <<'PYTHON'
+import struct, sys
+path, size = sys.argv[1], 4096
+with open(path, "r+b") as file:
+    page = file.read(size)
+    pages = file.seek(0, 2) // size
+    file.seek(100)
+    file.write(b"\xaa" * (size - 100))
+checksum = (7 + sum(page[at] for at in range(size - 200, 0, -200))) % 2**32
+with open(path + "-journal", "wb") as journal:
+    journal.write((bytes.fromhex("d9d505f920a163d7") + struct.pack(">5I", 1, 7, pages, 512, size)).ljust(512, b"\0"))
+    journal.write(struct.pack(">I", 1) + page + struct.pack(">I", checksum))
+PYTHON
+key=''
+rows plain:4096 "$scratch/now/file" > "$scratch/dump"
+place "$scratch/hot"
+rows plain:4096 "$scratch/now/file" | cmp -s - "$scratch/dump" || say "beside a hot journal the product reads other rows"
+place "$scratch/hot"
+told plain:4096 settle plain:4096 > "$scratch/lines" || say "beside a hot journal: $(cat "$scratch/lines" "$scratch/errors")"
+grep -q '1 pages were played back from it' "$scratch/errors" || say "beside a hot journal standard error has '$(cat "$scratch/errors")'"
+[ "$(left)" = ./file ] || say "beside a hot journal: left are $(left)"
+rows plain:4096 "$scratch/now/file" | cmp -s - "$scratch/dump" || say "LOST: beside a hot journal: the product dumps other rows"
+
+# ---- beside a program that has the file open
+place "$scratch/pairs/3-commits"
+key=$raw
+mkfifo "$scratch/pipe"
+{ opening 3 "$key"; echo "SELECT count(*) FROM items;"; cat "$scratch/pipe"; } | sqlcipher -batch "$scratch/now/file" > "$scratch/open" 2>&1 &
+holder=$!
+exec 9> "$scratch/pipe"
+for _ in $(seq 1 100); do [ -s "$scratch/open" ] && break; sleep 0.1; done
+seen "$scratch/now" > "$scratch/before"
+told 3 settle 3 > "$scratch/lines"
+status=$?
+[ "$status" -eq 4 ] && [ ! -s "$scratch/lines" ] && grep -q 'another program has the file open' "$scratch/errors" || say "beside a connection that is idle: $status, $(cat "$scratch/lines" "$scratch/errors")"
+seen "$scratch/now" | cmp -s - "$scratch/before" || say "beside a connection that is idle the files have changed"
+exec 9>&-
+wait "$holder"
+
+# ---- stops and faults
+if ! can_trace; then
+    leave_out "stops and faults, since strace is missing or cannot trace"
+    finish "$settled pairs"
+fi
+stopped=0 failed=0
+
+is_same() { # is_same WORD WHAT: the product reads the same rows of a copy, and `settle` again goes to its end
+    cp -r "$scratch/now" "$scratch/theirs"
+    rows "$1" "$scratch/theirs/file" | cmp -s - "$scratch/dump" || say "LOST: $2: the product dumps other rows"
+    rm -rf "$scratch/theirs"
+    told "$1" settle "$1" > "$scratch/lines" || say "$2: then settle ends with '$(cat "$scratch/lines" "$scratch/errors")'"
+    [ "$(left)" = ./file ] || say "$2: left are $(left)"
+    told "$1" export "$1" | cmp -s - "$scratch/exported" || say "LOST: $2: export prints other rows"
+    [ "$(looks "$1" "$scratch/now/file")" = "ok delete 0 " ] || say "$2: the product says $(looks "$1" "$scratch/now/file")"
+}
+
+while read -r name word; do
+    pair=$scratch/pairs/$name key=$(key_of "$word")
+    [ -d "$pair" ] || continue
+    place "$pair"
+    rows "$word" "$scratch/now/file" > "$scratch/dump"
+    place "$pair"
+    told "$word" export "$word:wal" > "$scratch/exported"
+    given "$word" "$key" > "$scratch/line"
+    (cd "$scratch/now" && traced "$scratch/calls" file settle "$word" < "$scratch/line" > /dev/null 2> "$scratch/errors") || { say "$name: the program fails under strace"; continue; }
+    # Of the writes, one for each frame, the first and the last ones and each STRIDEth.
+    list_stops "$scratch/calls" > "$scratch/all"
+    awk -v stride="$stride" 'NR == FNR { last[$1] = $2; next } $2 <= 2 || $2 > last[$1] - 9 || $2 % stride == 0' "$scratch/all" "$scratch/all" > "$scratch/stops"
+    while read -r call number; do
+        what="$name: $call $number"
+        place "$pair"
+        { (cd "$scratch/now" && stopped_at "$call" "$number" file settle "$word" < "$scratch/line" > /dev/null) } 2> /dev/null
+        killed=$?
+        [ "$killed" -eq 137 ] || say "$what: ended with $killed"
+        is_same "$word" "$what: stopped"
+        stopped=$((stopped + 1))
+        place "$pair"
+        (cd "$scratch/now" && strace -f -qq -o /dev/null -e trace="$call" -e inject="$call:error=EIO:when=$number" "$program" file settle "$word" \
+            < "$scratch/line" > "$scratch/lines" 2> "$scratch/errors")
+        status=$?
+        case $status in
+            # What standard error can't take is lost.
+            0) [ "$call" = write ] || say "$what: fails, and the program is done" ;;
+            4 | 5) grep -q 'Input/output error' "$scratch/errors" || say "$what: fails, and standard error has '$(cat "$scratch/errors")'" ;;
+            *) say "$what: fails, and the program ends with $status and '$(cat "$scratch/lines" "$scratch/errors")'" ;;
+        esac
+        is_same "$word" "$what: failed"
+        failed=$((failed + 1))
+    done < "$scratch/stops"
+done <<'PAIRS'
+3-commits 3
+3-cut 3
+3-restarted 3
+3-closed 3
+4-first 4
+plain-512-first plain:512
+PAIRS
+[ "$stopped" -gt 0 ] || say "no stop"
+finish "$settled pairs, $strange logs of other files, $torn torn pages, $stopped stops and $failed faults"
