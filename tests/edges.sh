@@ -445,11 +445,11 @@ row 3 "$refused" 'the file begins with `SQLite format 3`, and its pages have 80 
 row 2 'header fault at 16: 1' 'give plain:65536' 'field 16 "\\0\\1" "verify plain:1024"'
 row 2 'header fault at 16: 1000' 'its header names no size of pages that SQLite has: the file is damaged' 'field 16 "\\3\\350" "verify plain:1024"'
 row 2 'header fault at 21: 65' '' 'field 21 A "verify plain:1024"'
-row 2 'WAL mode' $'`export plain:1024:wal` reads the file as it is\n`sqlite3 FILE \'PRAGMA journal_mode = DELETE\'`; of a copy, FILE-wal has to lie beside it' 'field 18 "\\2\\2" "export plain:1024"'
+row 2 'WAL mode' $'`export plain:1024:wal` reads the file as it is\n`sqlite3 FILE \'PRAGMA journal_mode = DELETE\'`; of a copy, FILE-wal has to lie beside it\n`settle plain:1024` lays FILE-wal into the file, where it is there' 'field 18 "\\2\\2" "export plain:1024"'
 row 0 "$counts" "$counts$told" 'field 18 "\\2\\2" "salvage plain:1024" | tail -n 1'
 row 2 'auto-vacuum' $'`export plain:1024:wal` reads a file with auto-vacuum as it is\n`sqlite3 FILE \'PRAGMA auto_vacuum = 0; VACUUM\'`' 'field 52 "\\0\\0\\0\\3" "migrate plain:1024 plain:4096"'
 row 3 "$refused" "$magic" 'field 0 s "verify plain:1024"'
-row 4 '' $'this write-ahead log holds newer pages of the database\n`verify plain:1024:wal` reads the file with its log\nPRAGMA journal_mode = DELETE\'` takes the log into the file; a log that is another\nit was not touched' \
+row 4 '' $'this write-ahead log holds newer pages of the database\n`verify plain:1024:wal` reads the file with its log\n`settle plain:1024` lays FILE-wal into the file, where it is there\nPRAGMA journal_mode = DELETE\'` takes the log into the file; a log that is another\nit was not touched' \
     'cp kept.db logged.db; echo > logged.db-wal; "$tool" logged.db verify plain:1024 <&-'
 rm -f sqlite.db kept.db field.db short.db logged.db logged.db-wal
 
@@ -634,7 +634,7 @@ if has_reference; then
     python3 "$oracle" file.db decrypt 4 decrypted < key > made
     printf '\2\2' | dd of=decrypted bs=1 seek=18 conv=notrunc status=none
     python3 "$oracle" wal.db encrypt 4 decrypted < key
-    row 2 'WAL mode' $'`header 4:wal` reads a file in WAL mode or with auto-vacuum\nPRAGMA cipher_compatibility = 4; PRAGMA journal_mode = DELETE; PRAGMA auto_vacuum = 0; VACUUM;' '"$tool" wal.db header 4 < key'
+    row 2 'WAL mode' $'`header 4:wal` reads a file in WAL mode or with auto-vacuum\nPRAGMA cipher_compatibility = 4; PRAGMA journal_mode = DELETE; PRAGMA auto_vacuum = 0; VACUUM;\n`settle 4` lays FILE-wal into the file, where it is there' '"$tool" wal.db header 4 < key'
     row 0 "$counts" "$counts$told" '"$tool" wal.db salvage 4 < key | tail -n 1'
 else
     leave_out "a file in WAL mode, since Python's cryptography is missing"
