@@ -1,7 +1,8 @@
 #!/usr/bin/env bash
 # Times `settle P`, the check of the pair included, of files of versions 3 and 4 beside a log of about 100 MiB, as the product leaves them when it is
-# killed, beside the product's `wal_checkpoint(TRUNCATE)` of the same pair. Both then hold the same rows. Times are the best of several runs, one after
-# another in turn, of the processor and by the clock. Wanted is at most 1.5 of its processor time. Needs python3 and the product `sqlcipher`; version 4
+# killed, beside the product's `wal_checkpoint(TRUNCATE)` of the same pair, which looks at no page, and beside its `integrity_check` and that. Both then
+# hold the same rows. `verify P:wal` is the check alone. Times are the best of several runs, one after another in turn, of the processor and by the
+# clock. Wanted was at most 1.5 of the processor time of `wal_checkpoint(TRUNCATE)`. Needs python3 and the product `sqlcipher`; version 4
 # is left out where its product is not there: SQLCIPHER4, `sqlcipher4` or out/product/sqlcipher4. PROGRAM names another program, ROWS and RUNS other
 # counts, BENCH_FOLDER another disk.
 set -eu
@@ -34,6 +35,7 @@ UPDATE t SET name = 'other' WHERE id % 1000 = 0;
 .system kill -9 $PPID
 """
 LAY = f"PRAGMA key = '{KEY}';\nPRAGMA wal_checkpoint(TRUNCATE);\n"
+CHECK_AND_LAY = f"PRAGMA key = '{KEY}';\nPRAGMA integrity_check;\nPRAGMA wal_checkpoint(TRUNCATE);\n"
 COUNT = f"PRAGMA key = '{KEY}';\nSELECT count(*), sum(length(body)), sum(name = 'other') FROM t;\nPRAGMA integrity_check;\n"
 
 def once(command, text):
@@ -58,22 +60,25 @@ def measure(version, product, folder):
     best = {}
     for _ in range(RUNS):
         counts = set()
-        for way, command, text in (("settle", [TOOL, "FILE", "settle", version], LINE), ("product", [product, "-batch", "FILE"], LAY.encode())):
+        for way, command, text in (
+                ("check", [TOOL, "FILE", "verify", version + ":wal"], LINE), ("settle", [TOOL, "FILE", "settle", version], LINE),
+                ("product", [product, "-batch", "FILE"], LAY.encode()), ("both", [product, "-batch", "FILE"], CHECK_AND_LAY.encode())):
             path = os.path.join(folder, way + ".db")
             for end in ("", "-wal"):
                 shutil.copyfile(pair + end, path + end)
             os.sync()
             times, said = once([path if word == "FILE" else word for word in command], text)
-            assert way == "product" or said.startswith(b"settled: "), said
+            assert way != "settle" or said.startswith(b"settled: "), said
             best[way] = min(best.get(way, times), times)
             counts.add(subprocess.run([product, "-batch", path], input=COUNT.encode(), check=True, capture_output=True).stdout)
             for left in os.listdir(folder):
                 if left.startswith(way):
                     os.remove(os.path.join(folder, left))
         assert len(counts) == 1 and b"ok" in counts.pop()
-    (used, clock), (their_used, their_clock) = best["settle"], best["product"]
+    (used, clock), (their_used, their_clock), check, both = best["settle"], best["product"], best["check"][0], best["both"][0]
     print(f"version {version}, a log of {size / 2**20:.0f} MiB: settle {used:.2f} s of the processor, {clock:.2f} s by the clock; "
-          f"wal_checkpoint(TRUNCATE) {their_used:.2f} s and {their_clock:.2f} s: {used / their_used:.2f} and {clock / their_clock:.2f} of its time")
+          f"wal_checkpoint(TRUNCATE) {their_used:.2f} s and {their_clock:.2f} s: {used / their_used:.2f} and {clock / their_clock:.2f} of its time; "
+          f"with integrity_check {both:.2f} s of the processor: {used / both:.2f}; verify {version}:wal alone {check:.2f} s")
 
 with tempfile.TemporaryDirectory(dir=os.environ.get("BENCH_FOLDER")) as folder:
     for version in ("3", "4"):
