@@ -7,9 +7,10 @@ ghost use Rattle.std.specs.Prelude.{◌≡◌, ◌*◌, ◌≤◌, All, length};
 ghost use Rattle.cipher_profile.specs.Profile.{IsListed, usable};
 
 use crate::words::number;
-use cipher_profile::{Profile, Secret, derive, profile_of, read_key};
+use cipher_profile::{Profile, Secret, derive, read_key};
 use edge_memory::MemSource;
 use page_codec::{Codec, MAGIC};
+use profile_word::profile_of;
 use sha2::{Digest, Sha512};
 use std::io;
 

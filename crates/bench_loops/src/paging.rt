@@ -12,11 +12,12 @@ use self::changed_file::ChangedFile;
 use self::changing::change;
 use self::read_file::ReadFile;
 use crate::words::{number, word_at};
-use cipher_profile::{Secret, profile_of};
+use cipher_profile::Secret;
 use edge_memory::{MemEntropy, SilentEntropy};
 use edge_model::{Disk, Entropy};
 use page_codec::Codec;
 use pager::{PageSource, Pager, codec_of, served_length};
+use profile_word::profile_of;
 use std::fs::{File, OpenOptions};
 use std::io;
 

@@ -1,24 +1,19 @@
 -- What holds of each of the profiles.
-use Rattle.std.proofs.Common.{◌≤◌, ◌≡◌, ◌<◌, ◌%◌, ℕ, zero, suc, List, [], ◌∷◌, length, slice_index_or, arith, refl, inl, inr, lit≤, subst, sym}
+use Rattle.std.proofs.Common.{◌≤◌, ◌≡◌, ◌+◌, ◌%◌, ◌==◌, ℕ, false, arith, refl, inl, inr, lit≤, subst, sym}
+use Rattle.std.proofs.lemmas.Bool.Decides.{nat_tests}
+use Rattle.cipher_profile.specs.declared.profile.HashKind.{HashKind}
+use Rattle.cipher_profile.specs.declared.profile.HashKind.TheVariants.{Sha1, Sha256, Sha512}
 use Rattle.cipher_profile.specs.declared.profile.Profile.{Profile}
-use Rattle.cipher_profile.specs.Profile.{IsLaidOut, IsListed, IsPlainSize, IsSize4, plain_of, sqlcipher_1, sqlcipher_2, sqlcipher_3, sqlcipher_4_of, without_log}
+use Rattle.cipher_profile.specs.Hashes.{digest_len}
+use Rattle.cipher_profile.specs.Profile.{IsEncrypted, IsLaidOut, IsListed, IsPlainSize, IsSize, is_plain, plain_of, reserve_for, without_log}
 
-laid_out_1 : IsLaidOut sqlcipher_1
-laid_out_1 = record { least = lit≤ tt; most = lit≤ tt; content = lit≤ tt; reserve = lit≤ tt; whole = refl; room = λ ciphered. lit≤ tt; unreserved = λ plain. cc; blocks = refl; stride = refl; salt = lit≤ tt; tag = lit≤ tt; tagged = λ some. refl; untagged = λ ciphered none. refl }
-
-laid_out_2 : IsLaidOut sqlcipher_2
-laid_out_2 = record { least = lit≤ tt; most = lit≤ tt; content = lit≤ tt; reserve = lit≤ tt; whole = refl; room = λ ciphered. lit≤ tt; unreserved = λ plain. cc; blocks = refl; stride = refl; salt = lit≤ tt; tag = lit≤ tt; tagged = λ some. refl; untagged = λ ciphered none. cc }
-
-laid_out_3 : IsLaidOut sqlcipher_3
-laid_out_3 = record { least = lit≤ tt; most = lit≤ tt; content = lit≤ tt; reserve = lit≤ tt; whole = refl; room = λ ciphered. lit≤ tt; unreserved = λ plain. cc; blocks = refl; stride = refl; salt = lit≤ tt; tag = lit≤ tt; tagged = λ some. refl; untagged = λ ciphered none. cc }
-
--- what the sizes of version 4 have in common
+-- what the sizes of encrypted pages have in common
 record IsSized (size : ℕ) : Type 0 where
   least : 1024 ≤ size
   most : size ≤ 65536
   blocks : size % 16 ≡ 0
 
-sized : (size : ℕ) → IsSize4 size → IsSized size
+sized : (size : ℕ) → IsSize size → IsSized size
 sized size one = elim one [
   | inl is ↦ record { least = omega (arith, is); most = omega (arith, is); blocks = omega (arith, is) }
   | inr (inl is) ↦ record { least = omega (arith, is); most = omega (arith, is); blocks = omega (arith, is) }
@@ -28,25 +23,6 @@ sized size one = elim one [
   | inr (inr (inr (inr (inr (inl is))))) ↦ record { least = omega (arith, is); most = omega (arith, is); blocks = omega (arith, is) }
   | inr (inr (inr (inr (inr (inr is))))) ↦ record { least = omega (arith, is); most = omega (arith, is); blocks = omega (arith, is) }
 ]
-
-laid_out_4 : (size : ℕ) → IsSize4 size → IsLaidOut (sqlcipher_4_of size)
-laid_out_4 size one =
-    let is : IsSized size = sized size one in
-    record {
-      least = omega (arith, is.least);
-      most = is.most;
-      content = omega (arith, is.least);
-      reserve = lit≤ tt;
-      whole = omega (arith, is.least);
-      room = λ ciphered. omega (arith, is.least);
-      unreserved = λ plain. cc;
-      blocks = omega (arith, is.least, is.blocks);
-      stride = is.blocks;
-      salt = omega (arith, is.least);
-      tag = lit≤ tt;
-      tagged = λ some. refl;
-      untagged = λ ciphered none. cc;
-    }
 
 -- and the sizes of plain files
 record IsPlainSized (size : ℕ) : Type 0 where
@@ -60,13 +36,69 @@ plain_sized size one = elim one [
   | inr one ↦ let is : IsSized size = sized size one in record { least = omega (arith, is.least); most = is.most; blocks = is.blocks }
 ]
 
+-- a digest has 64 bytes at most
+digest_short : (hash : HashKind) → digest_len hash ≤ 64
+digest_short Sha1 = lit≤ tt
+digest_short Sha256 = lit≤ tt
+digest_short Sha512 = lit≤ tt
+
+-- a tag has no bytes or those of a digest
+tag_within : (profile : Profile) → IsEncrypted profile → profile.tag_len ≤ digest_len profile.hash
+tag_within profile is = elim is.tags [
+  | inl none ↦ omega (arith, none)
+  | inr whole ↦ omega (arith, whole)
+]
+
+-- the reserve has room for an IV and the tag
+record IsReserve (tag_len reserve : ℕ) : Type 0 where
+  least : tag_len + 16 ≤ reserve
+  most : reserve ≤ 80
+  blocks : reserve % 16 ≡ 0
+
+reserved : (tag_len reserve : ℕ) → tag_len ≤ 64 → reserve ≡ reserve_for tag_len → IsReserve tag_len reserve
+reserved tag_len reserve short is = record {
+  least = omega (arith, short, is);
+  most = omega (arith, short, is);
+  blocks = omega (arith, short, is);
+}
+
+-- the version of an encrypted file is not 0
+ciphered : (version : ℕ) → 1 ≤ version → (version == 0) ≡ false
+ciphered version some = grind (arith, nat_tests, some)
+
+laid_out_encrypted : (profile : Profile) → IsEncrypted profile → IsLaidOut profile
+laid_out_encrypted profile is =
+    let size : IsSized profile.page_size = sized profile.page_size is.size in
+    let within : profile.tag_len ≤ digest_len profile.hash = tag_within profile is in
+    let of : IsReserve profile.tag_len profile.reserve = reserved profile.tag_len profile.reserve (omega (arith, within, digest_short profile.hash)) is.reserve in
+    let not_plain : is_plain profile ≡ false = ciphered profile.version is.version in
+    record {
+      sizes = inr is.size;
+      least = omega (arith, size.least);
+      most = size.most;
+      content = omega (arith, size.least, of.most);
+      roomy = omega (arith, size.least, of.most);
+      reserve = omega (arith, of.most);
+      whole = omega (arith, size.least, of.most);
+      room = λ _. omega (arith, size.least, of.least, of.most);
+      unreserved = λ plain. cc (plain, not_plain);
+      blocks = omega (arith, size.least, size.blocks, of.most, of.blocks);
+      stride = size.blocks;
+      salt = omega (arith, size.least, of.most);
+      tag = within;
+      tagged = λ _. not_plain;
+      rounds = is.rounds;
+    }
+
 laid_out_plain : (size : ℕ) → IsPlainSize size → IsLaidOut (plain_of size)
 laid_out_plain size one =
     let is : IsPlainSized size = plain_sized size one in
     record {
+      sizes = one;
       least = is.least;
       most = is.most;
       content = omega (arith, is.least);
+      roomy = omega (arith, is.least);
       reserve = lit≤ tt;
       whole = omega arith;
       room = λ ciphered. cc;
@@ -76,15 +108,17 @@ laid_out_plain size one =
       salt = omega (arith, is.least);
       tag = lit≤ tt;
       tagged = λ some. absurd (omega (arith, some));
-      untagged = λ ciphered none. cc;
+      rounds = lit≤ tt;
     }
 
--- the setting changes none of it
+-- the setting of the log changes none of it
 laid_out_set : (profile : Profile) → IsLaidOut (without_log profile) → IsLaidOut profile
 laid_out_set profile is = record {
+  sizes = is.sizes;
   least = is.least;
   most = is.most;
   content = is.content;
+  roomy = is.roomy;
   reserve = is.reserve;
   whole = is.whole;
   room = is.room;
@@ -94,57 +128,29 @@ laid_out_set profile is = record {
   salt = is.salt;
   tag = is.tag;
   tagged = is.tagged;
-  untagged = is.untagged;
+  rounds = is.rounds;
 }
 
 pub IsListed-laid_out : (profile : Profile) → IsListed profile → IsLaidOut profile
 unfolding IsListed
-IsListed-laid_out profile listed = laid_out_set profile (elim listed [
-  | inl is ↦ subst IsLaidOut (sym is) laid_out_1
-  | inr (inl is) ↦ subst IsLaidOut (sym is) laid_out_2
-  | inr (inr (inl is)) ↦ subst IsLaidOut (sym is) laid_out_3
-  | inr (inr (inr (inl both))) ↦ subst IsLaidOut (sym both.1) (laid_out_4 profile.page_size both.0)
-  | inr (inr (inr (inr both))) ↦ subst IsLaidOut (sym both.1) (laid_out_plain profile.page_size both.0)
-])
-
--- what holds of a family of profiles with each of these sizes
-each_size : (of : ℕ → Profile) (P : Profile → Type 0) → P (of 1024) → P (of 2048) → P (of 4096) → P (of 8192) → P (of 16384) → P (of 32768) → P (of 65536)
-    → (size : ℕ) → IsSize4 size → P (of size)
-each_size of P a b d e f g h size one = elim one [
-  | inl is ↦ subst (λ (n : ℕ). P (of n)) (sym is) a
-  | inr (inl is) ↦ subst (λ (n : ℕ). P (of n)) (sym is) b
-  | inr (inr (inl is)) ↦ subst (λ (n : ℕ). P (of n)) (sym is) d
-  | inr (inr (inr (inl is))) ↦ subst (λ (n : ℕ). P (of n)) (sym is) e
-  | inr (inr (inr (inr (inl is)))) ↦ subst (λ (n : ℕ). P (of n)) (sym is) f
-  | inr (inr (inr (inr (inr (inl is))))) ↦ subst (λ (n : ℕ). P (of n)) (sym is) g
-  | inr (inr (inr (inr (inr (inr is))))) ↦ subst (λ (n : ℕ). P (of n)) (sym is) h
+IsListed-laid_out profile listed = elim listed [
+  | inl is ↦ laid_out_encrypted profile is
+  | inr both ↦ laid_out_set profile (subst IsLaidOut (sym both.1) (laid_out_plain profile.page_size both.0))
 ]
 
--- what holds of each profile, one by one, and does not ask for the setting, holds of all
-pub IsListed-each : (P : Profile → Type 0) → ((profile : Profile) → P (without_log profile) → P profile) → P sqlcipher_1 → P sqlcipher_2 → P sqlcipher_3
-    → P (sqlcipher_4_of 1024) → P (sqlcipher_4_of 2048) → P (sqlcipher_4_of 4096) → P (sqlcipher_4_of 8192) → P (sqlcipher_4_of 16384) → P (sqlcipher_4_of 32768) → P (sqlcipher_4_of 65536)
-    → P (plain_of 512) → P (plain_of 1024) → P (plain_of 2048) → P (plain_of 4096) → P (plain_of 8192) → P (plain_of 16384) → P (plain_of 32768) → P (plain_of 65536)
-    → (profile : Profile) → IsListed profile → P profile
-unfolding IsListed
-IsListed-each P set one two three a b d e f g h p q r s t u v w profile listed = set profile (elim listed [
-  | inl is ↦ subst P (sym is) one
-  | inr (inl is) ↦ subst P (sym is) two
-  | inr (inr (inl is)) ↦ subst P (sym is) three
-  | inr (inr (inr (inl both))) ↦ subst P (sym both.1) (each_size sqlcipher_4_of P a b d e f g h profile.page_size both.0)
-  | inr (inr (inr (inr both))) ↦ subst P (sym both.1) (elim both.0 [
-    | inl is ↦ subst (λ (n : ℕ). P (plain_of n)) (sym is) p
-    | inr one ↦ each_size plain_of P q r s t u v w profile.page_size one
-  ])
-])
-
--- profiles of which each is listed, one by one
-pub none_listed : (k : ℕ) (d : Profile) → k < 0 → IsListed (slice_index_or [] k d)
-none_listed k d less = absurd (omega (arith, less))
-
-pub first_listed : (first : Profile) (later : List Profile) → IsListed first → ((k : ℕ) (d : Profile) → k < length later → IsListed (slice_index_or later k d))
-    → (k : ℕ) (d : Profile) → k < length (first ∷ later) → IsListed (slice_index_or (first ∷ later) k d)
-first_listed first later one others zero d less = one
-first_listed first later one others (suc k) d less = others k d (omega (arith, less))
+-- what holds of each size of a page, one by one, holds of the size of each profile
+pub IsListed-size : (P : ℕ → Type 0) → P 512 → P 1024 → P 2048 → P 4096 → P 8192 → P 16384 → P 32768 → P 65536
+    → (profile : Profile) → IsListed profile → P profile.page_size
+IsListed-size P a b d e f g h i profile listed = elim (IsListed-laid_out profile listed).sizes [
+  | inl is ↦ subst P (sym is) a
+  | inr (inl is) ↦ subst P (sym is) b
+  | inr (inr (inl is)) ↦ subst P (sym is) d
+  | inr (inr (inr (inl is))) ↦ subst P (sym is) e
+  | inr (inr (inr (inr (inl is)))) ↦ subst P (sym is) f
+  | inr (inr (inr (inr (inr (inl is))))) ↦ subst P (sym is) g
+  | inr (inr (inr (inr (inr (inr (inl is)))))) ↦ subst P (sym is) h
+  | inr (inr (inr (inr (inr (inr (inr is)))))) ↦ subst P (sym is) i
+]
 
 -- a profile has no tags exactly where its reserve has room for an IV at most
 abbrev HasFew : Profile → Type 0
@@ -153,11 +159,8 @@ HasFew p = p.tag_len ≡ 0 → p.reserve ≤ 16
 pub untagged_reserve : (profile : Profile) → IsListed profile → profile.tag_len ≡ 0 → profile.reserve ≤ 16
 unfolding IsListed
 untagged_reserve profile listed = elim listed [
-  | inl is ↦ subst HasFew (sym is) (λ none. lit≤ tt)
-  | inr (inl is) ↦ subst HasFew (sym is) (λ none. cc)
-  | inr (inr (inl is)) ↦ subst HasFew (sym is) (λ none. cc)
-  | inr (inr (inr (inl both))) ↦ subst HasFew (sym both.1) (λ none. cc)
-  | inr (inr (inr (inr both))) ↦ subst HasFew (sym both.1) (λ none. lit≤ tt)
+  | inl is ↦ λ none. omega (arith, is.reserve, none)
+  | inr both ↦ subst HasFew (sym both.1) (λ none. lit≤ tt)
 ]
 
 abbrev HasNone : Profile → Type 0
@@ -166,9 +169,6 @@ HasNone p = p.reserve ≤ 16 → p.tag_len ≡ 0
 pub reserve_untagged : (profile : Profile) → IsListed profile → profile.reserve ≤ 16 → profile.tag_len ≡ 0
 unfolding IsListed
 reserve_untagged profile listed = elim listed [
-  | inl is ↦ subst HasNone (sym is) (λ few. refl)
-  | inr (inl is) ↦ subst HasNone (sym is) (λ few. absurd (omega (arith, few)))
-  | inr (inr (inl is)) ↦ subst HasNone (sym is) (λ few. absurd (omega (arith, few)))
-  | inr (inr (inr (inl both))) ↦ subst HasNone (sym both.1) (λ few. absurd (omega (arith, few)))
-  | inr (inr (inr (inr both))) ↦ subst HasNone (sym both.1) (λ few. refl)
+  | inl is ↦ λ few. omega (arith, is.reserve, few)
+  | inr both ↦ subst HasNone (sym both.1) (λ few. refl)
 ]

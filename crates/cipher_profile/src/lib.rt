@@ -10,4 +10,4 @@ mod profile;
 pub use key_line::{KeyError, read_key};
 pub use keys::{PageKeys, Secret, derive, derive_beside};
 pub use passphrase::PassBytes;
-pub use profile::{HashKind, Profile, probed_profiles, profile_of, profile_with_setting};
+pub use profile::{HashKind, Profile};

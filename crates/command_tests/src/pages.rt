@@ -2,9 +2,10 @@
 ghost use Rattle.cipher_profile.specs.Profile.{usable};
 ghost use Rattle.std.specs.Prelude.{◌≡◌, length};
 
-use cipher_profile::{Profile, derive, profile_of, read_key};
+use cipher_profile::{Profile, derive, read_key};
 use edge_memory::MemSource;
 use page_codec::Codec;
+use profile_word::profile_of;
 use std::alloc::Global;
 use std::process::Abort;
 use std::test::Fail;

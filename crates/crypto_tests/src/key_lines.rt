@@ -1,82 +1,11 @@
-// What no clause says: that the tables are those of SQLCipher, known keys, and what key lines of each kind give.
+// What no clause says: known keys, and what key lines of each kind give.
 use crate::hex_text::is_hex_of;
-use cipher_profile::{
-    HashKind, KeyError, Secret, derive, derive_beside, probed_profiles, profile_of, read_key,
-};
+use cipher_profile::{KeyError, Secret, derive, derive_beside, read_key};
 use edge_memory::{MemSource, SilentSource};
 use edge_model::Source;
+use profile_word::profile_of;
 use std::alloc::Global;
 use std::test::Fail;
-
-// SQLCipher API, "cipher_compatibility", and the sizes that follow from its settings: the length of a page, its usable
-// bytes, the rounds and the length of a tag. A plain page is usable whole.
-#[test]
-fn words_name_profiles(rt: HostRuntime) {
-    let table = [
-        ("1", 1, 1024, 1008, HashKind::Sha1, 4_000, 0),
-        ("2", 2, 1024, 976, HashKind::Sha1, 4_000, 20),
-        ("3", 3, 1024, 976, HashKind::Sha1, 64_000, 20),
-        ("4", 4, 4096, 4016, HashKind::Sha512, 256_000, 64),
-        ("4:1024", 4, 1024, 944, HashKind::Sha512, 256_000, 64),
-        ("4:2048", 4, 2048, 1968, HashKind::Sha512, 256_000, 64),
-        ("4:4096", 4, 4096, 4016, HashKind::Sha512, 256_000, 64),
-        ("4:8192", 4, 8192, 8112, HashKind::Sha512, 256_000, 64),
-        ("4:16384", 4, 16384, 16304, HashKind::Sha512, 256_000, 64),
-        ("4:32768", 4, 32768, 32688, HashKind::Sha512, 256_000, 64),
-        ("4:65536", 4, 65536, 65456, HashKind::Sha512, 256_000, 64),
-        ("plain:512", 0, 512, 512, HashKind::Sha1, 1, 0),
-        ("plain:1024", 0, 1024, 1024, HashKind::Sha1, 1, 0),
-        ("plain:4096", 0, 4096, 4096, HashKind::Sha1, 1, 0),
-        ("plain:65536", 0, 65536, 65536, HashKind::Sha1, 1, 0),
-    ];
-    for (word, version, page_size, usable, hash, rounds, tag_len) in table {
-        let Some(profile) = profile_of(word) else {
-            panic!(rt; "{word}");
-        };
-        let sizes = profile.page_size == page_size && profile.usable() == usable;
-        let settings = profile.hash == hash
-            && profile.rounds == rounds
-            && profile.tag_len == tag_len;
-        assert!(rt; profile.version == version && sizes && settings, "{word}");
-        assert!(rt; profile.is_plain() == (version == 0), "{word}");
-    }
-    for word in [
-        "",
-        "0",
-        "5",
-        "10",
-        "04",
-        " 4",
-        "four",
-        "4:",
-        "4:512",
-        "4:04096",
-        "4:3000",
-        "4:131072",
-        "3:1024",
-        "4:4096 ",
-        "plain",
-        "plain:",
-        "plain:256",
-        "plain:0512",
-        "plain:513",
-        "plain:131072",
-        "Plain:512",
-    ] {
-        assert!(rt; profile_of(word).is_none(), "{word}");
-    }
-}
-
-// The order in which a file is tried, by the words that name the profiles.
-#[test]
-fn profiles_are_tried_in_their_order(rt: HostRuntime) {
-    let words = [
-        "4", "4:1024", "4:2048", "4:8192", "4:16384", "4:32768", "4:65536", "3", "2", "1",
-    ];
-    for (word, profile) in words.iter().zip(probed_profiles().iter()) {
-        assert!(rt; profile_of(word) == Some(*profile), "{word}");
-    }
-}
 
 const SALT: [u8; 16] = [0, 1, 2, 3, 4, 5, 6, 7, 8, 9, 10, 11, 12, 13, 14, 15];
 

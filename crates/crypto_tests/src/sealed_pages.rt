@@ -3,8 +3,9 @@
 ghost use Rattle.std.specs.Prelude.{◌≡◌, ◌≤◌, length};
 ghost use Rattle.cipher_profile.specs.Profile.{usable};
 
-use cipher_profile::{Profile, Secret, derive, profile_of};
+use cipher_profile::{Profile, Secret, derive};
 use page_codec::{Codec, TagRefused};
+use profile_word::profile_of;
 use std::process::Abort;
 
 const SALT: &[u8; 16] = b"@ABCDEFGHIJKLMNO";
@@ -68,9 +69,11 @@ fn put_leaf(rt: &impl Abort, profile: &Profile, n: u32, plain: &mut [u8]) {
     plain[start] = 13;
     plain[start + 5] = (plain.len() / 256) as u8;
     plain[start + 6] = (plain.len() % 256) as u8;
-    let header = match profile.version {
-        1 => b"SQLite format 3\0\x04\x00\x01\x01\x10\x40\x20\x20",
-        4 => b"SQLite format 3\0\x10\x00\x01\x01\x50\x40\x20\x20",
+    let header = match (profile.version, profile.page_size, profile.reserve) {
+        (1, 4096, _) => b"SQLite format 3\0\x10\x00\x01\x01\x10\x40\x20\x20",
+        (1, _, _) => b"SQLite format 3\0\x04\x00\x01\x01\x10\x40\x20\x20",
+        (4, _, 48) => b"SQLite format 3\0\x10\x00\x01\x01\x30\x40\x20\x20",
+        (4, _, _) => b"SQLite format 3\0\x10\x00\x01\x01\x50\x40\x20\x20",
         _ => b"SQLite format 3\0\x04\x00\x01\x01\x30\x40\x20\x20",
     };
     if n == 1 {
@@ -193,6 +196,27 @@ fn seals_pages_as_the_reference_does(rt: HostRuntime) {
             "067ab2187265672bf3e86e81a9233a09",
             "544dcd5799ad20c890ecb2f9d2d0a58f",
             "000102030405060708090a0b0c0d0e0f43743c1d37feb95a44eddb30e669d01e090608b9cf2dcfccbf69added00b7d1c26019f8ea59014e6355eda6ab9d5e5048755d631f103d339186dc5af82bc9121",
+        ),
+        (
+            "1:4096",
+            1,
+            "01f1c043cf7959bf9fa6c6b8934cd7ca",
+            "15b93d2053abc42a1abb2cf96c9ddacc",
+            "000102030405060708090a0b0c0d0e0f",
+        ),
+        (
+            "4:hmac=sha256",
+            1,
+            "fd091988319a7722e6e9d21796564a5b",
+            "4f1402021640b9de5b378496b6ad7215",
+            "000102030405060708090a0b0c0d0e0f333308a6f60cd2f7378863fa8897bd1cbfee9c6116226b66ea124fffed6b0d84",
+        ),
+        (
+            "4:hmac=sha256",
+            2,
+            "8bd3c626769f2301a950d8c57abd11e7",
+            "c12a79f4496aace95b71c50266d8d72f",
+            "000102030405060708090a0b0c0d0e0f5f13cb4786cfc963145b294f6a1519aa2436c003cdb2b913a4799287cc7d5581",
         ),
     ];
     for (word, n, first, last, reserve) in pages {

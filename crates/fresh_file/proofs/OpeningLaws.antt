@@ -5,10 +5,10 @@ use Rattle.std.specs.Int.{w16, to_be_bytes}
 use Rattle.std.specs.Str.{bytes_eq}
 use Rattle.std.proofs.Math.Nat.{div-eq_of_eq-mul_left, div-mul-le_self, mul-le-mul_right}
 use Rattle.std.proofs.lemmas.Bool.Decides.{nat_tests}
+use Rattle.std.proofs.lemmas.Slice.Eq.{bytes_eq-Decides}
 use Rattle.bulk_load.specs.Headed.{IsHeaded}
 use Rattle.cipher_profile.specs.Profile.{IsListed, is_plain, usable}
 use Rattle.cipher_profile.specs.declared.profile.Profile.{Profile}
-use Rattle.cipher_profile.proofs.Layouts.{IsListed-each}
 use Rattle.db_format.specs.Count.{count_of_pages, largest_database, size_counts}
 use Rattle.db_format.specs.Header.{header_bytes, header_read, stored_page_size}
 use Rattle.db_format.specs.Pages.{Pages}
@@ -61,13 +61,22 @@ both a b is too = cc
 read_in_front : (h : Header) (rest : List ℕ) (size reserve : ℕ) → header_read (header_bytes h ++ rest) size reserve ≡ header_read (header_bytes h) size reserve
 read_in_front h rest size reserve = refl
 
--- what says that these are pages of profile 1
-sign_of : ℕ → ℕ → Bool
-sign_of size reserve = bytes_eq (to_be_bytes w16 (stored_page_size size)) (4 ∷ 0 ∷ []) && bytes_eq (reserve ∷ 64 ∷ 32 ∷ 32 ∷ []) (16 ∷ 64 ∷ 32 ∷ 32 ∷ [])
+-- what says that these are pages of a profile
+sign_of : Profile → ℕ → ℕ → Bool
+sign_of profile size reserve =
+    bytes_eq (to_be_bytes w16 (stored_page_size size)) (to_be_bytes w16 (stored_page_size profile.page_size))
+    && bytes_eq (reserve ∷ 64 ∷ 32 ∷ 32 ∷ []) (profile.reserve ∷ 64 ∷ 32 ∷ 32 ∷ [])
 
-sign_in_front : (h : Header) (rest : List ℕ) → bears_sign (header_bytes h ++ rest) ≡ sign_of h.page_size h.reserve
+sign_in_front : (profile : Profile) (h : Header) (rest : List ℕ) → bears_sign profile (header_bytes h ++ rest) ≡ sign_of profile h.page_size h.reserve
 unfolding sign_of
-sign_in_front h rest = refl
+sign_in_front profile h rest = refl
+
+same_bytes : (xs : List ℕ) → bytes_eq xs xs ≡ true
+same_bytes xs = (bytes_eq-Decides xs xs).1 refl
+
+own_sign : (profile : Profile) → sign_of profile profile.page_size profile.reserve ≡ true
+unfolding sign_of
+own_sign profile = both _ _ (same_bytes (to_be_bytes w16 (stored_page_size profile.page_size))) (same_bytes (profile.reserve ∷ 64 ∷ 32 ∷ 32 ∷ []))
 
 -- the header is that of a file of this profile
 pub record IsHeaderFor (profile : Profile) (header : Header) : Type 0 where
@@ -78,21 +87,19 @@ pub record IsHeaderFor (profile : Profile) (header : Header) : Type 0 where
 -- the key fits an encrypted file by the tag, or by the sign of a profile without tags
 abbrev Fits : Header → List ℕ → Bool → Profile → Type 0
 Fits header rest accepted profile =
-    is_plain profile ≡ false → IsHeaderFor profile header → (if profile.tag_len == 0 then bears_sign (header_bytes header ++ rest) else accepted) ≡ true
+    is_plain profile ≡ false → IsHeaderFor profile header → (if profile.tag_len == 0 then bears_sign profile (header_bytes header ++ rest) else accepted) ≡ true
 
-signed : (header : Header) (rest : List ℕ) → header.page_size ≡ 1024 → header.reserve ≡ 16 → bears_sign (header_bytes header ++ rest) ≡ true
-unfolding sign_of
-signed header rest size reserve = sign_in_front header rest ∙ ap (λ (n : ℕ). sign_of n header.reserve) size ∙ ap (λ (n : ℕ). sign_of 1024 n) reserve
+signed : (profile : Profile) (header : Header) (rest : List ℕ) → header.page_size ≡ profile.page_size → header.reserve ≡ profile.reserve
+    → bears_sign profile (header_bytes header ++ rest) ≡ true
+signed profile header rest size reserve =
+    sign_in_front profile header rest ∙ ap (λ (n : ℕ). sign_of profile n header.reserve) size ∙ ap (sign_of profile profile.page_size) reserve ∙ own_sign profile
 
-key_fits : (header : Header) (rest : List ℕ) (accepted : Bool) (profile : Profile) → IsListed profile → accepted ≡ true → Fits header rest accepted profile
-key_fits header rest accepted profile listed yes =
-    IsListed-each (Fits header rest accepted)
-    (λ profile fits ciphered for. fits ciphered (record { page_size = for.page_size; reserve = for.reserve; counts = for.counts }))
-    (λ ciphered for. signed header rest for.page_size for.reserve)
-    (λ ciphered for. yes) (λ ciphered for. yes) (λ ciphered for. yes) (λ ciphered for. yes) (λ ciphered for. yes)
-    (λ ciphered for. yes) (λ ciphered for. yes) (λ ciphered for. yes) (λ ciphered for. yes)
-    (λ ciphered. cc) (λ ciphered. cc) (λ ciphered. cc) (λ ciphered. cc) (λ ciphered. cc) (λ ciphered. cc) (λ ciphered. cc) (λ ciphered. cc)
-    profile listed
+key_fits : (header : Header) (rest : List ℕ) (accepted : Bool) (profile : Profile) → accepted ≡ true → Fits header rest accepted profile
+key_fits header rest accepted profile yes = λ ciphered for. by_tag (profile.tag_len == 0) for
+  where
+    by_tag : (none : Bool) → IsHeaderFor profile header → (if none then bears_sign profile (header_bytes header ++ rest) else accepted) ≡ true
+    by_tag true for = signed profile header rest for.page_size for.reserve
+    by_tag false for = yes
 
 -- a plain file by the magic, with which each header begins
 magic_in_front : (h : Header) (rest : List ℕ) → bytes_eq (take 16 (header_bytes h ++ rest)) magic ≡ true
@@ -141,12 +148,12 @@ module _ (keys : FileKeys) (header : Header) (start : ℕ) (pages : Pages) (draw
         stored = page_stored keys file 1
 
         by_kind : (plain : Bool) → is_plain keys.profile ≡ plain
-            → (if plain then bytes_eq (take 16 stored) magic else (if keys.profile.tag_len == 0 then bears_sign (opened keys 1 stored) else accepts keys 1 stored)) ≡ true
+            → (if plain then bytes_eq (take 16 stored) magic else (if keys.profile.tag_len == 0 then bears_sign keys.profile (opened keys 1 stored) else accepts keys 1 stored)) ≡ true
         by_kind true plain =
             ap (λ (l : List ℕ). bytes_eq (take 16 l) magic) (sym (opened_plain_file keys 1 stored plain) ∙ first) ∙ magic_in_front new_header rest
         by_kind false ciphered =
-            ap (λ (l : List ℕ). if keys.profile.tag_len == 0 then bears_sign l else accepts keys 1 stored) first
-            ∙ key_fits new_header rest (accepts keys 1 stored) keys.profile listed (accepted 1 one_is) ciphered
+            ap (λ (l : List ℕ). if keys.profile.tag_len == 0 then bears_sign keys.profile l else accepts keys 1 stored) first
+            ∙ key_fits new_header rest (accepts keys 1 stored) keys.profile (accepted 1 one_is) ciphered
             (record { page_size = for.page_size; reserve = for.reserve; counts = for.counts })
 
     is_read : file_header keys file ≡ Ok new_header

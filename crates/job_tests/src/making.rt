@@ -1,9 +1,10 @@
 // Files over a disk and an entropy in memory. Tags are from an independent writer, which has SQLite build the file of no rows and seals
 // its pages with zeros. Its page 1 has the 0 of the view's root in another of the two forms that a record knows.
-use cipher_profile::{Secret, profile_of};
+use cipher_profile::Secret;
 use edge_memory::{ImagePick, MemDisk, MemEntropy};
 use edge_model::Role;
 use make_job::{Made, MakeError, make};
+use profile_word::profile_of;
 use std::alloc::{AllocError, Global};
 use std::process::Abort;
 use std::test::Fail;

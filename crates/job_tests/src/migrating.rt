@@ -3,12 +3,13 @@
 ghost use Rattle.std.specs.Prelude.{◌≡◌};
 
 use crate::sealed::{Piece, codec_of, codec_with, disk_of, plain_page, sealed};
-use cipher_profile::{Secret, profile_of};
+use cipher_profile::Secret;
 use db_format::Defect;
 use edge_memory::{ImagePick, MemDisk, MemEntropy, SilentDisk, SilentEntropy};
 use edge_model::Role;
 use migrate_job::{MigrateError, migrate};
 use pager::Pager;
+use profile_word::profile_of;
 use std::alloc::Global;
 use std::process::Abort;
 use std::test::Fail;

@@ -2,11 +2,12 @@
 // hand, after the Database File Format.
 ghost use Rattle.std.specs.Prelude.{◌≡◌, ◌≤◌, length};
 
-use cipher_profile::{Secret, derive, profile_of};
+use cipher_profile::{Secret, derive};
 use db_format::PageSource;
 use edge_memory::{MemDisk, MemEntropy, SilentDisk, SilentEntropy};
 use page_codec::Codec;
 use pager::Pager;
+use profile_word::profile_of;
 use std::alloc::Global;
 use std::process::Abort;
 use std::test::Fail;

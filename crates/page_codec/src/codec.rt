@@ -1,5 +1,6 @@
 // What opens and seals the pages of one file.
-ghost use Rattle.std.specs.Prelude.{◌≡◌, ◌<◌, ◌≤◌, length, take, true, false};
+ghost use Rattle.std.specs.Prelude.{◌≡◌, ◌<◌, ◌≤◌, ◌==◌, length, take, true, false, if◌then◌else◌};
+ghost use Rattle.std.specs.Int.{w16, to_be_bytes};
 ghost use Rattle.std.specs.Str.{bytes_eq};
 ghost use Rattle.cipher_profile.specs.Profile.{IsListed, is_plain};
 ghost use Rattle.page_codec.specs.MacKey.{mac_key};
@@ -9,6 +10,7 @@ use crate::side_by_side::SideKey;
 use crate::tag::{MAX_TAG, TagKey};
 use aes_block::Aes256;
 use cipher_profile::{PageKeys, Profile, Secret, derive};
+use number_fields::u16_bytes;
 use std::marker::Model;
 
 /// The length of an IV, in bytes.
@@ -16,6 +18,9 @@ pub const IV_LEN: usize = 16;
 
 /// The length of a salt, in bytes.
 pub const SALT_LEN: usize = 16;
+
+/// The largest page, in bytes.
+const MAX_PAGE: usize = 65536;
 
 /// What a plain page 1 begins with (SQLite file format, section 1.3.1). It stands for the salt of a plain file, which has none.
 pub const MAGIC: [u8; 16] = *b"SQLite format 3\0";
@@ -161,18 +166,32 @@ impl Codec {
         stored[..SALT_LEN] == MAGIC[..]
     }
 
-    // Whether page 1 of profile 1 opens to what a header says of its pages.
+    // Whether page 1 opens to what a header says of its pages.
     fn opens_with_sign(&self, stored: &[u8]) -> bool
         requires size { length stored.now ≡ self.now.profile.page_size }
-        requires untagged { self.now.profile.tag_len ≡ 0 }
         requires ciphered { is_plain self.now.profile ≡ false }
-        ensures { result ≡ bears_sign (deciphered self.now 1 stored.now) }
+        ensures { result ≡ bears_sign self.now.profile (deciphered self.now 1 stored.now) }
     {
-        let mut buffer = [0u8; 1024];
+        let mut buffer = [0u8; MAX_PAGE];
         let plain = &mut buffer[..self.profile.usable()];
         self.decipher(1, stored, plain);
-        plain[16..18] == [0x04, 0x00] && plain[20..24] == [0x10, 0x40, 0x20, 0x20]
+        let size = stored_size(self.profile.page_size);
+        let reserve = self.profile.reserve as u8;
+        plain[16..18] == size[..] && plain[20..24] == [reserve, 64, 32, 32]
     }
+}
+
+// How a header has the size of pages: in two bytes, in which 1 stands for 65,536.
+fn stored_size(page_size: u32) -> [u8; 2]
+    requires { page_size ≤ 65536 }
+    ensures { result ≡ to_be_bytes w16 (if page_size == 65536 then 1 else page_size) }
+{
+    let size = if page_size == 65536 {
+        1
+    } else {
+        page_size as u16
+    };
+    u16_bytes(size)
 }
 
 /// Where the ciphertext of page n begins: on page 1 after the salt.

@@ -1,5 +1,5 @@
 // The tags of several pages at once.
-ghost use Rattle.std.specs.Prelude.{◌≡◌, ℕ, ◌+◌, ◌*◌, ◌^◌, ◌<◌, ◌≤◌, length, slice_index, slice_index_or, take, false};
+ghost use Rattle.std.specs.Prelude.{◌≡◌, ℕ, ◌+◌, ◌*◌, ◌^◌, ◌<◌, ◌≤◌, ◌++◌, length, slice_index, slice_index_or, take, false};
 ghost use Rattle.std.specs.Int.{w32, to_le_bytes};
 ghost use Rattle.std.specs.Str.{bytes_eq};
 ghost use Rattle.hmac_core.specs.Hmac.{hmac_of_block};
@@ -12,10 +12,11 @@ ghost use Rattle.page_codec.specs.Pages.{AreAnswered, AreEnds, nth_page, run_fro
 use crate::codec::{Codec, IV_LEN};
 use cipher_profile::HashKind;
 use hash_lanes::{EightMacs, FourMacs};
+use hmac_core::{HmacKey, PageHash, Sha256Hash};
 use number_fields::u32_bytes_low_first;
 use std::marker::Model;
 
-/// How many tags of this hash are computed at once: as many as a vector has words of it.
+/// How many tags of this hash are computed at once: as many as a vector has words of it, or one where the hash has no lanes.
 pub(crate) fn at_once(hash: HashKind) -> usize
     ensures value { result ≡ at_once hash }
     ensures some { 0 < result }
@@ -23,6 +24,7 @@ pub(crate) fn at_once(hash: HashKind) -> usize
 {
     match hash {
         HashKind::Sha1 => 8,
+        HashKind::Sha256 => 1,
         HashKind::Sha512 => 4,
     }
 }
@@ -32,6 +34,7 @@ pub(crate) fn at_once(hash: HashKind) -> usize
 pub(crate) enum Lanes {
     Eight(EightMacs),
     Four(FourMacs),
+    One(HmacKey<Sha256Hash>),
 }
 
 /// The key of a file's tags, prepared once for several pages at a time.
@@ -55,6 +58,7 @@ impl SideKey {
     {
         let lanes = match hash {
             HashKind::Sha1 => Lanes::Eight(EightMacs::new(key)),
+            HashKind::Sha256 => Lanes::One(HmacKey::new(key)),
             HashKind::Sha512 => Lanes::Four(FourMacs::new(key)),
         };
         SideKey { lanes }
@@ -77,8 +81,22 @@ impl SideKey {
         match &self.lanes {
             Lanes::Eight(macs) => apart(&macs.tags(pages, size, len, numbers, 4), 20, 8),
             Lanes::Four(macs) => apart(&macs.tags(pages, size, len, numbers, 4), 64, 4),
+            Lanes::One(key) => alone(key, &pages[..len], &numbers[..4]),
         }
     }
+}
+
+// The HMAC of the two parts of a message, at the front of 64 bytes.
+fn alone<H: PageHash>(key: &HmacKey<H>, covered: &[u8], number: &[u8]) -> [u8; 512]
+    requires { H.OUT ≤ 64 }
+    ensures { take H.OUT result ≡ hmac_of_block H.hash key.now (covered.now ++ number.now) }
+{
+    let mut mac = key.start();
+    mac.update(covered);
+    mac.update(number);
+    let mut tag = [0u8; 512];
+    mac.finish(&mut tag[..H::OUT]);
+    tag
 }
 
 // So many tags of `len` bytes, each at the front of 64 bytes.

@@ -6,7 +6,7 @@ ghost use Rattle.cipher_profile.specs.Hashes.{digest, digest_len};
 ghost use Rattle.page_codec.specs.MacKey.{mac_key};
 
 use cipher_profile::HashKind;
-use hmac_core::{HmacKey, PageHash, Sha1Hash, Sha512Hash};
+use hmac_core::{HmacKey, PageHash, Sha1Hash, Sha256Hash, Sha512Hash};
 use number_fields::u32_bytes_low_first;
 use std::marker::Model;
 
@@ -17,6 +17,7 @@ pub const MAX_TAG: usize = 64;
 #[derive(Drop)]
 pub enum Prepared {
     WithSha1(HmacKey<Sha1Hash>),
+    WithSha256(HmacKey<Sha256Hash>),
     WithSha512(HmacKey<Sha512Hash>),
 }
 
@@ -41,6 +42,7 @@ impl TagKey {
     {
         let prepared = match hash {
             HashKind::Sha1 => Prepared::WithSha1(HmacKey::new(key)),
+            HashKind::Sha256 => Prepared::WithSha256(HmacKey::new(key)),
             HashKind::Sha512 => Prepared::WithSha512(HmacKey::new(key)),
         };
         TagKey { prepared }
@@ -53,6 +55,7 @@ impl TagKey {
     {
         match &self.prepared {
             Prepared::WithSha1(key) => tag_under(key, covered, n),
+            Prepared::WithSha256(key) => tag_under(key, covered, n),
             Prepared::WithSha512(key) => tag_under(key, covered, n),
         }
     }

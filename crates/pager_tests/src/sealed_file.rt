@@ -1,9 +1,10 @@
 // Pages of a file of profile 3 that page_codec seals, whose own tests compare its pages with pages from outside. Plain page n has
 // 976 bytes n, behind the header on page 1.
 
-use cipher_profile::{Secret, derive, profile_of};
+use cipher_profile::{Secret, derive};
 use edge_memory::{MemDisk, SilentDisk};
 use page_codec::Codec;
+use profile_word::profile_of;
 use std::alloc::Global;
 use std::process::Abort;
 use std::test::Fail;

@@ -1,5 +1,4 @@
 pub mod ScriptText
-pub mod Words
 pub mod Progress
 pub mod Stopping
 pub mod RunSteps

@@ -12,14 +12,15 @@
 -- | `stop`              | all sessions end                                           |
 --
 -- One space parts two words. S, N, AT and BYTE are one to ten digits, at most 4,294,967,295: S is below 16, AT is below the usable bytes of
--- a page of the profile that the script is played for, and BYTE is below 256. P names a profile. KEY is the rest of the line, as a key line
+-- a page of the profile that the script is played for, and BYTE is below 256. P names a profile whose file is not read with its log. KEY is the rest of the line, as a key line
 -- has it; a plain profile has no key, and neither KEY nor its space is there.
 use Rattle.std.specs.Prelude.{ℕ, zero, suc, ◌+◌, ◌==◌, nat_lt, Bool, List, [], ◌∷◌, take, drop, Option, Some, None, Result, Ok, Err, codes, if◌then◌else◌}
 use Rattle.std.specs.List.{onto_first, position}
 use Rattle.std.specs.Option.{option_map, option_and_then}
 use Rattle.std.specs.Str.{bytes_eq}
 use Rattle.cipher_profile.specs.KeyLine.{key_line}
-use Rattle.cipher_profile.specs.Profile.{is_plain, profile_named, usable}
+use Rattle.cipher_profile.specs.Profile.{is_plain, usable}
+use Rattle.profile_word.specs.Word.{named_without_log}
 use Rattle.cipher_profile.specs.declared.key_line.KeyError.{KeyError}
 use Rattle.cipher_profile.specs.declared.keys.Secret.{Secret}
 use Rattle.cipher_profile.specs.declared.keys.Secret.TheVariants.{NoKey}
@@ -110,11 +111,11 @@ step_form layout [] = None
 step_form layout (name ∷ []) = if bytes_eq name (codes "stop") then Some (step_by 0 Stop) else None
 step_form layout (name ∷ first ∷ []) = option_and_then (λ session. option_map (step_by session) (lock_step name)) (session_named first)
 step_form layout (name ∷ first ∷ second ∷ []) =
-    option_and_then (λ session. option_and_then (λ profile. option_map (step_by session) (plain_form name profile)) (profile_named second)) (session_named first)
+    option_and_then (λ session. option_and_then (λ profile. option_map (step_by session) (plain_form name profile)) (named_without_log second)) (session_named first)
 step_form layout (name ∷ first ∷ second ∷ third ∷ []) = option_and_then (λ session.
     if bytes_eq name (codes "read") then read_form layout session second third
     else (if bytes_eq name (codes "change") then change_form layout session second (line_words 1 third)
-    else option_and_then (λ profile. option_map (step_by session) (key_form name third profile)) (profile_named second))) (session_named first)
+    else option_and_then (λ profile. option_map (step_by session) (key_form name third profile)) (named_without_log second))) (session_named first)
 step_form layout (name ∷ first ∷ second ∷ third ∷ fourth ∷ rest) = None
 
 -- the step that a line is, none where it has none of the forms

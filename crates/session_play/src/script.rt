@@ -3,14 +3,15 @@ ghost use Rattle.std.specs.Prelude.{◌≡◌, ◌+◌, ◌<◌, ◌∷◌, ℕ,
 ghost use Rattle.std.specs.List.{position};
 ghost use Rattle.std.specs.Option.{option_and_then, option_map};
 ghost use Rattle.cipher_profile.specs.KeyLine.{key_line};
-ghost use Rattle.cipher_profile.specs.Profile.{IsListed, profile_named};
+ghost use Rattle.cipher_profile.specs.Profile.{IsListed};
+ghost use Rattle.profile_word.specs.Word.{named_without_log};
 ghost use Rattle.session_hall.specs.Machine.{IsListedStep};
 ghost use Rattle.session_play.specs.Script.{change_form, step_form, is_space, key_form, secret_step, lock_step, number_below, plain_form, read_form, secret_in, session_named, step_by, step_of, line_words};
 
 use crate::rest::Rest;
-use cipher_profile::{Profile, Secret, profile_of, read_key};
+use cipher_profile::{Profile, Secret, read_key};
+use profile_word::profile_without_log;
 use session_hall::Step;
-use std::str;
 use text_lines::number_of;
 
 /// How many sessions there are.
@@ -110,7 +111,7 @@ fn plain_step(layout: &Profile, name: &[u8], first: &[u8], second: &[u8]) -> Opt
     ensures listed { IfSome result (λ entry. IsListedStep entry.step) }
 {
     let session = session_of(first)?;
-    let profile = profile_in(second)?;
+    let profile = profile_without_log(second)?;
     let step = plain_form(name, profile)?;
     Some(step_by(session, step))
 }
@@ -135,7 +136,7 @@ fn full_step(
     if name == b"change".as_slice() {
         return change_step(layout, session, second, third);
     }
-    let profile = profile_in(second)?;
+    let profile = profile_without_log(second)?;
     let step = key_form(name, third, profile)?;
     Some(step_by(session, step))
 }
@@ -257,17 +258,6 @@ fn session_of(word: &[u8]) -> Option<u8>
 {
     let session = number_below(SESSIONS, word)?;
     Some(session as u8)
-}
-
-// The profile that a word names.
-fn profile_in(word: &[u8]) -> Option<Profile>
-    ensures value { result ≡ profile_named word.now }
-    ensures listed { IfSome result IsListed }
-{
-    match str::from_utf8(word) {
-        Ok(text) => profile_of(text),
-        Err(_) => None,
-    }
 }
 
 // The secret that a text is as a key line.

@@ -2,7 +2,8 @@
 ghost use Rattle.cipher_profile.specs.Profile.{IsListed};
 
 use crate::script::step_of;
-use cipher_profile::{Profile, profile_of};
+use cipher_profile::Profile;
+use profile_word::profile_of;
 use std::process::Abort;
 use std::test::Fail;
 

@@ -8,7 +8,7 @@ use Rattle.cipher_profile.specs.Hashes.{block_len, digest, digest_len}
 use Rattle.cipher_profile.specs.Profile.{IsLaidOut, usable}
 use Rattle.page_codec.specs.MacKey.{MacKey, at_once}
 use Rattle.page_codec.specs.Page.{FileKeys, accepts, stored_tag, tag}
-use Rattle.page_codec.specs.Pages.{nth_page}
+use Rattle.page_codec.specs.Pages.{AreAnswered, nth_page}
 use Rattle.page_codec.proofs.PageFacts.{ends_by}
 use Rattle.page_codec.proofs.SideBySide.{answered_more, answered_none, batch_within, cut_mac, cut_page, page_behind, side_tag}
 use Rattle.page_codec.proofs.codec.Codec.later_hold.Goals as goal
@@ -97,3 +97,11 @@ pages-preserved c = λ number known.
     rw (← next) (answered_more file number pages at i c.args.held.now c.pages.held c.bears.result (omega arith)
     (omega (arith, less, c.requires.within)) (c.pages.invariant number known)
     (c.bears.ensures ∙ (λ t. bytes_eq (stored_tag file.profile (cut t)) (own t))))
+
+pub returns : goal.returns
+returns c = λ number known.
+    let file = c.args.self.now in
+    let count : c.at_once-count.result ≡ at_once file.profile.hash =
+    c.at_once-count.ensures.value ∙ ap (λ (f : FileKeys). at_once f.profile.hash) c.self.view_is in
+    let all : c.args.at + c.pages.j ≡ c.args.at + at_once file.profile.hash = omega (arith, count, c.pages-test.false, c.pages.auto.j-end) in
+    subst (λ (to : ℕ). AreAnswered file number c.args.pages.now c.args.at to c.args.held.now c.pages.held) all (c.pages.invariant number known)

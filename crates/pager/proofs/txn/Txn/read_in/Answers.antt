@@ -41,6 +41,11 @@ invariant_of-self-2-clause-before g c = λ told.
     subst (λ (l : List ℕ). IsAhead s.read (main_of (g.D.Disk.reads new.disk)) new.window l) (sym (laid_whole s.ahead.len new.pages s.ahead.items long))
     (subst (λ (f : Files). IsAhead s.read (main_of f) new.window new.pages) (sym (c.read_plain_ahead.ensures.only_read told).stays) (c.read_plain_ahead.ensures.ahead told))
 
+pub invariant_of-self-clause-before : goal.invariant_of-self-clause-before
+invariant_of-self-clause-before g c = λ told.
+    let s = c.args.self.now in
+    subst (λ (f : Files). IsAhead s.read (main_of f) s.window s.ahead.items) (sym (c.read_plain.ensures.only_read told).stays) (s.before told)
+
 pub returns-then-has-clause-under_way : goal.returns-then-has-clause-under_way
 returns-then-has-clause-under_way g c told =
     let r = c.requires.1.1 in

@@ -1,0 +1,279 @@
+// What no clause says: that the table of versions is SQLCipher's, what words with settings give, and the profiles that are tried.
+use cipher_profile::{HashKind, Profile};
+use profile_word::{probed_profiles, profile_of, profile_without_log, push_word};
+use std::process::Abort;
+use text_lines::Text;
+
+const SHA1: HashKind = HashKind::Sha1;
+
+const SHA256: HashKind = HashKind::Sha256;
+
+const SHA512: HashKind = HashKind::Sha512;
+
+// The word's version, size and reserve; the hashes of the tags and of the keys; the rounds, the length of a tag, and whether the
+// file is read with its log.
+fn check(
+    rt: &impl Abort,
+    word: &str,
+    sizes: (u8, u32, u32),
+    hashes: (HashKind, HashKind),
+    rounds: u32,
+    tag_len: u32,
+    reads_log: bool,
+) {
+    let Some(profile) = profile_of(word) else {
+        panic!(rt; "{word}");
+    };
+    let (version, page_size, reserve) = sizes;
+    let (hash, kdf) = hashes;
+    let want = Profile {
+        version,
+        page_size,
+        reserve,
+        hash,
+        kdf,
+        rounds,
+        tag_len,
+        reads_log,
+    };
+    assert!(rt; profile == want, "{word}");
+    assert!(rt;
+        profile_without_log(word.as_bytes()).is_none() == reads_log,
+        "{word} without its log"
+    );
+}
+
+// SQLCipher API, "cipher_compatibility".
+#[test]
+fn versions_have_their_settings(rt: HostRuntime) {
+    check(&rt, "1", (1, 1024, 16), (SHA1, SHA1), 4_000, 0, false);
+    check(&rt, "2", (2, 1024, 48), (SHA1, SHA1), 4_000, 20, false);
+    check(&rt, "3", (3, 1024, 48), (SHA1, SHA1), 64_000, 20, false);
+    check(
+        &rt,
+        "4",
+        (4, 4096, 80),
+        (SHA512, SHA512),
+        256_000,
+        64,
+        false,
+    );
+    check(
+        &rt,
+        "4:4096",
+        (4, 4096, 80),
+        (SHA512, SHA512),
+        256_000,
+        64,
+        false,
+    );
+    check(
+        &rt,
+        "4:65536",
+        (4, 65536, 80),
+        (SHA512, SHA512),
+        256_000,
+        64,
+        false,
+    );
+    check(
+        &rt,
+        "4:wal",
+        (4, 4096, 80),
+        (SHA512, SHA512),
+        256_000,
+        64,
+        true,
+    );
+    check(&rt, "plain:512", (0, 512, 0), (SHA1, SHA1), 1, 0, false);
+    check(
+        &rt,
+        "plain:65536:wal",
+        (0, 65536, 0),
+        (SHA1, SHA1),
+        1,
+        0,
+        true,
+    );
+}
+
+#[test]
+fn words_give_settings(rt: HostRuntime) {
+    check(
+        &rt,
+        "3:1024",
+        (3, 1024, 48),
+        (SHA1, SHA1),
+        64_000,
+        20,
+        false,
+    );
+    check(&rt, "1:4096", (1, 4096, 16), (SHA1, SHA1), 4_000, 0, false);
+    check(
+        &rt,
+        "3:4096",
+        (3, 4096, 48),
+        (SHA1, SHA1),
+        64_000,
+        20,
+        false,
+    );
+    check(
+        &rt,
+        "3:4096:rounds=1",
+        (3, 4096, 48),
+        (SHA1, SHA1),
+        1,
+        20,
+        false,
+    );
+    check(
+        &rt,
+        "3:rounds=1:wal:4096",
+        (3, 4096, 48),
+        (SHA1, SHA1),
+        1,
+        20,
+        true,
+    );
+    check(
+        &rt,
+        "4:rounds=4000:hmac=sha1",
+        (4, 4096, 48),
+        (SHA1, SHA512),
+        4_000,
+        20,
+        false,
+    );
+    check(
+        &rt,
+        "4:hmac=sha256",
+        (4, 4096, 48),
+        (SHA256, SHA512),
+        256_000,
+        32,
+        false,
+    );
+    check(
+        &rt,
+        "4:kdf=sha256:hmac=sha512",
+        (4, 4096, 80),
+        (SHA512, SHA256),
+        256_000,
+        64,
+        false,
+    );
+    check(
+        &rt,
+        "4:hmac=off",
+        (4, 4096, 16),
+        (SHA512, SHA512),
+        256_000,
+        0,
+        false,
+    );
+    check(
+        &rt,
+        "1:hmac=sha1",
+        (1, 1024, 48),
+        (SHA1, SHA1),
+        4_000,
+        20,
+        false,
+    );
+    check(
+        &rt,
+        "4:rounds=2147483647",
+        (4, 4096, 80),
+        (SHA512, SHA512),
+        2_147_483_647,
+        64,
+        false,
+    );
+}
+
+#[test]
+fn other_words_name_no_profile(rt: HostRuntime) {
+    for word in [
+        "",
+        ":",
+        "4:",
+        ":4",
+        "4::",
+        "0",
+        "10",
+        "04",
+        "four",
+        "4:512",
+        "4:04096",
+        "4:3000",
+        "4:131072",
+        "4:4096 ",
+        " 4",
+        "5",
+        "plain",
+        "plain:",
+        "plain:wal",
+        "plain:256",
+        "plain:0512",
+        "plain:512:rounds=1",
+        "plain:4096:hmac=off",
+        "plain:512:1024",
+        "Plain:512",
+        "4:1024:1024",
+        "4:rounds=1:rounds=1",
+        "4:hmac=off:hmac=off",
+        "4:kdf=sha1:kdf=sha1",
+        "4:wal:wal",
+        "4:WAL",
+        "4:rounds=0",
+        "4:rounds=",
+        "4:rounds=01",
+        "4:rounds=2147483648",
+        "4:rounds=4294967297",
+        "4:rounds=-1",
+        "4:rounds=1e3",
+        "4:hmac=",
+        "4:hmac=SHA1",
+        "4:hmac=sha2",
+        "4:kdf=off",
+        "4:kdf=sha224",
+        "4:Rounds=1",
+        "4:rounds=1:",
+        "4:pages=1024",
+        "4:size=1024",
+        "4096",
+        "4:rounds=1:bad",
+        "4:plain-header=32",
+        "4:key=hex",
+    ] {
+        assert!(rt; profile_of(word).is_none(), "{word}");
+    }
+}
+
+// The profiles that are tried, in their order, by the words that are printed of them.
+#[test]
+fn profiles_are_tried_in_their_order(rt: HostRuntime) {
+    let words = [
+        "4",
+        "4:1024",
+        "4:2048",
+        "4:8192",
+        "4:16384",
+        "4:32768",
+        "4:65536",
+        "3",
+        "3:4096",
+        "2",
+        "2:4096",
+        "1",
+        "1:4096",
+        "3:4096:rounds=1",
+        "4:rounds=4000:hmac=sha1",
+    ];
+    for (word, profile) in words.iter().zip(probed_profiles().iter()) {
+        let mut text = Text::new();
+        push_word(&mut text, profile);
+        assert!(rt; text.as_bytes() == word.as_bytes(), "{word}");
+    }
+}

@@ -1,0 +1,5 @@
+pub mod Parts
+pub mod Setting
+pub mod Tried
+pub mod Word
+pub mod Wording
