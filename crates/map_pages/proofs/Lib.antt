@@ -1,0 +1,13 @@
+pub mod MapLaws
+pub mod TrunkPages
+pub mod Freed
+pub mod Counted
+pub mod OldFree
+pub mod FreeCount
+pub mod FreeLaws
+pub mod TreeLaws
+pub mod SettledLaws
+pub mod Heads
+pub mod KeptBack
+pub mod Censuses
+pub mod Examples

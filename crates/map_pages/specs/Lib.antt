@@ -1,0 +1,4 @@
+pub mod Maps
+pub mod Trunks
+pub mod Settled
+pub mod Beside
