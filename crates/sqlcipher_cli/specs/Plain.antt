@@ -1,7 +1,8 @@
 -- What words say of plain files. They are those behind FILE.
 use Rattle.std.specs.Prelude.{ℕ, ◌&&◌, not, Bool, false, List, [], ◌∷◌, Option, Some, None, codes}
 use Rattle.std.specs.Str.{bytes_eq}
-use Rattle.cipher_profile.specs.Profile.{is_plain, profile_set_named}
+use Rattle.cipher_profile.specs.Profile.{is_plain}
+use Rattle.profile_word.specs.Word.{profile_named}
 use Rattle.cipher_profile.specs.declared.profile.Profile.{Profile}
 
 -- this is a profile of plain files
@@ -11,7 +12,7 @@ is_plain_of (Some profile) = is_plain profile
 
 -- the word names plain files
 abbrev pub names_plain : List ℕ → Bool
-names_plain word = is_plain_of (profile_set_named word)
+names_plain word = is_plain_of (profile_named word)
 
 -- `migrate` from an encrypted file to a plain one
 abbrev pub decrypts : List (List ℕ) → Bool

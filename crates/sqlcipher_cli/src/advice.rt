@@ -7,6 +7,7 @@ use crate::refusals::explain_refusal;
 use crate::settle_advice::{explain_dead_log, is_part_settled};
 use crate::usage::explain_usage;
 use edge_files::{Conflict, Failure, Folder, InputSource, Shown, say};
+use profile_word::{probed_profiles, profile_of};
 use schema_names::NearName;
 use sqlcipher_tool::{Refusal, Status};
 
@@ -318,6 +319,14 @@ fn explain_journal_of(rt: &HostRuntime, run: &Ended, folder: &Folder, moved: &st
     );
 }
 
+// Whether `probe` tries what this word names.
+fn is_tried(word: &str) -> bool {
+    match profile_of(word) {
+        Some(named) => probed_profiles().iter().any(|profile| *profile == named),
+        None => false,
+    }
+}
+
 fn explain_either(rt: &HostRuntime, run: &Ended, folder: &Folder) {
     if folder.has_own_journal() {
         say(
@@ -332,6 +341,13 @@ fn explain_either(rt: &HostRuntime, run: &Ended, folder: &Folder) {
     match run.words {
         ["migrate", old, new] if is_plain_word(old) || is_plain_word(new) => plain::explain_which(
             rt, old, new,
+        ),
+        ["rekey" | "migrate", old, new] if !is_tried(old) || !is_tried(new) => say(
+            rt,
+            format_args!(
+                "unless another program changed it meanwhile, the file is whole, under the old key or under the new one: \
+                `recover {version}`, then `verify {old}` with the old key and `verify {new}` with the new one"
+            ),
         ),
         ["rekey" | "migrate", ..] => say(
             rt,

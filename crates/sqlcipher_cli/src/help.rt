@@ -39,12 +39,12 @@ commands
   recover PROFILE play the journal beside the file back into it and remove it;
                   prints `played: N`, `cold` or `nothing`, and takes no key
                   (every command but `probe` and `make` recovers first)
-  settle PROFILE  check a file in WAL mode with its log, FILE-wal, as `verify` does; lay
-                  the log into it, remove FILE-wal and FILE-shm, and take the file
-                  out of WAL mode, so that every command serves it. Prints
-                  `settled: L log frames, M map pages`. A file with auto-vacuum is
-                  refused. A stop at any moment leaves files that open to the same,
-                  and `settle` again goes on
+  settle PROFILE  check a file in WAL mode or with auto-vacuum, with its log,
+                  FILE-wal, as `verify` does; lay the log into it, remove FILE-wal
+                  and FILE-shm, and take the file out of WAL mode and auto-vacuum,
+                  so that every command serves it. Prints
+                  `settled: L log frames, M map pages`. A stop at any moment leaves
+                  files that open to the same, and `settle` again goes on
   stamp PROFILE user-version N
   stamp PROFILE application-id N
                   set this number of the database header, at most 4294967295;
@@ -52,7 +52,7 @@ commands
                   the stamped one
   rekey PROFILE PROFILE
                   seal every page under another key, of a profile whose pages have
-                  the same size and reserve (the file's own, or 2 and 3); prints
+                  the same size and reserve (other rounds, or 2 and 3); prints
                   `rekeyed: N pages`. A stop at any moment leaves the file under
                   the old key or under the new one
   migrate PROFILE PROFILE
@@ -104,12 +104,17 @@ who else has the file
   pages that it has read
 
 profiles
-  1, 2, 3, 4      the version of SQLCipher that wrote the file (1 has no tags)
-  4:SIZE          version 4 with pages of SIZE bytes, as a program sets them by
-                  cipher_page_size: 1024, 2048, 8192, 16384, 32768 or 65536.
-                  4 alone has pages of 4096 bytes, and can be written 4:4096. The
-                  size stands in the encrypted part of the file alone: where it is
-                  another one the key is refused, and `probe` finds it
+  1, 2, 3, 4      the version of SQLCipher that wrote the file (1 has no tags), and
+                  behind it, in any order and each once, what differs from that
+                  version: 3:4096, 3:4096:rounds=1, 4:rounds=4000:hmac=sha1
+    :SIZE         bytes in a page: 1024, 2048, 4096, 8192, 16384, 32768 or 65536
+    :rounds=N     rounds of PBKDF2 for a passphrase, 1 to 2147483647
+    :kdf=HASH     the hash of PBKDF2: sha1, sha256 or sha512
+    :hmac=HASH    the hash of the tags; :hmac=off where pages have none
+                  Under other settings than the file's the key is refused. `probe`
+                  tries 4 with each size, 3, 2 and 1 with their own size and 4096,
+                  3:4096:rounds=1 and 4:rounds=4000:hmac=sha1, and no others. To a
+                  raw key the rounds do not matter: it names the first that fits
   plain:SIZE      a plain SQLite file with pages of SIZE bytes: plain:512 to
                   plain:65536, as plain:4096. It has no key and no tags, so `tags`
                   and `rekey` refuse it. `header plain:4096` names another size

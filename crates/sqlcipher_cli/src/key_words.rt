@@ -2,6 +2,7 @@
 use crate::advice::Ended;
 use crate::plain::{self, OLD_ROWS, decrypts, encrypts, is_plain_word};
 use edge_files::{Folder, InputSource, KeyLine, Prompt, say};
+use profile_word::profile_of;
 
 const OLD_KEY: &str =
     "the key of the file, and Enter; it is shown here, and sqlcipher-tool-ask does not show it";
@@ -52,6 +53,9 @@ const SAME_KEY: &str =
     "the new key is the old one: every page was sealed anew, and nothing else has changed";
 
 const VERSION_1: &str = "version 1 has no tags: a page that is changed later is not noticed";
+
+const NO_TAGS: &str =
+    "under hmac=off pages have no tags: a page that is changed later is not noticed";
 
 /// What one is asked for who types the lines of this command.
 pub fn prompt_of(words: &[&str]) -> Prompt {
@@ -138,8 +142,8 @@ pub fn explain_new_key(rt: &HostRuntime, words: &[&str], input: &InputSource) {
             if encrypts(words) {
                 say(rt, OLD_ROWS);
             }
-            if *new == "1" {
-                say(rt, VERSION_1);
+            if let Some(words) = untagged(new) {
+                say(rt, words);
             }
         }
         ["make", new, ..] if !is_plain_word(new) => explain_line(rt, &input.line),
@@ -150,6 +154,15 @@ pub fn explain_new_key(rt: &HostRuntime, words: &[&str], input: &InputSource) {
             rt,
             "the input goes on after the last key line; what follows was not taken",
         );
+    }
+}
+
+// What is said of a version whose pages have no tags.
+fn untagged(word: &str) -> Option<&'static str> {
+    match profile_of(word) {
+        Some(profile) if profile.tag_len > 0 => None,
+        Some(profile) if profile.version == 1 => Some(VERSION_1),
+        _ => Some(NO_TAGS),
     }
 }
 
@@ -176,8 +189,10 @@ pub fn explain_key(rt: &HostRuntime, run: &Ended, input: &InputSource, folder: &
     } else if run.words.first() == Some(&"probe") {
         say(
             rt,
-            "the key fits under no version; an app may set its own rounds or hash. The README's section \"When the key is refused\" \
-            lists what else it may be",
+            "the key fits under no version that is tried: it is wrong, or the file has settings of its own. They are what the program that wrote \
+            it gives to `PRAGMA cipher_page_size`, `kdf_iter`, `cipher_hmac_algorithm`, `cipher_kdf_algorithm` and `cipher_use_hmac`, or what \
+            the dialog of DB Browser for SQLite shows: give them behind the version, as 4:rounds=4000:hmac=sha1. The README's section \"When \
+            the key is refused\" lists what else it may be",
         );
     } else if run.words.first() == Some(&"salvage") {
         say(

@@ -2,9 +2,11 @@
 use crate::advice::Ended;
 use crate::plain::{self, is_plain_word};
 use crate::settle_advice::say_settle;
-use cipher_profile::{Profile, probed_profiles, profile_with_setting};
+use cipher_profile::Profile;
 use edge_files::{Conflict, Folder, say};
+use profile_word::{probed_profiles, profile_of};
 use sqlcipher_tool::{Refusal, Status, profile_to_settle, profile_with_log};
+use std::fmt::{self, Display, Formatter};
 
 /// The commands that only read, which the setting is for.
 const READING: [&str; 7] = [
@@ -66,15 +68,33 @@ fn reading_name<'w>(words: &[&'w str]) -> &'w str {
 
 /// The setting that a word has, as it is written.
 pub fn setting_of(word: &str) -> &'static str {
-    match profile_with_setting(word) {
+    match profile_of(word) {
         Some(profile) if profile.reads_log => ":wal",
         _ => "",
     }
 }
 
-// The word without its setting.
-fn without_setting(word: &str) -> &str {
-    word.strip_suffix(":wal").unwrap_or(word)
+// A word without this setting: what stands before it, and what behind.
+#[derive(Clone, Copy)]
+struct Unset<'w> {
+    front: &'w str,
+    back: &'w str,
+}
+
+impl<'w> Display for Unset<'w> {
+    fn fmt<W: fmt::Write>(&self, f: &mut Formatter<W>) -> fmt::Result {
+        write!(f, "{}{}", self.front, self.back)
+    }
+}
+
+fn without_setting(word: &str) -> Unset<'_> {
+    match word.split_once(":wal") {
+        Some((front, back)) => Unset { front, back },
+        None => Unset {
+            front: word,
+            back: "",
+        },
+    }
 }
 
 /// Says how a file is read beside whose log, or in whose mode, the words don't serve it.
@@ -167,7 +187,12 @@ fn explain_log_pages(rt: &HostRuntime, version: &str, found: u32) {
             ),
         );
     } else if is_size_of_4(found) {
-        say(rt, format_args!("{beside} the file is of 4:{found}:wal"));
+        say(
+            rt,
+            format_args!(
+                "{beside} the file is of 4:{found}:wal, or of another version with this size"
+            ),
+        );
     } else {
         say(rt, format_args!("{beside} of a plain file"));
     }

@@ -22,6 +22,7 @@ mod log_signs;
 mod near;
 mod plain;
 mod refusals;
+mod settings;
 mod settle;
 mod settle_advice;
 mod usage;
@@ -39,7 +40,8 @@ use near::names_near;
 use plain::decrypts;
 use schema_names::NearName;
 use settle::settle_with_log;
-use sqlcipher_tool::{Refusal, Status, profile_to_settle, profile_with_log, run};
+use settle_advice::explain_unlaid;
+use sqlcipher_tool::{Status, profile_to_settle, profile_with_log, run};
 use std::alloc::{AllocError, Global};
 use std::process::ExitCode;
 use std::{env, io};
@@ -206,6 +208,8 @@ fn serve_with_log<'a>(
             let signs = LogSigns {
                 has_other_salt: !profile.is_plain() && differ(salt_of(&mut disk), salt),
                 was_dead: false,
+                unlaid: 0,
+                was_cut: false,
             };
             let served = Served {
                 status,
@@ -341,6 +345,7 @@ fn serve(rt: &HostRuntime, file: &str, words: &[&str]) -> Status
         signs: served.signs,
     };
     advice::explain(rt, &run, &input, &mut disk.folder);
+    explain_unlaid(rt, &run, &disk.folder);
     if status == Status::Done && words.first() == Some(&"salvage") {
         advice::explain_salvaged(rt, out.last_line());
     }

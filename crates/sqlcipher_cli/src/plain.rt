@@ -4,8 +4,9 @@ ghost use Rattle.sqlcipher_cli.specs.Plain.{decrypts, encrypts, names_plain};
 ghost use Rattle.sqlcipher_tool.specs.Words.{texts};
 
 use crate::log_advice::setting_of;
-use cipher_profile::{Profile, profile_of, profile_with_setting};
+use cipher_profile::Profile;
 use edge_files::{PlainHead, say};
+use profile_word::profile_of;
 use std::fmt::Display;
 
 /// Why the words of a plain file fit no file that does not begin with them.
@@ -46,7 +47,7 @@ const RESERVED: &str =
 pub fn is_plain_word(word: &str) -> bool
     ensures { result ≡ names_plain word.now }
 {
-    match profile_with_setting(word) {
+    match profile_of(word) {
         Some(profile) => profile.is_plain(),
         None => false,
     }
@@ -148,7 +149,7 @@ pub fn explain_other_size(rt: &HostRuntime, word: &str, head: Option<PlainHead>)
         Some(head) => profile_at(head),
         None => None,
     };
-    match (profile_with_setting(word), found) {
+    match (profile_of(word), found) {
         (Some(given), Some(profile)) if given.page_size != profile.page_size => {
             explain_size(rt, word, profile.page_size);
             true

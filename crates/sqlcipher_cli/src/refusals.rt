@@ -4,11 +4,11 @@ use crate::key_words::missing_key;
 use crate::log_advice::{is_log_explained, say_reader};
 use crate::near::explain_names;
 use crate::plain::{self, is_plain_word};
+use crate::settings::Pragmas;
 use crate::settle_advice::say_settle;
-use cipher_profile::probed_profiles;
 use edge_files::{Folder, say};
+use profile_word::probed_profiles;
 use sqlcipher_tool::Refusal;
-use std::fmt::Display;
 
 const SUPER_JOURNAL: &str =
     "the journal belongs to a transaction over several files, which only the program that wrote them can settle; \
@@ -68,11 +68,10 @@ pub fn explain_refusal(rt: &HostRuntime, run: &Ended, refusal: Refusal, folder: 
         Refusal::LayoutDiffers => say(rt, other_layout(run.words)),
         Refusal::NoTable => explain_names(rt, run.words, run.near.as_slice()),
         Refusal::JournalPageSize { found } => explain_journal(rt, run.version(), found, folder),
-        Refusal::WalMode => {
+        Refusal::WalMode | Refusal::AutoVacuum => {
             explain_mode(rt, run);
             say_settle(rt, run);
         }
-        Refusal::AutoVacuum => explain_mode(rt, run),
         Refusal::ScriptLine { line } => say(
             rt,
             format_args!("line {line} of the script is no step: {SCRIPT_FORMS}"),
@@ -134,7 +133,10 @@ fn is_plain_explained(
             explain_plain_mode(rt, run, IN_LOG_MODE, plain::LOG_MODE);
             say_settle(rt, run);
         }
-        Refusal::AutoVacuum => explain_plain_mode(rt, run, WITH_MAPS, plain::VACUUM),
+        Refusal::AutoVacuum => {
+            explain_plain_mode(rt, run, WITH_MAPS, plain::VACUUM);
+            say_settle(rt, run);
+        }
         Refusal::Short { .. } => return plain::explain_other_size(rt, word, folder.plain_head()),
         _ => return false,
     }
@@ -162,7 +164,12 @@ fn explain_journal_pages(rt: &HostRuntime, found: u32) {
             ),
         );
     } else if found == 4096 {
-        say(rt, format_args!("{beside}: give 4; {unwritten}"));
+        say(
+            rt,
+            format_args!(
+                "{beside}: give 4, or another version with this size, as 3:4096; {unwritten}"
+            ),
+        );
     } else if profiles.iter().any(|profile| profile.page_size == found) {
         say(rt, format_args!("{beside}: give 4:{found}; {unwritten}"));
     } else {
@@ -183,16 +190,7 @@ fn explain_plain_mode(rt: &HostRuntime, run: &Ended, what: &str, cure: &str) {
 fn explain_mode(rt: &HostRuntime, run: &Ended) {
     let version = run.version();
     say_reader(rt, run, "a file in WAL mode or with auto-vacuum");
-    match version.strip_prefix("4:") {
-        Some(size) => say_mode(rt, format_args!("PRAGMA cipher_page_size = {size}; ")),
-        None => say_mode(
-            rt,
-            format_args!("PRAGMA cipher_compatibility = {version}; "),
-        ),
-    }
-}
-
-fn say_mode<D: Display + Drop>(rt: &HostRuntime, settings: D) {
+    let settings = Pragmas(version);
     say(
         rt,
         format_args!(

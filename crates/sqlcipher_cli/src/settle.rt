@@ -7,9 +7,10 @@ ghost use Rattle.sqlcipher_tool.specs.Answer.{IsStopStatus};
 ghost use Rattle.sqlcipher_tool.specs.Settling.{settled_by};
 ghost use Rattle.sqlcipher_tool.specs.Words.{form, texts};
 
-use crate::log_signs::{LogSigns, differ, salt_of};
+use crate::log_signs::{LogSigns, differ, own_frames, salt_of};
 use cipher_profile::Profile;
 use edge_files::{DeviceEntropy, FolderDisk, InputSource, OutputSink, Purpose};
+use edge_model::Disk;
 use log_view::LogView;
 use sqlcipher_tool::{
     MOST_PAGES, Secrets, Status, check_to_settle, conclude_view, key_to_settle, lay_log,
@@ -104,12 +105,17 @@ fn take_log_in<'a>(
         Err(settled) => return (disk, Err(settled)),
     };
     let has_log = disk.folder.has_seen_log();
+    let Ok(own) = own_frames(&mut disk, profile.page_size) else {
+        return (disk, Err(Settled::stopped(Status::DiskFault)));
+    };
     disk.folder.turn_to(Purpose::LayLog);
     match lay_log(alloc, profile, out, &mut disk) {
         Ok(frames) => {
             let signs = LogSigns {
                 has_other_salt,
                 was_dead: has_log && frames == 0,
+                unlaid: own.whole.saturating_sub(frames),
+                was_cut: own.has_part,
             };
             (disk, Ok(Laid { frames, signs }))
         }
@@ -134,7 +140,7 @@ fn check_pair<'a>(
     match LogView::open(alloc, disk, profile.page_size, MOST_PAGES) {
         Ok(mut view) => {
             let checked = check_to_settle(alloc, profile, secrets, out, &mut view);
-            let seen = salt_of(&mut view);
+            let seen = seen_salt(&checked, &mut view);
             let mut disk = view.into_disk();
             let has_other_salt = !profile.is_plain() && differ(salt_of(&mut disk), seen);
             let taken = match checked {
@@ -146,7 +152,7 @@ fn check_pair<'a>(
                 Err(status) => {
                     let signs = LogSigns {
                         has_other_salt,
-                        was_dead: false,
+                        ..LogSigns::none()
                     };
                     let settled = Settled { status, signs };
                     (disk, Err(settled))
@@ -154,5 +160,13 @@ fn check_pair<'a>(
             }
         }
         Err((disk, why)) => (disk, Err(Settled::stopped(conclude_view(out, why)))),
+    }
+}
+
+// The salt of the two as they open: the one that the check has answered, else the one that they begin with.
+fn seen_salt<D: Disk>(checked: &Result<[u8; 16], Status>, view: &mut D) -> Option<[u8; 16]> {
+    match checked {
+        Ok(salt) => Some(*salt),
+        Err(_) => salt_of(view),
     }
 }

@@ -1,15 +1,15 @@
-// What is said of `settle`: that it serves a file in WAL mode, and what a stop has left of the log.
+// What is said of `settle`: that it serves a file in WAL mode, what a stop has left of the log, and what of it was not laid.
 use crate::advice::Ended;
 use edge_files::{Folder, Shown, say};
 use sqlcipher_tool::Status;
 
-/// Says what takes the file out of WAL mode.
+/// Says what takes the file out of WAL mode and auto-vacuum.
 pub fn say_settle(rt: &HostRuntime, run: &Ended) {
     let version = run.version();
     say(
         rt,
         format_args!(
-            "`settle {version}` lays FILE-wal into the file, where it is there, and takes the file out of WAL mode: every command serves it then"
+            "`settle {version}` lays FILE-wal into the file, where it is there, and takes the file out of WAL mode and auto-vacuum: every command serves it then"
         ),
     );
 }
@@ -52,6 +52,29 @@ pub fn explain_dead_log(rt: &HostRuntime, run: &Ended, folder: &Folder) {
             format_args!(
                 "{}: no commit in it holds, as SQLite reads it, so nothing of it was laid, and it was removed; where rows are missing, look in a copy of it",
                 Shown(folder.log_path())
+            ),
+        );
+    }
+}
+
+/// Says what of a log that was laid stood behind its last commit, and is gone with it.
+pub fn explain_unlaid(rt: &HostRuntime, run: &Ended, folder: &Folder) {
+    let log = Shown(folder.log_path());
+    if run.signs.was_cut {
+        say(
+            rt,
+            format_args!(
+                "{log}: it ended within a frame, so it was cut, or not copied whole: what stood behind its last commit was not laid, as SQLite reads \
+                it; where rows are missing, copy FILE and FILE-wal together anew"
+            ),
+        );
+    } else if run.signs.unlaid > 0 && !run.signs.was_dead {
+        say(
+            rt,
+            format_args!(
+                "{log}: {} frames behind its last commit were not laid, as SQLite reads it: of a change that was not committed, or of one whose rest \
+                is missing or damaged; where rows are missing, look in a copy of it",
+                run.signs.unlaid
             ),
         );
     }

@@ -1,6 +1,7 @@
 // Why the words are no command.
-use cipher_profile::profile_with_setting;
+use crate::settings::explain_word;
 use edge_files::{Shown, say};
+use profile_word::profile_of;
 
 /// The commands that take a version and nothing else.
 const ON_ONE_VERSION: [&str; 9] = [
@@ -88,40 +89,13 @@ fn explain_form(rt: &HostRuntime, version: Option<&&str>, form: &str) {
 }
 
 fn explain_version(rt: &HostRuntime, word: &str) {
-    let is_sized = word.starts_with("4:");
-    let is_plain = word.starts_with("plain");
-    let is_of_log = speaks_of_log(word);
-    let word = Shown(word);
-    if is_of_log {
+    if !explain_word(rt, word) {
         say(
             rt,
             format_args!(
-                "`{word}` is no version: a file is read with its log under 4:wal, as under 3:wal, 4:8192:wal or plain:4096:wal; --help lists \
-                the commands"
-            ),
-        );
-    } else if is_plain {
-        say(
-            rt,
-            format_args!(
-                "`{word}` is no version: the pages of plain files have 512, 1024, 2048, 4096, 8192, 16384, 32768 or 65536 bytes, as \
-                plain:4096; --help lists the commands"
-            ),
-        );
-    } else if is_sized {
-        say(
-            rt,
-            format_args!(
-                "`{word}` is no version: the pages of version 4 have 1024, 2048, 4096, 8192, 16384, 32768 or 65536 bytes, as 4:8192, \
-                and `probe` finds the version of a file; --help lists the commands"
-            ),
-        );
-    } else {
-        say(
-            rt,
-            format_args!(
-                "`{word}` is no version: there are 1, 2, 3, 4 and 4:SIZE, and `probe` finds that of a file; plain files are plain:SIZE; --help \
-                lists the commands"
+                "`{}` is no version: there are 1, 2, 3 and 4, each with settings behind colons, and `probe` finds that of a file; plain files are \
+                plain:SIZE; --help lists the commands",
+                Shown(word)
             ),
         );
     }
@@ -133,5 +107,5 @@ fn speaks_of_log(word: &str) -> bool {
 }
 
 fn is_version(word: &str) -> bool {
-    profile_with_setting(word).is_some()
+    profile_of(word).is_some()
 }

@@ -1,16 +1,17 @@
--- What a transaction leaves that changed page 1 alone.
-use Rattle.std.proofs.Common.{◌≡◌, ◌⊎◌, ⊎_elim, ◌==◌, ◌≤◌, ◌<◌, ◌+◌, ◌-◌, ◌*◌, ◌^◌, ◌++◌, ℕ, suc, zero, Bool, true, false, IsTrue, List, length, take, drop, Some, Result, Ok, refl, sym, ap, subst, ◌∙◌, arith, rules, length-append, length-take, length-drop}
+-- What a transaction leaves that changed page 1, and pages of a test beside it.
+use Rattle.std.proofs.Common.{◌≡◌, ◌⊎◌, ⊎_elim, inl, inr, ◌==◌, ◌≤◌, ◌<◌, ◌+◌, ◌-◌, ◌*◌, ◌^◌, ◌++◌, ℕ, suc, zero, Bool, true, false, IsTrue, List, length, take, drop, Some, Result, Ok, refl, sym, ap, subst, ◌∙◌, arith, rules, length-append, length-take, length-drop}
 use Rattle.std.proofs.lemmas.List.{take-take, length-take-le}
 use Rattle.std.specs.Cmp.Derive.{both_true}
 use Rattle.std.specs.Int.{w32, to_be_bytes}
 use Rattle.cipher_profile.specs.Profile.{is_plain, usable}
+use Rattle.cipher_profile.specs.declared.profile.Profile.{Profile}
 use Rattle.db_format.specs.Bytes.{u32_at}
 use Rattle.db_format.specs.Count.{count_of_pages, largest_database}
 use Rattle.db_format.specs.Header.{header_fields, header_read_as}
 use Rattle.db_format.specs.declared.header.Header.{Header}
 use Rattle.db_format.specs.declared.header.HeaderRefusal.{HeaderRefusal}
 use Rattle.page_codec.proofs.Parts.{opened_plain_file}
-use Rattle.page_codec.specs.Page.{FileKeys, opened, salt_of, sealed}
+use Rattle.page_codec.specs.Page.{FileKeys, accepts, opened, salt_of, sealed}
 use Rattle.pager.specs.Changed.{with_bytes}
 use Rattle.pager.specs.Database.{count_by, counted, ok_count}
 use Rattle.pager.specs.File.{page_stored}
@@ -28,7 +29,7 @@ use Rattle.sqlcipher_tool.proofs.ChangedFields.{bytes_length, changed_count, cha
 
 -- ---- lengths
 
-short_stays : (at : ℕ) (bytes page : List ℕ) → at + length bytes ≤ 96 → length page < 100 → length (with_bytes at bytes page) < 100
+pub short_stays : (at : ℕ) (bytes page : List ℕ) → at + length bytes ≤ 96 → length page < 100 → length (with_bytes at bytes page) < 100
 short_stays at bytes page to short = omega (
   arith,
   short,
@@ -41,6 +42,9 @@ short_stays at bytes page to short = omega (
 
 order : (a b : ℕ) → (a < b) ⊎ (b ≤ a)
 order a b = search arith
+
+pub short_or_long : (page : List ℕ) → (length page < 100) ⊎ (100 ≤ length page)
+short_or_long page = order (length page) 100
 
 -- a page is long that was changed to a long one
 pub long_before : (at : ℕ) (bytes : List ℕ) (count change : ℕ) (plain : List ℕ) → at + length bytes ≤ 92
@@ -74,13 +78,13 @@ count_read keys first len long h n read counts =
     more : (a b : ℕ) → b ≤ a → Rattle.std.specs.Prelude.nat_lt a b ≡ false
     more a b le = search (rules, le)
 
--- a file whose page 1 is whole, and whose other pages are those of a whole file, has all of them
+-- a file whose page 1 is whole, and whose other pages are whole or those of a whole file, has all of them
 all_long : (keys : FileKeys) (n : ℕ) (file main : List ℕ) → 1 ≤ n → 1 ≤ keys.profile.page_size → n * keys.profile.page_size ≤ length file
     → length (page_stored keys main 1) ≡ keys.profile.page_size
-    → ((m : ℕ) → 2 ≤ m → m ≤ n → page_stored keys main m ≡ page_stored keys file m) → n * keys.profile.page_size ≤ length main
-all_long keys n file main some sized within first others = ⊎_elim
+    → ((m : ℕ) → 2 ≤ m → m ≤ n → (length (page_stored keys main m) ≡ keys.profile.page_size) ⊎ (page_stored keys main m ≡ page_stored keys file m)) → n * keys.profile.page_size ≤ length main
+all_long keys n file main some sized within first each = ⊎_elim
     (λ (single : n ≡ 1). subst (λ (k : ℕ). k * keys.profile.page_size ≤ length main) (sym single) (last_long keys 1 main first (omega arith) sized))
-    (λ (more : 2 ≤ n). last_long keys n main (ap length (others n more (omega arith)) ∙ whole keys n file some within) some sized) (which n some)
+    (λ (more : 2 ≤ n). last_long keys n main (⊎_elim (λ is. is) (λ same. ap length same ∙ whole keys n file some within) (each n more (omega arith))) some sized) (which n some)
   where
     which : (n : ℕ) → 1 ≤ n → (n ≡ 1) ⊎ (2 ≤ n)
     which n some = search (arith, some)
@@ -112,12 +116,20 @@ all_long keys n file main some sized within first others = ⊎_elim
 
 -- ---- the changed file
 
--- A file that opens, and what a transaction leaves of it that changed page 1 alone, to this page.
+-- Another page may stand for page 1: it is as long, begins alike, and is read where that is.
+pub record StandsFor (profile : Profile) (plain base : List ℕ) : Type 0 where
+  pub long : 100 ≤ length base → 100 ≤ length plain
+  pub begins : 100 ≤ length plain → take 16 base ≡ take 16 plain
+  pub reads : (header : Header) → 100 ≤ length plain → header_read_as profile.reads_log plain profile.page_size profile.reserve ≡ Ok header
+      → (other : Header) × (header_read_as profile.reads_log base profile.page_size profile.reserve ≡ Ok other)
+
+-- A file that opens, and what a transaction leaves of it that changed the pages of this test, page 1 to what `base` becomes.
 module _ (keys : FileKeys) (at : ℕ) (bytes : List ℕ) (harmless : IsHarmless keys.profile at bytes) (n : ℕ) (file : List ℕ) (header : Header) (is_open : IsOpen keys file header n) (some : 1 ≤ n)
     (salt : keys.salt ≡ salt_of file) (room : 120 ≤ usable keys.profile)
+    (base : List ℕ) (change : ℕ) (fits : change < 2 ^ 32) (stands : StandsFor keys.profile (opened keys 1 (page_stored keys file 1)) base) (mine : ℕ → Bool) (first_mine : mine 1 ≡ true)
     (touched : ℕ → Bool) (pages : ℕ → List ℕ) (tells : Bool) (before after main : List ℕ)
-    (is_page : pages 1 ≡ changed_page at bytes n (opened keys 1 (page_stored keys file 1)))
-    (alone : (m : ℕ) → is_page_number n m ≡ true → touched m ≡ (m == 1))
+    (is_page : pages 1 ≡ with_field 92 change (with_field 28 n (with_field 24 change (with_bytes at bytes base))))
+    (among : (m : ℕ) → is_page_number n m ≡ true → touched m ≡ mine m)
     (new : HasNewPages (start_of keys file n before) keys touched pages tells after main) where
   abbrev plain : List ℕ
   plain = opened keys 1 (page_stored keys file 1)
@@ -125,36 +137,43 @@ module _ (keys : FileKeys) (at : ℕ) (bytes : List ℕ) (harmless : IsHarmless 
   abbrev first : List ℕ
   first = page_stored keys main 1
 
-  abbrev change : ℕ
-  change = next_change (u32_at plain 24)
-
   numbered : is_page_number n 1 ≡ true
   numbered = number_is n 1 (omega arith) some
 
+  touches : (m : ℕ) → is_page_number n m ≡ true → mine m ≡ true → touched m ≡ true
+  touches m num is = among m num ∙ is
+
   is_touched : touched 1 ≡ true
-  is_touched = alone 1 numbered
+  is_touched = touches 1 numbered first_mine
 
-  pub first_opened : opened keys 1 first ≡ changed_page at bytes n plain
-  first_opened = new.opens 1 numbered is_touched ∙ is_page
+  pub first_changed : opened keys 1 first ≡ with_field 92 change (with_field 28 n (with_field 24 change (with_bytes at bytes base)))
+  first_changed = new.opens 1 numbered is_touched ∙ is_page
 
-  long : 100 ≤ length plain
-  long = long_before at bytes n change plain harmless.high (omega (arith, room, new.sizes 1 numbered is_touched, ap length is_page))
+  -- each page of the test is accepted, and opens to what was written
+  pub all_accepted : (m : ℕ) → is_page_number n m ≡ true → mine m ≡ true → accepts keys m (page_stored keys main m) ≡ true
+  all_accepted m num is = new.accepted m num (touches m num is)
+
+  pub all_opened : (m : ℕ) → is_page_number n m ≡ true → mine m ≡ true → opened keys m (page_stored keys main m) ≡ pages m
+  all_opened m num is = new.opens m num (touches m num is)
+
+  long_base : 100 ≤ length base
+  long_base = long_before at bytes n change base harmless.high (omega (arith, room, new.sizes 1 numbered is_touched, ap length is_page))
+
+  pub long_plain : 100 ≤ length plain
+  long_plain = stands.long long_base
 
   abbrev one : List ℕ
-  one = with_bytes at bytes plain
+  one = with_bytes at bytes base
 
   long_one : 100 ≤ length one
-  long_one = omega (arith, long, harmless.high, bytes_length at bytes plain (omega (arith, long, harmless.high)))
-
-  fits : change < 2 ^ 32
-  fits = Rattle.std.proofs.Math.Nat.mod-lt (u32_at plain 24 + 1) (omega arith)
+  long_one = omega (arith, long_base, harmless.high, bytes_length at bytes base (omega (arith, long_base, harmless.high)))
 
   sized : (header_fields plain ≡ header) × (header.page_size ≡ keys.profile.page_size)
   sized = header_size keys.profile.reads_log plain keys.profile.page_size keys.profile.reserve header is_open.read
 
   -- the page with the bytes is read
   reads : (other : Header) × (header_read_as keys.profile.reads_log one keys.profile.page_size keys.profile.reserve ≡ Ok other)
-  reads = harmless.reads plain header long is_open.read
+  reads = let is = stands.reads header long_plain is_open.read in harmless.reads base is.0 long_base is.1
 
   size_one : reads.0.page_size ≡ header.page_size
   size_one = (header_size keys.profile.reads_log one keys.profile.page_size keys.profile.reserve reads.0 reads.1).1 ∙ sym sized.1
@@ -169,9 +188,9 @@ module _ (keys : FileKeys) (at : ℕ) (bytes : List ℕ) (harmless : IsHarmless 
   few = count_few n header.page_size (omega (arith, size_some, sized.1)) small
 
   -- the new page 1 counts as many pages in each file that has them
-  pub new_count : (len : ℕ) → n * keys.profile.page_size ≤ len → count_by keys first len ≡ Some n
-  new_count len there =
-      let read = ap (λ (page : List ℕ). header_read_as keys.profile.reads_log page keys.profile.page_size keys.profile.reserve) first_opened
+  pub counts_all : (len : ℕ) → n * keys.profile.page_size ≤ len → count_by keys first len ≡ Some n
+  counts_all len there =
+      let read = ap (λ (page : List ℕ). header_read_as keys.profile.reads_log page keys.profile.page_size keys.profile.reserve) first_changed
       ∙ changed_read keys.profile.reads_log n change keys.profile.page_size keys.profile.reserve one reads.0 long_one few fits reads.1 in
       let counts = changed_count keys.profile.reads_log n change keys.profile.page_size keys.profile.reserve one reads.0 long_one few fits reads.1
       len some (subst (λ (k : ℕ). n * k ≤ largest_database) (sym size_one) small) (subst (λ (k : ℕ). n * k ≤ len) (sym (size_one ∙ sized.1)) there) in
@@ -179,26 +198,31 @@ module _ (keys : FileKeys) (at : ℕ) (bytes : List ℕ) (harmless : IsHarmless 
       count_read keys first len enough _ n read counts
 
   -- all other pages stay
-  pub others : (m : ℕ) → 2 ≤ m → m ≤ n → page_stored keys main m ≡ page_stored keys file m
-  others m from to =
-      let num = number_is n m (omega (arith, from)) to in
-      new.others m num (alone m num ∙ not_one m from)
-    where
-      not_one : (m : ℕ) → 2 ≤ m → (m == 1) ≡ false
-      not_one m from = search (rules, from)
+  pub others_stay : (m : ℕ) → 1 ≤ m → m ≤ n → mine m ≡ false → page_stored keys main m ≡ page_stored keys file m
+  others_stay m from to other = let num = number_is n m from to in new.others m num (among m num ∙ other)
 
   within : n * keys.profile.page_size ≤ length file
   within = subst (λ (k : ℕ). n * k ≤ length file) sized.1 (counted_pages header (length file) n is_open.counts).within
 
+  each_whole : (m : ℕ) → 2 ≤ m → m ≤ n → (length (page_stored keys main m) ≡ keys.profile.page_size) ⊎ (page_stored keys main m ≡ page_stored keys file m)
+  each_whole m from to = by (mine m) refl
+    where
+      low : 1 ≤ m
+      low = omega (arith, from)
+
+      by : (b : Bool) → mine m ≡ b → (length (page_stored keys main m) ≡ keys.profile.page_size) ⊎ (page_stored keys main m ≡ page_stored keys file m)
+      by true is = let num = number_is n m low to in inl (new.whole m num (touches m num is))
+      by false is = inr (others_stay m low to is)
+
   -- and the new file has all pages
-  pub new_long : n * keys.profile.page_size ≤ length main
-  new_long = all_long keys n file main some (omega (arith, size_some)) within (new.whole 1 numbered is_touched) others
+  pub all_there : n * keys.profile.page_size ≤ length main
+  all_there = all_long keys n file main some (omega (arith, size_some)) within (new.whole 1 numbered is_touched) each_whole
 
   salt_long : length keys.salt ≡ 16
   salt_long = ap length salt ∙ length-take-le 16 file (omega (arith, is_open.long, size_some))
 
-  same_salt : salt_of main ≡ keys.salt
-  same_salt =
+  salt_stays : salt_of main ≡ keys.salt
+  salt_stays =
       let one = new.own.is_sealed 1 (both_true numbered is_touched) in
       sym (take-take 16 keys.profile.page_size main (omega (arith, size_some)))
       ∙ (ap (λ (at : ℕ). take 16 (take keys.profile.page_size (drop at main))) {x = 0} {y = (1 - 1) * keys.profile.page_size} (omega arith)
@@ -209,27 +233,72 @@ module _ (keys : FileKeys) (at : ℕ) (bytes : List ℕ) (harmless : IsHarmless 
       by_plain false ciphered draw = salt_stands keys (pages 1) draw ciphered salt_long
       by_plain true is draw =
           ap (λ (l : List ℕ). take 16 l) (sealed_plain_file keys 1 (pages 1) draw is ∙ is_page)
-          ∙ (changed_first at bytes n plain harmless.low harmless.high long
+          ∙ (changed_first at bytes n change base harmless.low harmless.high long_base
+          ∙ (stands.begins long_plain
           ∙ (ap (λ (l : List ℕ). take 16 l) (opened_plain_file keys 1 (page_stored keys file 1) is)
-          ∙ (first_of_page keys.profile.page_size file (omega (arith, size_some)) ∙ sym salt)))
+          ∙ (first_of_page keys.profile.page_size file (omega (arith, size_some)) ∙ sym salt))))
+
+  pub same_salt : salt_of main ≡ salt_of file
+  same_salt = salt_stays ∙ salt
+
+  -- the pages of the test have bytes of their own of those that were drawn
+  pub draws_own : ((m : ℕ) → mine m ≡ true → is_page_number n m ≡ true) → IsTrue tells → FileDraws keys main mine 0 (drop (length before) after)
+  draws_own within told =
+      file_draws (start_of keys file n before) keys touched pages tells after main new told mine (λ m is. let num = within m is in (num, touches m num is))
+
+-- ---- page 1 alone
+
+-- a page stands for itself
+pub itself : (profile : Profile) (page : List ℕ) → StandsFor profile page page
+itself profile page = record { long = λ long. long; begins = λ long. refl; reads = λ header long is. (header, is) }
+
+-- page 1 alone was changed
+module _ (keys : FileKeys) (at : ℕ) (bytes : List ℕ) (harmless : IsHarmless keys.profile at bytes) (n : ℕ) (file : List ℕ) (header : Header) (is_open : IsOpen keys file header n) (some : 1 ≤ n)
+    (salt : keys.salt ≡ salt_of file) (room : 120 ≤ usable keys.profile)
+    (touched : ℕ → Bool) (pages : ℕ → List ℕ) (tells : Bool) (before after main : List ℕ)
+    (is_page : pages 1 ≡ changed_page at bytes n (opened keys 1 (page_stored keys file 1)))
+    (alone : (m : ℕ) → is_page_number n m ≡ true → touched m ≡ (m == 1))
+    (new : HasNewPages (start_of keys file n before) keys touched pages tells after main) where
+  abbrev stood : List ℕ
+  stood = opened keys 1 (page_stored keys file 1)
+
+  abbrev change : ℕ
+  change = next_change (u32_at stood 24)
+
+  fits : change < 2 ^ 32
+  fits = Rattle.std.proofs.Math.Nat.mod-lt (u32_at stood 24 + 1) (omega arith)
+
+  abbrev is_first : ℕ → Bool
+  is_first m = m == 1
+
+  pub new_count : (len : ℕ) → n * keys.profile.page_size ≤ len → count_by keys (page_stored keys main 1) len ≡ Some n
+  new_count len there =
+      counts_all keys at bytes harmless n file header is_open some salt room stood change fits (itself keys.profile stood) is_first refl touched pages tells before after main is_page alone new len there
+
+  pub new_long : n * keys.profile.page_size ≤ length main
+  new_long = all_there keys at bytes harmless n file header is_open some salt room stood change fits (itself keys.profile stood) is_first refl touched pages tells before after main is_page alone new
 
   pub is_changed : IsFirstChanged keys at bytes file main
   is_changed = record {
     count = n;
     was = open_count keys file header n is_open;
-    header = long;
+    header = long_plain keys at bytes harmless n file header is_open some salt room stood change fits (itself keys.profile stood) is_first refl touched pages tells before after main is_page alone new;
     is = new_count (length main) new_long;
-    salt = same_salt ∙ salt;
-    first = first_opened;
-    accepted = new.accepted 1 numbered is_touched;
-    others = others;
+    salt = same_salt keys at bytes harmless n file header is_open some salt room stood change fits (itself keys.profile stood) is_first refl touched pages tells before after main is_page alone new;
+    first = first_changed keys at bytes harmless n file header is_open some salt room stood change fits (itself keys.profile stood) is_first refl touched pages tells before after main is_page alone new;
+    accepted = all_accepted keys at bytes harmless n file header is_open some salt room stood change fits (itself keys.profile stood) is_first refl touched pages tells before after main is_page alone new 1 (number_is n 1 (omega arith) some) refl;
+    others = λ m from to.
+        others_stay keys at bytes harmless n file header is_open some salt room stood change fits (itself keys.profile stood) is_first refl touched pages tells before after main is_page alone new m (omega (arith, from)) to (not_one m from);
   }
+    where
+      not_one : (m : ℕ) → 2 ≤ m → (m == 1) ≡ false
+      not_one m from = search (rules, from)
 
   -- its page 1 has bytes of its own of those that were drawn
-  pub own_draws : IsTrue tells → FileDraws keys main (λ m. m == 1) 0 (drop (length before) after)
-  own_draws told = file_draws (start_of keys file n before) keys touched pages tells after main new told (λ m. m == 1) (λ m is.
-      let one = is_one m is in
-      (ap (is_page_number n) one ∙ numbered, ap touched one ∙ is_touched))
+  pub own_draws : IsTrue tells → FileDraws keys main is_first 0 (drop (length before) after)
+  own_draws told =
+      draws_own keys at bytes harmless n file header is_open some salt room stood change fits (itself keys.profile stood) is_first refl touched pages tells before after main is_page alone new
+      (λ m is. ap (is_page_number n) (is_one m is) ∙ number_is n 1 (omega arith) some) told
     where
       is_one : (m : ℕ) → (m == 1) ≡ true → m ≡ 1
       is_one m is = search rules

@@ -1,5 +1,5 @@
 -- A pair of files that was checked before its log is laid.
-use Rattle.std.proofs.Common.{◌≡◌, ⊎_elim, ◌≤◌, ◌<◌, ℕ, List, [], ◌∷◌, Result, Ok, Err, false, sym, ap, subst, ◌∙◌, arith}
+use Rattle.std.proofs.Common.{◌≡◌, ⊎_elim, ◌≤◌, ℕ, List, Result, Ok, Err, sym, subst, ◌∙◌, arith}
 use Rattle.std.specs.List.{Contains}
 use Rattle.std.specs.Prelude.{OnOk}
 use Rattle.cipher_profile.specs.Profile.{with_log}
@@ -8,7 +8,7 @@ use Rattle.cipher_profile.specs.declared.profile.Profile.{Profile}
 use Rattle.db_format.specs.Pages.{Pages}
 use Rattle.db_format.specs.declared.header.Header.{Header}
 use Rattle.edge_model.specs.Causes.{Rose}
-use Rattle.page_codec.specs.Page.{FileKeys, keys_of}
+use Rattle.page_codec.specs.Page.{keys_of}
 use Rattle.pager.specs.Opening.{Opened}
 use Rattle.pager.specs.Pages.{opened_pages}
 use Rattle.pager.specs.declared.opening.OpenError.{OpenError}
@@ -16,19 +16,24 @@ use Rattle.sqlcipher_tool.specs.Answer.{IsFault}
 use Rattle.sqlcipher_tool.specs.Opening.{opened_with}
 use Rattle.sqlcipher_tool.specs.Promises.{AnswersOne}
 use Rattle.sqlcipher_tool.specs.Reading.{job_due}
-use Rattle.sqlcipher_tool.specs.Settle.{first_plain, has_maps, marks_of}
-use Rattle.sqlcipher_tool.specs.Settling.{CanBeLaid, IsChecked, IsWalked}
+use Rattle.sqlcipher_tool.specs.Settling.{CanBeLaid, CanLoseMaps, IsChecked, IsWalked}
 use Rattle.sqlcipher_tool.specs.Verify.{opened_answers, pages_answers}
 use Rattle.sqlcipher_tool.specs.declared.reading.Job.TheVariants.{Verify}
 use Rattle.sqlcipher_tool.specs.declared.status.Status.{Status}
 use Rattle.sqlcipher_tool.specs.declared.status.Status.TheVariants.{Done}
 use Rattle.sqlcipher_tool.proofs.DueReports.{done_verifies}
-use Rattle.sqlcipher_tool.proofs.SettledFile.{first_page_of}
+use Rattle.sqlcipher_tool.proofs.OpenedParts.{open_count, open_parts}
+use Rattle.sqlcipher_tool.proofs.Verified.{some_is}
 
 -- what holds where a call was done
 pub on_ok : {T E A B : Type 0} (r : Result T E) → OnOk r A → (A → B) → OnOk r B
 on_ok (Ok x) was other = other was
 on_ok (Err e) was other = was
+
+-- and where two hold there
+pub both_ok : {T E A B C : Type 0} (r : Result T E) → OnOk r A → OnOk r B → (A → B → C) → OnOk r C
+both_ok (Ok x) a b other = other a b
+both_ok (Err e) a b other = a
 
 -- Done came, so it was due
 pub walked_if : (pages : Pages) (status : Status) (tells : _) (before after : List ℕ) → status ≡ Done → AnswersOne (pages_answers pages) status tells before after → IsWalked pages
@@ -47,7 +52,9 @@ pub laid_if : (profile : Profile) (secret : Secret) (file : List ℕ) (header : 
 laid_if profile secret file header n some opens checked =
     let keys = keys_of (with_log profile) secret file in
     let walked = checked.0 in
-    let due = subst (λ (r : Result Opened OpenError). Contains (opened_answers r (λ count. job_due Verify (opened_pages keys file count))) walked.answer) (sym opens) walked.is_due in record {
-      clean = (done_verifies (with_log profile) secret file walked.answer due walked.done).0;
-      no_maps = ap has_maps (sym (first_page_of keys file n some)) ∙ checked.1;
+    let due = subst (λ (r : Result Opened OpenError). Contains (opened_answers r (λ count. job_due Verify (opened_pages keys file count))) walked.answer) (sym opens) walked.is_due in
+    let clean = (done_verifies (with_log profile) secret file walked.answer due walked.done).0 in
+    let same : n ≡ clean.opens.count = sym (some_is clean.opens.count n (sym clean.opens.is_count ∙ open_count keys file header n (open_parts keys file header n opens))) in record {
+      clean = clean;
+      maps = subst (λ (count : ℕ). CanLoseMaps (opened_pages keys file count)) same checked.1;
     }

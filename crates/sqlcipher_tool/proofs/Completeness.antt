@@ -2,17 +2,15 @@
 use Rattle.std.proofs.Common.{◌≡◌, ⊎_elim, inl, inr, ℕ, ℤ, zero, suc, ◌<◌, ◌≤◌, ◌+◌, ◌*◌, ◌/◌, ◌==◌, Bool, true, false, not, List, [], ◌∷◌, length, Option, Some, None, Result, Ok, Err, if◌then◌else◌, unwrap_or, refl, sym, ap, subst, ◌∙◌, rules, arith}
 use Rattle.std.specs.List.{Contains}
 use Rattle.std.proofs.lemmas.Nat.{div_below}
-use Rattle.db_format.specs.Bytes.{u8_at}
-use Rattle.std.specs.Prelude.{◌&&◌, IsOk, find, is_some, nat_le, nat_lt, slice_get}
+use Rattle.std.specs.Prelude.{IsOk, find, is_some, nat_le, nat_lt, slice_get}
 use Rattle.btree_model.proofs.UnmarkedLemmas.{and_left}
 use Rattle.btree_model.specs.Content.{Content}
 use Rattle.btree_model.specs.Parts.{counts}
 use Rattle.cipher_profile.specs.declared.key_line.KeyError.{KeyError}
 use Rattle.cipher_profile.specs.declared.keys.Secret.{Secret}
-use Rattle.cipher_profile.specs.declared.keys.Secret.TheVariants.{Raw, Pass, NoKey}
 use Rattle.cipher_profile.specs.declared.profile.Profile.{Profile}
-use Rattle.cipher_profile.specs.Profile.{IsListed, is_plain, probed_profiles, sqlcipher_1, sqlcipher_2, sqlcipher_3, sqlcipher_4, sqlcipher_4_of, with_log, without_log}
-use Rattle.cipher_profile.proofs.Layouts.{IsListed-each}
+use Rattle.cipher_profile.specs.Profile.{IsListed, usable, with_log}
+use Rattle.profile_word.specs.Tried.{IsTried, probed_profiles}
 use Rattle.db_format.specs.Count.{count_of_pages, largest_database}
 use Rattle.db_format.specs.declared.count.CountRefusal.{CountRefusal}
 use Rattle.db_format.specs.declared.header.Header.{Header as Fields}
@@ -22,7 +20,7 @@ use Rattle.edge_model.specs.Causes.{Rose}
 use Rattle.edge_model.specs.Files.{Files, main_of}
 use Rattle.export_rows.specs.Report.{export_report}
 use Rattle.index_report.specs.Report.{index_text}
-use Rattle.page_codec.specs.Page.{FileKeys, accepts, deciphered, fits, keys_of, opened}
+use Rattle.page_codec.specs.Page.{FileKeys, accepts, fits, keys_of, opened}
 use Rattle.pager.proofs.TxnLemmas.{listed_large}
 use Rattle.pager.specs.Database.{count_of, counted, ok_count}
 use Rattle.pager.specs.File.{page_stored, whole_pages}
@@ -57,6 +55,7 @@ use Rattle.sqlcipher_tool.specs.Make.{made_answers, make_answers}
 use Rattle.sqlcipher_tool.specs.Migrate.{migrate_answers}
 use Rattle.sqlcipher_tool.specs.Opening.{opened_with}
 use Rattle.sqlcipher_tool.specs.Plain.{IsClean, Opens}
+use Rattle.sqlcipher_tool.proofs.Probing.{large_each}
 use Rattle.sqlcipher_tool.specs.Probe.{first_fitting, found_answer, is_fitting, probe_answer}
 use Rattle.sqlcipher_tool.specs.Promises.{AnswersOne}
 use Rattle.sqlcipher_tool.specs.Recovered.{answers_after, recovered_answers, recovered_main, recovery_answer, recovery_of}
@@ -64,8 +63,11 @@ use Rattle.sqlcipher_tool.specs.Rekey.{rekey_answers}
 use Rattle.sqlcipher_tool.specs.Renewal.{pages_under, renewed}
 use Rattle.sqlcipher_tool.specs.Salvage.{file_pages, salvage_answer, salvage_causes, salvaged_answer}
 use Rattle.sqlcipher_tool.specs.Servable.{AfterRecovery, CanBeServed, ForOne, ForTwo, HasAgreeingIndexes, HasFewPages, HasServablePages, HasTable, HasTags, IsChangeable, IsDoneAlone, IsDoneOrStarved, CanMake, IsProbed, IsReadable, IsServable, NoneRose}
-use Rattle.sqlcipher_tool.specs.Settle.{first_plain, has_maps, marked_answer, settled_answer}
+use Rattle.map_pages.specs.Maps.{map_count}
+use Rattle.sqlcipher_tool.specs.Maps.{first_plain}
+use Rattle.sqlcipher_tool.specs.Settle.{marked_answer, marks_of, settled_answer}
 use Rattle.sqlcipher_tool.specs.Stamp.{stamped_answer}
+use Rattle.sqlcipher_tool.specs.declared.settle.Marks.{Marks}
 use Rattle.sqlcipher_tool.specs.declared.settle.Marks.TheVariants.{Rollback, Wal, Maps}
 use Rattle.sqlcipher_tool.specs.Tags.{file_answer, is_refused, pages_answer, refused_pages, tags_answer, tags_causes}
 use Rattle.sqlcipher_tool.specs.Text.{header_report, made_report, migrated_report, probe_report, recovery_line, rekeyed_report, settled_report, stamped_report, tags_report, verify_report}
@@ -314,30 +316,9 @@ module _ (test : Profile → Bool) where
       given a b same = cc same
   found_at (first ∷ xs) (suc k) profile there is = finds_later (test first) first (find test xs) (found_at xs k profile there is)
 
-  -- the profiles that may be found, by their places in the order
-  listed_found : ((profile : Profile) → test profile ≡ true → test (without_log profile) ≡ true)
-      → (profile : Profile) → IsListed profile → is_plain profile ≡ false → test profile ≡ true → is_some (find test probed_profiles) ≡ true
-  listed_found set =
-      IsListed-each (λ (p : Profile). is_plain p ≡ false → test p ≡ true → is_some (find test probed_profiles) ≡ true)
-      (λ profile found ciphered is. found ciphered (set profile is))
-      (λ ciphered. found_at probed_profiles 9 sqlcipher_1 refl)
-      (λ ciphered. found_at probed_profiles 8 sqlcipher_2 refl)
-      (λ ciphered. found_at probed_profiles 7 sqlcipher_3 refl)
-      (λ ciphered. found_at probed_profiles 1 (sqlcipher_4_of 1024) refl)
-      (λ ciphered. found_at probed_profiles 2 (sqlcipher_4_of 2048) refl)
-      (λ ciphered. found_at probed_profiles 0 sqlcipher_4 refl)
-      (λ ciphered. found_at probed_profiles 3 (sqlcipher_4_of 8192) refl)
-      (λ ciphered. found_at probed_profiles 4 (sqlcipher_4_of 16384) refl)
-      (λ ciphered. found_at probed_profiles 5 (sqlcipher_4_of 32768) refl)
-      (λ ciphered. found_at probed_profiles 6 (sqlcipher_4_of 65536) refl)
-      (λ ciphered. cc)
-      (λ ciphered. cc)
-      (λ ciphered. cc)
-      (λ ciphered. cc)
-      (λ ciphered. cc)
-      (λ ciphered. cc)
-      (λ ciphered. cc)
-      (λ ciphered. cc)
+  -- a profile that is tried is found, or one before it
+  tried_found : (profile : Profile) → IsTried profile → test profile ≡ true → is_some (find test probed_profiles) ≡ true
+  tried_found profile tried = found_at probed_profiles tried.place profile tried.there
 
 none_of_two : (a b : Bool) (x y : Answer) → a ≡ false → b ≡ false
     → first_answer (record { holds = a; answer = x } ∷ record { holds = b; answer = y } ∷ []) ≡ None
@@ -345,19 +326,12 @@ none_of_two true b x y one two = cc
 none_of_two false true x y one two = cc
 none_of_two false false x y one two = refl
 
--- a key fits with the setting where it fits without
-fits_set : (secret : Secret) (file : List ℕ) (profile : Profile) → is_fitting secret file profile ≡ true → is_fitting secret file (without_log profile) ≡ true
-unfolding accepts deciphered opened
-fits_set (Raw key) file profile is = is
-fits_set (Pass passphrase) file profile is = is
-fits_set NoKey file profile is = is
-
-first_found : (secret : Secret) (file : List ℕ) (profile : Profile) → IsListed profile → is_plain profile ≡ false → is_fitting secret file profile ≡ true → is_some (first_fitting secret file) ≡ true
+first_found : (secret : Secret) (file : List ℕ) (profile : Profile) → IsTried profile → is_fitting secret file profile ≡ true → is_some (first_fitting secret file) ≡ true
 unfolding first_fitting
-first_found secret file profile listed ciphered fit = listed_found (is_fitting secret file) (fits_set secret file) profile listed ciphered fit
+first_found secret file profile tried fit = tried_found (is_fitting secret file) profile tried fit
 
 probe_alone : (secret : Secret) (files : Files) → IsProbed secret files → IsDoneAlone (probe_answer secret files ∷ [])
-probe_alone secret files way = subst (λ (a : Answer). IsDoneAlone (a ∷ [])) (sym due_is) (found_alone found (first_found secret main way.profile way.listed way.ciphered way.fit))
+probe_alone secret files way = subst (λ (a : Answer). IsDoneAlone (a ∷ [])) (sym due_is) (found_alone found (first_found secret main way.profile way.tried way.fit))
   where
     main : List ℕ
     main = main_of files
@@ -368,7 +342,7 @@ probe_alone secret files way = subst (λ (a : Answer). IsDoneAlone (a ∷ [])) (
     some : 0 < length main
     some =
         let long = true_le way.profile.page_size (length main) (and_left (nat_le way.profile.page_size (length main)) _ way.fit) in
-        let size = listed_some way.profile way.listed in
+        let size = large_each way.tried.place way.profile way.tried.there in
         omega (arith, long, size)
 
     due_is : probe_answer secret files ≡ found_answer found
@@ -386,15 +360,15 @@ make_alone profile rows files free = (made_report rows (total_len rows), none_th
     none_there false true one two = cc
     none_there false false one two = refl
 
--- of a file that opens and has no pointer-map pages nothing else is due to `settle`
-settle_alone : (frames : ℕ) (first : List ℕ) (opened : Result Opened OpenError) → IsOk opened → has_maps first ≡ false → IsDoneAlone (settled_answer frames first opened ∷ [])
-settle_alone frames first (Err error) opens none = cc
-settle_alone frames first (Ok found) opens none = by_marks (has_maps first) (u8_at first 18 == 1 && u8_at first 19 == 1) none
+-- of a file that opens nothing else is due to `settle`
+settle_alone : (usable frames : ℕ) (first : List ℕ) (opened : Result Opened OpenError) → IsOk opened → IsDoneAlone (settled_answer usable frames first opened ∷ [])
+settle_alone usable frames first (Err error) opens = cc
+settle_alone usable frames first (Ok found) opens = by_marks (marks_of first)
   where
-    by_marks : (maps rollback : Bool) → maps ≡ false → IsDoneAlone (marked_answer frames (if maps then Maps else (if rollback then Rollback else Wal)) ∷ [])
-    by_marks true rollback none = cc
-    by_marks false true none = (settled_report frames 0, refl)
-    by_marks false false none = (settled_report frames 0, refl)
+    by_marks : (marks : Marks) → IsDoneAlone (marked_answer frames (map_count usable found.count) marks ∷ [])
+    by_marks Maps = (settled_report frames (map_count usable found.count), refl)
+    by_marks Rollback = (settled_report frames 0, refl)
+    by_marks Wal = (settled_report frames 0, refl)
 
 -- ---- each command
 
@@ -423,7 +397,7 @@ change_alone : (change : Change) (profile : Profile) (first second : Secret) (fi
     → IsDoneAlone (change_answers change (renewed profile change first second) file after)
 change_alone (Stamp field value) profile first second file after served way = stamp_alone (opened_with profile first file) way
 change_alone (Settle frames) profile first second file after served way =
-    settle_alone frames (first_plain (keys_of (with_log profile) first file) file) (opened_with (with_log profile) first file) way.opens way.no_maps
+    settle_alone (usable profile) frames (first_plain (keys_of (with_log profile) first file) file) (opened_with (with_log profile) first file) way
 change_alone (Rekey new) profile first second file after served way = rekey_alone profile first file served way
 change_alone (Migrate new) profile first second file after served way =
     migrate_alone profile new first (pages_under new second after) file served way

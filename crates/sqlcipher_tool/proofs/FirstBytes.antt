@@ -11,7 +11,7 @@ use Rattle.cipher_profile.specs.Profile.{IsListed, is_plain}
 use Rattle.page_codec.specs.Page.{FileKeys, codec_salt, enciphered, fits, keys_of, magic, salt_of, sealed}
 use Rattle.pager.specs.Changed.{with_bytes}
 use Rattle.pager.specs.File.{first_page}
-use Rattle.sqlcipher_tool.specs.FirstPage.{changed_page, next_change, with_field}
+use Rattle.sqlcipher_tool.specs.FirstPage.{with_field}
 use Rattle.sqlcipher_tool.proofs.OpenedParts.{plain_fits}
 use Rattle.sqlcipher_tool.proofs.ChangedFields.{bytes_length, field_length}
 
@@ -56,28 +56,21 @@ sealed_plain_file keys n plain draw is = ap (λ (b : Bool). if b then plain else
 
 -- ---- page 1 with other bytes
 
-bytes_first : (at : ℕ) (bytes page : List ℕ) → 16 ≤ at → at ≤ length page → take 16 (with_bytes at bytes page) ≡ take 16 page
+pub bytes_first : (at : ℕ) (bytes page : List ℕ) → 16 ≤ at → at ≤ length page → take 16 (with_bytes at bytes page) ≡ take 16 page
 bytes_first at bytes page from long =
     take-append-le 16 (take at page) (bytes ++ drop (at + length bytes) page) (omega (arith, from, long, length-take at page))
     ∙ take-take 16 at page from
 
-pub changed_first : (at : ℕ) (bytes : List ℕ) (count : ℕ) (plain : List ℕ) → 16 ≤ at → at + length bytes ≤ 92 → 100 ≤ length plain
-    → take 16 (changed_page at bytes count plain) ≡ take 16 plain
-changed_first at bytes count plain low high long = by_change (next_change _)
-  where
-    one : List ℕ
-    one = with_bytes at bytes plain
-
-    one_long : length one ≡ length plain
-    one_long = bytes_length at bytes plain (omega (arith, high, long))
-
-    by_change : (change : ℕ) → take 16 (with_field 92 change (with_field 28 count (with_field 24 change one))) ≡ take 16 plain
-    by_change change =
-        let two = with_field 24 change one in
-        let two_long : length two ≡ length one = field_length 24 change one (omega (arith, one_long, long)) in
-        let three = with_field 28 count two in
-        let three_long : length three ≡ length two = field_length 28 count two (omega (arith, two_long, one_long, long)) in
-        bytes_first 92 (to_be_bytes w32 change) three (omega arith) (omega (arith, three_long, two_long, one_long, long))
-        ∙ (bytes_first 28 (to_be_bytes w32 count) two (omega arith) (omega (arith, two_long, one_long, long))
-        ∙ (bytes_first 24 (to_be_bytes w32 change) one (omega arith) (omega (arith, one_long, long))
-        ∙ bytes_first at bytes plain low (omega (arith, high, long))))
+pub changed_first : (at : ℕ) (bytes : List ℕ) (count change : ℕ) (plain : List ℕ) → 16 ≤ at → at + length bytes ≤ 92 → 100 ≤ length plain
+    → take 16 (with_field 92 change (with_field 28 count (with_field 24 change (with_bytes at bytes plain)))) ≡ take 16 plain
+changed_first at bytes count change plain low high long =
+    let one = with_bytes at bytes plain in
+    let one_long : length one ≡ length plain = bytes_length at bytes plain (omega (arith, high, long)) in
+    let two = with_field 24 change one in
+    let two_long : length two ≡ length one = field_length 24 change one (omega (arith, one_long, long)) in
+    let three = with_field 28 count two in
+    let three_long : length three ≡ length two = field_length 28 count two (omega (arith, two_long, one_long, long)) in
+    bytes_first 92 (to_be_bytes w32 change) three (omega arith) (omega (arith, three_long, two_long, one_long, long))
+    ∙ (bytes_first 28 (to_be_bytes w32 count) two (omega arith) (omega (arith, two_long, one_long, long))
+    ∙ (bytes_first 24 (to_be_bytes w32 change) one (omega arith) (omega (arith, one_long, long))
+    ∙ bytes_first at bytes plain low (omega (arith, high, long))))

@@ -7,13 +7,16 @@ use Rattle.std.specs.Cmp.Derive.{both_true}
 use Rattle.cipher_profile.specs.declared.keys.Secret.{Secret}
 use Rattle.cipher_profile.specs.declared.keys.Secret.TheVariants.{NoKey}
 use Rattle.cipher_profile.specs.declared.profile.Profile.{Profile}
-use Rattle.cipher_profile.specs.Profile.{IsListed, is_plain, profile_named, sqlcipher_4, with_log}
+use Rattle.cipher_profile.specs.Profile.{IsListed, sqlcipher_4, with_log}
+use Rattle.profile_word.specs.Parts.{parts}
+use Rattle.profile_word.specs.Tried.{IsTried}
+use Rattle.profile_word.specs.Word.{profile_from, profile_named}
 use Rattle.db_format.specs.Count.{largest_database}
 use Rattle.edge_model.specs.Files.{File, no_files}
 use Rattle.make_job.specs.Made.{IsMade, made_header}
 use Rattle.page_codec.specs.Page.{FileKeys, keys_of}
 use Rattle.db_format.specs.Header.{header_read, header_read_as}
-use Rattle.pager.specs.File.{page_stored, whole_pages}
+use Rattle.pager.specs.File.{whole_pages}
 use Rattle.pager.specs.Opening.{Opened, file_opened}
 use Rattle.pager.specs.Pages.{is_page_number}
 use Rattle.pager.specs.declared.opening.OpenError.{OpenError}
@@ -25,7 +28,7 @@ use Rattle.sqlcipher_tool.specs.declared.reading.Job.TheVariants.{Verify, Export
 use Rattle.sqlcipher_tool.specs.declared.reading.Reading.TheVariants.{Tags, Header, Salvage, OnPages}
 use Rattle.sqlcipher_tool.specs.Opening.{opened_with}
 use Rattle.sqlcipher_tool.specs.Plain.{IsClean}
-use Rattle.sqlcipher_tool.specs.Settle.{CanBeSettled, first_plain, has_maps}
+use Rattle.sqlcipher_tool.specs.Maps.{first_plain}
 use Rattle.sqlcipher_tool.specs.Servable.{CanBeServed, HasServablePages, HasTags, IsProbed, IsForAnySize, IsServable, standing}
 use Rattle.sqlcipher_tool.proofs.Completeness.{listed_some}
 use Rattle.sqlcipher_tool.proofs.Databases.{counted_pages}
@@ -33,7 +36,7 @@ use Rattle.sqlcipher_tool.proofs.MadeFile.{made_clean}
 use Rattle.sqlcipher_tool.proofs.Numbers.{le_true}
 use Rattle.sqlcipher_tool.proofs.OpenedParts.{IsOpen, open_parts}
 use Rattle.sqlcipher_tool.proofs.Salvaging.{page_opened}
-use Rattle.sqlcipher_tool.proofs.Unmarked.{file_set, keys_set_of, no_maps, opened_set}
+use Rattle.sqlcipher_tool.proofs.Unmarked.{file_set, keys_set_of}
 
 module _ (profile : Profile) (secret : Secret) (rows : ℕ) (file : File) (fresh : Option File) (listed : IsListed profile) (made : IsMade profile secret rows file.bytes) where
   abbrev keys : FileKeys
@@ -64,28 +67,23 @@ module _ (profile : Profile) (secret : Secret) (rows : ℕ) (file : File) (fresh
   clean : IsClean keys file.bytes
   clean = (made_clean profile secret rows file.bytes made).0
 
-  probed : is_plain profile ≡ false → IsProbed secret (standing file fresh)
-  probed ciphered = record {
+  probed : IsTried profile → IsProbed secret (standing file fresh)
+  probed tried = record {
     no_journal = refl;
     profile = profile;
-    listed = listed;
-    ciphered = ciphered;
+    tried = tried;
     fit = both_true (le_true profile.page_size (length file.bytes) is_open.long) is_open.fit;
   }
 
   -- it has no marks, so that `settle` opens it too
-  settles : profile.reads_log ≡ false → CanBeSettled (with_log profile) secret file.bytes
+  settles : profile.reads_log ≡ false → IsOk (opened_with (with_log profile) secret file.bytes)
   settles unset =
       let read : header_read (first_plain keys file.bytes) profile.page_size profile.reserve ≡ Ok (made_header profile made.count) =
       subst (λ (b : Bool). header_read_as b (first_plain keys file.bytes) profile.page_size profile.reserve ≡ Ok (made_header profile made.count)) unset is_open.read in
       let set = keys_set_of true profile.reads_log profile secret file.bytes in
       let as_made : file_opened (keys_of (with_log profile) secret file.bytes) file.bytes ≡ file_opened keys file.bytes =
       ap (λ (k : FileKeys). file_opened k file.bytes) (sym set) ∙ file_set true keys file.bytes (made_header profile made.count) read in
-      let same : first_plain (keys_of (with_log profile) secret file.bytes) file.bytes ≡ first_plain keys file.bytes =
-      ap (λ (k : FileKeys). first_plain k file.bytes) (sym set) ∙ opened_set true keys 1 (page_stored keys file.bytes 1) in record {
-        opens = ap (λ (r : Result Opened OpenError). is_ok r) (as_made ∙ made.opens);
-        no_maps = ap has_maps same ∙ no_maps (first_plain keys file.bytes) profile.page_size profile.reserve (made_header profile made.count) read;
-      }
+      ap (λ (r : Result Opened OpenError). is_ok r) (as_made ∙ made.opens)
 
   pub made_servable : (second : Secret) (command : Command) → IsForAnySize profile command → IsServable command (secret ∷ second ∷ []) (standing file fresh)
   made_servable second Probe is = probed is
@@ -113,5 +111,5 @@ module _ (profile : Profile) (secret : Secret) (rows : ℕ) (file : File) (fresh
 
 -- where no file is there, `recover` has nothing to do
 pub nothing_servable : (left : List ℕ) → CanBeServed (codes "recover" ∷ codes "4" ∷ []) left no_files
-unfolding profile_named
+unfolding profile_named profile_from parts
 nothing_servable left = record { command = Recover sqlcipher_4; is_form = refl; no_refusal = refl; secrets = NoKey ∷ NoKey ∷ []; gave = refl; servable = refl }

@@ -29,7 +29,7 @@ use Rattle.sqlcipher_tool.specs.Answer.{Answer, done, refused}
 use Rattle.sqlcipher_tool.specs.Change.{Commits, IsLateChange, KeepsOld, KeepsOrCommits, change_answer, change_status}
 use Rattle.sqlcipher_tool.specs.Holding.{HoldsOnly, held_by}
 use Rattle.sqlcipher_tool.specs.Migrate.{migrate_due, migrate_error, too_many}
-use Rattle.sqlcipher_tool.specs.Renewal.{page_count_of}
+use Rattle.sqlcipher_tool.specs.Opening.{page_count_of}
 use Rattle.sqlcipher_tool.specs.Text.{migrated_report}
 use Rattle.sqlcipher_tool.specs.Verify.{stop_answers}
 use Rattle.sqlcipher_tool.specs.declared.status.Refusal.TheVariants.{PageTag, Defect as RefusedDefect, TooManyPages}

@@ -77,14 +77,14 @@ open_count keys file header n is_open =
 
 -- of an encrypted file the key fits by the tag of page 1, or by its sign
 pub ciphered_fits : (keys : FileKeys) (first : List ℕ) → is_plain keys.profile ≡ false
-    → fits keys first ≡ (if keys.profile.tag_len == 0 then bears_sign (opened keys 1 first) else accepts keys 1 first)
+    → fits keys first ≡ (if keys.profile.tag_len == 0 then bears_sign keys.profile (opened keys 1 first) else accepts keys 1 first)
 ciphered_fits keys first ciphered =
-    ap (λ (b : Bool). if b then bytes_eq (take 16 first) magic else (if keys.profile.tag_len == 0 then bears_sign (opened keys 1 first) else accepts keys 1 first)) ciphered
+    ap (λ (b : Bool). if b then bytes_eq (take 16 first) magic else (if keys.profile.tag_len == 0 then bears_sign keys.profile (opened keys 1 first) else accepts keys 1 first)) ciphered
 
 -- and of a plain one by the magic
 pub plain_fits : (keys : FileKeys) (first : List ℕ) → is_plain keys.profile ≡ true → fits keys first ≡ bytes_eq (take 16 first) magic
 plain_fits keys first plain =
-    ap (λ (b : Bool). if b then bytes_eq (take 16 first) magic else (if keys.profile.tag_len == 0 then bears_sign (opened keys 1 first) else accepts keys 1 first)) plain
+    ap (λ (b : Bool). if b then bytes_eq (take 16 first) magic else (if keys.profile.tag_len == 0 then bears_sign keys.profile (opened keys 1 first) else accepts keys 1 first)) plain
 
 -- and its page 1 is accepted
 pub open_accepts : (keys : FileKeys) (file : List ℕ) (header : Header) (n : ℕ) → IsListed keys.profile → IsOpen keys file header n
@@ -105,9 +105,9 @@ open_accepts keys file header n listed is_open = by_tag (keys.profile.tag_len ==
     by_tag true none = accepts-no_tag keys 1 first (zero_is keys.profile.tag_len none)
     by_tag false some =
         let ciphered = (IsListed-laid_out keys.profile listed).tagged (some_is keys.profile.tag_len some) in
-        let inner : (if keys.profile.tag_len == 0 then bears_sign (opened keys 1 first) else accepts keys 1 first) ≡ true =
+        let inner : (if keys.profile.tag_len == 0 then bears_sign keys.profile (opened keys 1 first) else accepts keys 1 first) ≡ true =
         sym (ciphered_fits keys first ciphered) ∙ is_open.fit in
-        let accepted : accepts keys 1 first ≡ true = ap (λ (b : Bool). if b then bears_sign (opened keys 1 first) else accepts keys 1 first) (sym some) ∙ inner in
+        let accepted : accepts keys 1 first ≡ true = ap (λ (b : Bool). if b then bears_sign keys.profile (opened keys 1 first) else accepts keys 1 first) (sym some) ∙ inner in
         accepted
 
 -- the page size in a header that is read is the file's

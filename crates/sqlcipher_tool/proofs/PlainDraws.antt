@@ -32,7 +32,7 @@ plain_drawn (ChangeFile profile change) (first ∷ []) file drawn none = tt
 plain_drawn (ChangeFile profile (Stamp field value)) (first ∷ second ∷ rest) file drawn none =
     λ ciphered. absurd (never_both (is_plain profile) none ciphered)
 plain_drawn (ChangeFile profile (Settle frames)) (first ∷ second ∷ rest) file drawn none =
-    inr (λ ciphered. absurd (never_both (is_plain profile) none ciphered))
+    inr (inl (λ ciphered. absurd (never_both (is_plain profile) none ciphered)))
 plain_drawn (ChangeFile profile (Rekey new)) (first ∷ second ∷ rest) file drawn none = λ ciphered. absurd (never_both (is_plain new) none ciphered)
 plain_drawn (ChangeFile profile (Migrate new)) (first ∷ second ∷ rest) file drawn none = λ ciphered. absurd (never_both (is_plain new) none ciphered)
 plain_drawn (Make profile rows) [] file drawn none = tt

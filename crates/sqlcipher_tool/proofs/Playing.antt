@@ -1,10 +1,12 @@
 -- A script on the recovered file: how its run goes on from the recovery, and where nothing stands in its way.
 use Rattle.std.proofs.Common.{◌≡◌, ◌≢◌, ◌⊎◌, ⊎_elim, inl, inr, ℕ, ◌<◌, ◌≤◌, ◌+◌, Bool, true, false, List, [], ◌∷◌, ◌++◌, length, map, Option, Some, None, Result, Ok, Err, IsTrue, if◌then◌else◌, refl, sym, ap, subst, ◌∙◌, arith}
 use Rattle.std.specs.Prelude.{IsOk, IsSome, All, codes, slice_index_or}
+use Rattle.std.specs.Option.{option_and_then}
 use Rattle.std.specs.Str.{bytes_eq}
 use Rattle.std.proofs.lemmas.Bool.{and_parts}
 use Rattle.std.proofs.lemmas.Slice.Eq.{bytes_eq-Decides}
-use Rattle.cipher_profile.specs.Profile.{is_plain, profile_named, profile_set_named}
+use Rattle.cipher_profile.specs.Profile.{is_plain}
+use Rattle.profile_word.specs.Word.{named_without_log, profile_named, without_log_setting}
 use Rattle.cipher_profile.specs.declared.profile.Profile.{Profile}
 use Rattle.edge_model.specs.Causes.{Rose}
 use Rattle.atomic_commit.specs.Facts.{SameFresh}
@@ -36,7 +38,6 @@ use Rattle.sqlcipher_tool.specs.declared.status.Refusal.{Refusal}
 use Rattle.sqlcipher_tool.specs.declared.status.Status.{Status}
 use Rattle.sqlcipher_tool.specs.declared.status.Status.TheVariants.{DiskFault, OutputFault, InputFault, EntropyFault, OutOfMemory}
 use Rattle.sqlcipher_tool.proofs.Completeness.{faulted}
-use Rattle.sqlcipher_tool.proofs.Unset.{named_unset}
 
 -- ---- the words
 
@@ -53,7 +54,7 @@ no_command (name ∷ word ∷ []) profile command is formed = named (bytes_eq na
     other = refl
 
     named : (b : Bool) → bytes_eq name (codes "play") ≡ b → ⊥
-    named false differs = none_some profile (sym (ap (λ (t : Bool). if t then profile_named word else None) differs) ∙ is)
+    named false differs = none_some profile (sym (ap (λ (t : Bool). if t then named_without_log word else None) differs) ∙ is)
     named true same =
         none_some command (sym other ∙ (ap (λ (n : List ℕ). form (n ∷ word ∷ [])) (sym ((bytes_eq-Decides name (codes "play")).0 same)) ∙ formed))
 no_command (name ∷ word ∷ next ∷ rest) profile command is formed = none_some profile is
@@ -63,19 +64,29 @@ pub no_refused : (words : List (List ℕ)) (command : Command) → plays_with_lo
 no_refused [] command is formed = cc is
 no_refused (name ∷ []) command is formed = cc is
 no_refused (name ∷ word ∷ []) command is formed =
-    none_some command (sym other ∙ (ap (λ (n : List ℕ). form (n ∷ word ∷ [])) (sym ((bytes_eq-Decides name (codes "play")).0 (and_parts (bytes_eq name (codes "play")) (reads_log_of (profile_set_named word)) is).0)) ∙ formed))
+    none_some command (sym other ∙ (ap (λ (n : List ℕ). form (n ∷ word ∷ [])) (sym ((bytes_eq-Decides name (codes "play")).0 (and_parts (bytes_eq name (codes "play")) (reads_log_of (profile_named word)) is).0)) ∙ formed))
   where
     other : form (codes "play" ∷ word ∷ []) ≡ None
     other = refl
 no_refused (name ∷ word ∷ next ∷ rest) command is formed = cc is
 
+-- a word that names a profile without its log is none of a file that is read with it
+unset : (o : Option Profile) (profile : Profile) → option_and_then without_log_setting o ≡ Some profile → reads_log_of o ≡ false
+unset None profile is = refl
+unset (Some named) profile is = by_log named.reads_log is
+  where
+    by_log : (b : Bool) → (if b then None else Some named) ≡ Some profile → b ≡ false
+    by_log true none = absurd (none_some profile none)
+    by_log false some = refl
+
 -- and a `play` that is served is none that is refused
 pub served_unset : (words : List (List ℕ)) (profile : Profile) → play_form words ≡ Some profile → plays_with_log words ≡ true → ⊥
+unfolding named_without_log
 served_unset [] profile is set = none_some profile is
 served_unset (name ∷ []) profile is set = none_some profile is
 served_unset (name ∷ word ∷ []) profile is set =
-    let parts = and_parts (bytes_eq name (codes "play")) (reads_log_of (profile_set_named word)) set in
-    differ (sym (named_unset word profile (sym (ap (λ (t : Bool). if t then profile_named word else None) parts.0) ∙ is)) ∙ parts.1)
+    let parts = and_parts (bytes_eq name (codes "play")) (reads_log_of (profile_named word)) set in
+    differ (sym (unset (profile_named word) profile (sym (ap (λ (t : Bool). if t then named_without_log word else None) parts.0) ∙ is)) ∙ parts.1)
   where
     differ : false ≡ true → ⊥
     differ is = cc is

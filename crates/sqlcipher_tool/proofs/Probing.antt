@@ -7,7 +7,8 @@ use Rattle.cipher_profile.specs.declared.keys.PageKeys.{PageKeys}
 use Rattle.cipher_profile.specs.declared.keys.Secret.{Secret}
 use Rattle.cipher_profile.specs.declared.profile.Profile.{Profile}
 use Rattle.cipher_profile.specs.Keys.{page_keys}
-use Rattle.cipher_profile.specs.Profile.{is_plain, probed_profiles}
+use Rattle.cipher_profile.specs.Profile.{is_plain}
+use Rattle.profile_word.specs.Tried.{probed_profiles}
 use Rattle.page_codec.specs.Page.{FileKeys, fits, keys_of, salt_of}
 use Rattle.pager.specs.File.{first_page}
 use Rattle.btree_model.proofs.UnmarkedLemmas.{and_left, and_right}
@@ -94,7 +95,7 @@ module _ (test : Profile → Bool) where
 -- ---- the first that fits
 
 -- each of them has pages of 1,024 bytes or more
-large_each : (k : ℕ) (x : Profile) → slice_get probed_profiles k ≡ Some x → 1024 ≤ x.page_size
+pub large_each : (k : ℕ) (x : Profile) → slice_get probed_profiles k ≡ Some x → 1024 ≤ x.page_size
 large_each k x at = true_le 1024 x.page_size (all_hold (λ (p : Profile). nat_le 1024 p.page_size) probed_profiles refl k x at)
 
 -- and none is plain
@@ -116,7 +117,7 @@ pub fits_first : (secret : Secret) (file : List ℕ) (k : ℕ) (x : Profile) →
 unfolding first_fitting
 fits_first secret file k x at passes none = sym (found_here (is_fitting secret file) probed_profiles k x at passes none)
 
-pub none_fits : (secret : Secret) (file : List ℕ) (tried : ℕ) → tried ≡ 10 → find (is_fitting secret file) (take tried probed_profiles) ≡ None
+pub none_fits : (secret : Secret) (file : List ℕ) (tried : ℕ) → tried ≡ 15 → find (is_fitting secret file) (take tried probed_profiles) ≡ None
     → None ≡ first_fitting secret file
 unfolding first_fitting
 none_fits secret file tried all none = sym (subst (λ (n : ℕ). find (is_fitting secret file) (take n probed_profiles) ≡ None) all none)

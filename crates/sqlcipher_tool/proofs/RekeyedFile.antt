@@ -1,6 +1,7 @@
 -- The old file of a rekeyed one was clean, and the new one opens under the new keys to its content.
-use Rattle.std.proofs.Common.{◌≡◌, ◌≤◌, ◌==◌, ◌&&◌, ◌-◌, ◌+◌, ◌*◌, ◌<◌, ◌/◌, ◌%◌, not, ℕ, zero, suc, Bool, true, false, List, [], length, map, take, Some, None, Result, Ok, Err, refl, sym, ap, subst, ◌∙◌, arith, rules, if◌then◌else◌}
-use Rattle.std.specs.Prelude.{nat_lt, replicate}
+use Rattle.std.proofs.Common.{◌≡◌, ◌≤◌, ◌==◌, ◌&&◌, ◌-◌, ◌+◌, ◌*◌, ◌<◌, ◌/◌, ◌%◌, not, ℕ, zero, suc, Bool, true, false, List, [], ◌∷◌, length, map, take, Some, None, Result, Ok, Err, refl, sym, ap, subst, ◌∙◌, arith, rules, if◌then◌else◌}
+use Rattle.std.specs.Prelude.{nat_lt, replicate, slice_range}
+use Rattle.std.specs.Int.{w16, to_be_bytes}
 use Rattle.std.specs.List.{Contains, list_any, range_with_len}
 use Rattle.std.specs.Str.{bytes_eq}
 use Rattle.std.proofs.Math.Nat.{div-add-mod, mod-lt}
@@ -207,6 +208,12 @@ module _ (old_keys new_keys : FileKeys) (count : ℕ) (old new : List ℕ) (old_
           let few = untagged_reserve new new_listed none in
           reserve_untagged old old_listed (omega (arith, same, few))
 
+  -- and the same sign, which is of the sizes alone
+  same_sign : (plain : List ℕ) → bears_sign new_keys.profile plain ≡ bears_sign old_keys.profile plain
+  same_sign plain =
+      (λ t. bytes_eq (slice_range plain 16 18) (to_be_bytes w16 (if sizes t == 65536 then 1 else sizes t))
+      && bytes_eq (slice_range plain 20 24) (reserves t ∷ 64 ∷ 32 ∷ 32 ∷ []))
+
   fit : fits new_keys (page_stored new_keys new 1) ≡ true
   fit = by_plain (is_plain new_keys.profile) refl
     where
@@ -226,14 +233,15 @@ module _ (old_keys new_keys : FileKeys) (count : ℕ) (old new : List ℕ) (old_
       by_tag true none ciphered was_ciphered =
           let old_none = zero_is old_keys.profile.tag_len (same_tags (is_zero new_keys.profile.tag_len none)) in
           ciphered_fits new_keys (page_stored new_keys new 1) ciphered
-          ∙ ap (λ (b : Bool). if b then bears_sign (opened new_keys 1 (page_stored new_keys new 1)) else accepts new_keys 1 (page_stored new_keys new 1)) none
-          ∙ ap bears_sign rekeyed.first
-          ∙ sym (ap (λ (b : Bool). if b then bears_sign (opened old_keys 1 (page_stored old_keys old 1)) else accepts old_keys 1 (page_stored old_keys old 1)) old_none)
+          ∙ ap (λ (b : Bool). if b then bears_sign new_keys.profile (opened new_keys 1 (page_stored new_keys new 1)) else accepts new_keys 1 (page_stored new_keys new 1)) none
+          ∙ same_sign (opened new_keys 1 (page_stored new_keys new 1))
+          ∙ ap (bears_sign old_keys.profile) rekeyed.first
+          ∙ sym (ap (λ (b : Bool). if b then bears_sign old_keys.profile (opened old_keys 1 (page_stored old_keys old 1)) else accepts old_keys 1 (page_stored old_keys old 1)) old_none)
           ∙ sym (ciphered_fits old_keys (page_stored old_keys old 1) was_ciphered)
           ∙ clean.opens.fit
       by_tag false some ciphered was_ciphered =
           ciphered_fits new_keys (page_stored new_keys new 1) ciphered
-          ∙ ap (λ (b : Bool). if b then bears_sign (opened new_keys 1 (page_stored new_keys new 1)) else accepts new_keys 1 (page_stored new_keys new 1)) some
+          ∙ ap (λ (b : Bool). if b then bears_sign new_keys.profile (opened new_keys 1 (page_stored new_keys new 1)) else accepts new_keys 1 (page_stored new_keys new 1)) some
           ∙ rekeyed.accepted 1 first
 
       -- both files are plain, or none is

@@ -38,9 +38,10 @@ use Rattle.sqlcipher_tool.specs.Answer.{Answer, done, refused}
 use Rattle.sqlcipher_tool.specs.Change.{Commits, IsLateChange, KeepsOld, KeepsOrCommits, change_answer, change_status, rekey_error}
 use Rattle.rekey_job.specs.Draws.{FileDraws}
 use Rattle.sqlcipher_tool.specs.Holding.{HoldsOnly, held_by}
+use Rattle.sqlcipher_tool.specs.Opening.{page_count_of}
 use Rattle.sqlcipher_tool.specs.Plain.{is_left, refused_in_use}
 use Rattle.sqlcipher_tool.specs.Rekey.{rekey_due}
-use Rattle.sqlcipher_tool.specs.Renewal.{WithDraws, page_count_of}
+use Rattle.sqlcipher_tool.specs.Renewal.{WithDraws}
 use Rattle.sqlcipher_tool.specs.Tags.{numbers_where, page_numbers}
 use Rattle.sqlcipher_tool.specs.Text.{rekeyed_report}
 use Rattle.sqlcipher_tool.specs.Verify.{else_answers, stop_answers}

@@ -1,11 +1,12 @@
 -- The command that words make is of a profile that is served.
-use Rattle.std.proofs.Common.{◌≡◌, ◌-◌, ℕ, length, take, Bool, true, false, List, [], ◌∷◌, Option, Some, None, if◌then◌else◌, refl, subst}
+use Rattle.std.proofs.Common.{◌≡◌, ℕ, Bool, true, false, List, [], ◌∷◌, Option, Some, None, if◌then◌else◌, refl, subst}
 use Rattle.std.specs.Prelude.{codes}
 use Rattle.std.specs.Option.{option_map, option_and_then}
 use Rattle.std.specs.Str.{bytes_eq}
 use Rattle.cipher_profile.specs.declared.profile.Profile.{Profile}
-use Rattle.cipher_profile.specs.Profile.{IsListed, has_log_setting, profile_named, profile_set_named, with_log}
-use Rattle.cipher_profile.proofs.Names.{named_listed}
+use Rattle.cipher_profile.specs.Profile.{IsListed}
+use Rattle.profile_word.specs.Word.{profile_named}
+use Rattle.profile_word.proofs.Listing.{named_listed}
 use Rattle.text_lines.specs.Numbers.{number_named}
 use Rattle.sqlcipher_tool.specs.declared.command.Command.{Command}
 use Rattle.sqlcipher_tool.specs.declared.command.Command.TheVariants.{Probe, Recover, Read, Change as ChangeFile}
@@ -14,22 +15,6 @@ use Rattle.sqlcipher_tool.specs.declared.change.Change.TheVariants.{Settle, Reke
 use Rattle.sqlcipher_tool.specs.declared.reading.Job.TheVariants.{Verify, Export, Agree}
 use Rattle.sqlcipher_tool.specs.declared.reading.Reading.TheVariants.{Tags, Header, Salvage, OnPages}
 use Rattle.sqlcipher_tool.specs.Words.{IsChangeServed, IsServed, field_named, find_form, form, make_form, rowid_named, stamp_form, two_profiles}
-
--- a profile that is named, with a setting or without, is listed
-set_listed : (word : List ℕ) (profile : Profile) → profile_set_named word ≡ Some profile → IsListed profile
-unfolding IsListed
-set_listed word profile = by_setting (has_log_setting word)
-  where
-    set_of : (o : Option Profile) → ((p : Profile) → o ≡ Some p → IsListed p) → option_map with_log o ≡ Some profile → IsListed profile
-    set_of None listed is = cc is
-    set_of (Some p) listed is = subst IsListed (given (with_log p) profile is) (listed p refl)
-      where
-        given : (a b : Profile) → Some a ≡ Some b → a ≡ b
-        given a b same = cc same
-
-    by_setting : (b : Bool) → (if b then option_map with_log (profile_named (take (length word - 4) word)) else profile_named word) ≡ Some profile → IsListed profile
-    by_setting true is = set_of (profile_named (take (length word - 4) word)) (named_listed (take (length word - 4) word)) is
-    by_setting false is = named_listed word profile is
 
 -- none, or a command that is served
 abbrev MaybeServed : Option Command → Type 0
@@ -50,28 +35,28 @@ either false one other first second = second
 
 stamp_served : (first second third : List ℕ) → MaybeServed (stamp_form first second third)
 stamp_served first second third =
-    followed _ (profile_set_named first) (λ profile named. followed _ (field_named second) (λ field is. mapped _ (number_named third) (λ value known. (set_listed first profile named, tt))))
+    followed _ (profile_named first) (λ profile named. followed _ (field_named second) (λ field is. mapped _ (number_named third) (λ value known. (named_listed first profile named, tt))))
 
 find_served : (first second third fourth : List ℕ) → MaybeServed (find_form first second third fourth)
 find_served first second third fourth =
-    followed _ (profile_set_named first) (λ profile named. followed _ (rowid_named third) (λ low is. mapped _ (rowid_named fourth) (λ high known. set_listed first profile named)))
+    followed _ (profile_named first) (λ profile named. followed _ (rowid_named third) (λ low is. mapped _ (rowid_named fourth) (λ high known. named_listed first profile named)))
 
 two_served : (change : Profile → Change) → ((new : Profile) → IsListed new → IsChangeServed (change new)) → (first second : List ℕ)
     → MaybeServed (two_profiles change first second)
 two_served change served first second =
-    followed _ (profile_set_named first)
-    (λ old named. mapped _ (profile_set_named second) (λ new other. (set_listed first old named, served new (set_listed second new other))))
+    followed _ (profile_named first)
+    (λ old named. mapped _ (profile_named second) (λ new other. (named_listed first old named, served new (named_listed second new other))))
 
 make_served : (first second : List ℕ) → MaybeServed (make_form first second)
 make_served first second =
-    followed _ (profile_set_named first) (λ profile named. mapped _ (number_named second) (λ rows known. set_listed first profile named))
+    followed _ (profile_named first) (λ profile named. mapped _ (number_named second) (λ rows known. named_listed first profile named))
 
 maybe_served : (words : List (List ℕ)) → MaybeServed (form words)
 maybe_served [] = tt
 maybe_served (name ∷ []) = either (bytes_eq name (codes "probe")) (Some Probe) None tt tt
 maybe_served (name ∷ word ∷ []) =
-    let listed = set_listed word in
-    let profile = profile_set_named word in
+    let listed = named_listed word in
+    let profile = profile_named word in
     either (bytes_eq name (codes "tags")) _ _ (mapped (λ p. Read p Tags) profile listed)
     (either (bytes_eq name (codes "header")) _ _ (mapped (λ p. Read p Header) profile listed)
     (either (bytes_eq name (codes "verify")) _ _ (mapped (λ p. Read p (OnPages Verify)) profile listed)

@@ -1,23 +1,22 @@
 -- A settled file is clean where the old one was, and holds the same.
-use Rattle.std.proofs.Common.{◌≡◌, ◌⊎◌, ⊎_elim, inl, inr, ◌==◌, ◌≤◌, ◌<◌, ◌+◌, ◌-◌, ◌*◌, ◌^◌, ◌&&◌, not, ℕ, zero, suc, Bool, true, false, IsTrue, List, [], ◌∷◌, length, take, drop, map, Option, Some, None, Result, Ok, Err, if◌then◌else◌, refl, sym, ap, subst, ◌∙◌, arith, rules, length-take, length-drop}
+use Rattle.std.proofs.Common.{◌≡◌, inl, inr, ◌==◌, ◌≤◌, ◌<◌, ◌+◌, ◌-◌, ◌^◌, ◌&&◌, not, ℕ, zero, suc, Bool, true, false, List, [], ◌∷◌, length, take, drop, Option, Some, None, Result, Ok, Err, if◌then◌else◌, refl, sym, ap, subst, ◌∙◌, arith, rules, length-take, length-drop}
 use Rattle.std.proofs.Math.Path.{fun_ext}
 use Rattle.std.proofs.lemmas.List.{ext_get_or, get_or-drop, get_or-take}
 use Rattle.std.specs.List.{list_all, list_any}
-use Rattle.std.specs.Prelude.{get_or, nat_le, nat_lt, replicate, slice_index, slice_range, unwrap_or}
+use Rattle.std.specs.Int.{to_be_bytes, w16}
+use Rattle.std.specs.Prelude.{get_or, nat_le, nat_lt, replicate, slice_index, slice_range}
 use Rattle.std.specs.Str.{bytes_eq}
 use Rattle.std.proofs.lemmas.Bool.{eqb-true}
 use Rattle.btree_model.proofs.UnmarkedLemmas.{and_left, and_right}
-use Rattle.btree_model.specs.Content.{Content, content, kept_fields}
+use Rattle.btree_model.specs.Content.{content, kept_fields}
 use Rattle.btree_model.specs.Finding.{Finding, is_sound, leaves}
-use Rattle.btree_model.specs.Freelist.{first_trunk, free_field, freelist_walk}
-use Rattle.btree_model.specs.Parts.{is_database, parts}
+use Rattle.btree_model.specs.Parts.{is_database}
 use Rattle.btree_model.specs.Plain.{is_leaf, with_zeros}
 use Rattle.btree_page.specs.Kind.{kind_at}
 use Rattle.btree_page.specs.Page.{read_node}
 use Rattle.btree_page.specs.declared.kind.Family.{Family}
 use Rattle.cipher_profile.proofs.Layouts.{IsListed-laid_out}
-use Rattle.cipher_profile.specs.Profile.{IsListed, is_plain, with_log}
-use Rattle.cipher_profile.specs.declared.keys.Secret.{Secret}
+use Rattle.cipher_profile.specs.Profile.{IsListed, is_plain}
 use Rattle.cipher_profile.specs.declared.profile.Profile.{Profile}
 use Rattle.db_format.specs.Bytes.{u32_at}
 use Rattle.db_format.specs.Count.{count_of_pages}
@@ -26,22 +25,15 @@ use Rattle.db_format.specs.declared.header.Header.{Header}
 use Rattle.db_format.specs.declared.header.HeaderRefusal.{HeaderRefusal}
 use Rattle.db_format.specs.Pages.{Pages, nothing}
 use Rattle.page_codec.proofs.TagPlace.{accepts-no_tag}
-use Rattle.page_codec.specs.Page.{FileKeys, accepts, bears_sign, deciphered, fits, keys_of, magic, opened, salt_of}
+use Rattle.page_codec.specs.Page.{FileKeys, accepts, bears_sign, deciphered, fits, magic, opened}
 use Rattle.pager.specs.Database.{count_of, counted, ok_count}
 use Rattle.pager.specs.File.{page_stored}
 use Rattle.pager.specs.Pages.{is_page_number, opened_pages}
-use Rattle.edge_model.specs.Files.{Files, main_of}
-use Rattle.sqlcipher_tool.specs.Crash.{StaysOrRenews}
-use Rattle.sqlcipher_tool.specs.FirstPage.{changed_page, next_change, with_field}
-use Rattle.sqlcipher_tool.specs.Holding.{DiskRun}
-use Rattle.sqlcipher_tool.specs.Renewal.{IsNewDrawn, renewed}
-use Rattle.sqlcipher_tool.specs.Settling.{CanBeLaid}
-use Rattle.sqlcipher_tool.specs.declared.change.Change.TheVariants.{Settle as SettleBy}
-use Rattle.sqlcipher_tool.specs.declared.command.Command.TheVariants.{Change as ChangeFile}
-use Rattle.sqlcipher_tool.specs.declared.status.Status.TheVariants.{Done}
+use Rattle.sqlcipher_tool.specs.FirstPage.{next_change, with_field}
 use Rattle.sqlcipher_tool.specs.Plain.{IsClean, is_left, refused_in_use}
 use Rattle.sqlcipher_tool.specs.ReadAlike.{AreReadAlike}
-use Rattle.sqlcipher_tool.specs.Settle.{IsSettledFrom, IsUnmarked, WasUnmarked, first_plain, keys_set, versions, versions_at}
+use Rattle.sqlcipher_tool.specs.Maps.{first_plain, versions, versions_at}
+use Rattle.sqlcipher_tool.specs.Settle.{IsUnmarked, keys_set}
 use Rattle.sqlcipher_tool.specs.Tags.{numbers_where}
 use Rattle.sqlcipher_tool.proofs.ChangedFields.{byte_kept, changed_byte, changed_length, field_byte, field_length, field_outside}
 use Rattle.sqlcipher_tool.proofs.ChangedPages.{count_few}
@@ -51,9 +43,7 @@ use Rattle.sqlcipher_tool.proofs.FirstNode.{first_kind_same, first_page_same}
 use Rattle.sqlcipher_tool.proofs.Numbers.{true_le}
 use Rattle.sqlcipher_tool.proofs.OpenedParts.{ciphered_fits, header_size, plain_fits}
 use Rattle.sqlcipher_tool.proofs.ReadAlike.{content_same, freelist_same, parts_same}
-use Rattle.sqlcipher_tool.proofs.SettledFile.{listed_set}
-use Rattle.sqlcipher_tool.proofs.Stamping.{same_keys}
-use Rattle.sqlcipher_tool.proofs.Unmarked.{accepts_set, field, fits_set, high, keys_set_of, opened_set, unmarked, unmarked_length}
+use Rattle.sqlcipher_tool.proofs.Unmarked.{accepts_set, field, fits_set, high, opened_set, unmarked, unmarked_length}
 use Rattle.sqlcipher_tool.proofs.Verified.{some_is}
 
 -- ---- pages that read alike
@@ -142,7 +132,7 @@ fits_accepts keys first listed fit = by_tag (keys.profile.tag_len == 0) refl
     by_tag true none = accepts-no_tag keys 1 first (zero_is keys.profile.tag_len none)
     by_tag false some =
         let ciphered = (IsListed-laid_out keys.profile listed).tagged (some_is_there keys.profile.tag_len some) in
-        ap (λ (b : Bool). if b then bears_sign (opened keys 1 first) else accepts keys 1 first) (sym some) ∙ (sym (ciphered_fits keys first ciphered) ∙ fit)
+        ap (λ (b : Bool). if b then bears_sign keys.profile (opened keys 1 first) else accepts keys 1 first) (sym some) ∙ (sym (ciphered_fits keys first ciphered) ∙ fit)
 
 -- bytes between two offsets are the same where each is
 between_same : (a b : List ℕ) (i j : ℕ) → length a ≡ length b → ((k : ℕ) → i ≤ k → k < j → get_or a k 0 ≡ get_or b k 0) → slice_range a i j ≡ slice_range b i j
@@ -153,19 +143,21 @@ between_same a b i j long same =
     let within : k < j - i = omega (arith, less, length-take (j - i) (drop i a)) in
     get_or-take (j - i) (drop i a) k 0 within ∙ (get_or-drop i a k 0 ∙ (same (i + k) (omega arith) (omega (arith, within)) ∙ sym (get_or-take (j - i) (drop i b) k 0 within ∙ get_or-drop i b k 0))))
 
--- the sign of profile 1 is that of each page 1 with the same bytes around the versions
-pub sign_same : (a b : List ℕ) → length a ≡ length b → ((k : ℕ) → 16 ≤ k → k < 18 → get_or a k 0 ≡ get_or b k 0) → ((k : ℕ) → 20 ≤ k → k < 24 → get_or a k 0 ≡ get_or b k 0)
-    → bears_sign a ≡ bears_sign b
-sign_same a b long size rest =
-    ap (λ (l : List ℕ). bytes_eq l (0x04 ∷ 0x00 ∷ []) && bytes_eq (slice_range a 20 24) (0x10 ∷ 0x40 ∷ 0x20 ∷ 0x20 ∷ [])) (between_same a b 16 18 long size)
-    ∙ ap (λ (l : List ℕ). bytes_eq (slice_range b 16 18) (0x04 ∷ 0x00 ∷ []) && bytes_eq l (0x10 ∷ 0x40 ∷ 0x20 ∷ 0x20 ∷ [])) (between_same a b 20 24 long rest)
+-- a sign is that of each page 1 with the same bytes around the versions
+pub sign_same : (profile : Profile) (a b : List ℕ) → length a ≡ length b → ((k : ℕ) → 16 ≤ k → k < 18 → get_or a k 0 ≡ get_or b k 0) → ((k : ℕ) → 20 ≤ k → k < 24 → get_or a k 0 ≡ get_or b k 0)
+    → bears_sign profile a ≡ bears_sign profile b
+sign_same profile a b long size rest =
+    let named : List ℕ = to_be_bytes w16 (if profile.page_size == 65536 then 1 else profile.page_size) in
+    let others : List ℕ = profile.reserve ∷ 64 ∷ 32 ∷ 32 ∷ [] in
+    ap (λ (l : List ℕ). bytes_eq l named && bytes_eq (slice_range a 20 24) others) (between_same a b 16 18 long size)
+    ∙ ap (λ (l : List ℕ). bytes_eq (slice_range b 16 18) named && bytes_eq l others) (between_same a b 20 24 long rest)
 
 -- the key fits the new page 1 too
-pub fits_too : (keys : FileKeys) (old new : List ℕ) → take 16 new ≡ take 16 old → bears_sign (opened keys 1 new) ≡ bears_sign (opened keys 1 old) → accepts keys 1 new ≡ true
+pub fits_too : (keys : FileKeys) (old new : List ℕ) → take 16 new ≡ take 16 old → bears_sign keys.profile (opened keys 1 new) ≡ bears_sign keys.profile (opened keys 1 old) → accepts keys 1 new ≡ true
     → fits keys old ≡ true → fits keys new ≡ true
 fits_too keys old new begins sign accepted fit = by_plain (is_plain keys.profile) refl
   where
-    by_tag : (b : Bool) → (if b then bears_sign (opened keys 1 old) else accepts keys 1 old) ≡ true → (if b then bears_sign (opened keys 1 new) else accepts keys 1 new) ≡ true
+    by_tag : (b : Bool) → (if b then bears_sign keys.profile (opened keys 1 old) else accepts keys 1 old) ≡ true → (if b then bears_sign keys.profile (opened keys 1 new) else accepts keys 1 new) ≡ true
     by_tag true is = sign ∙ is
     by_tag false is = accepted
 
@@ -175,18 +167,12 @@ fits_too keys old new begins sign accepted fit = by_plain (is_plain keys.profile
 
 -- ---- page 1 of the settled file
 
-module _ (count : ℕ) (plain : List ℕ) (long : 100 ≤ length plain) (few : count < 2 ^ 32) where
+module _ (count change : ℕ) (plain : List ℕ) (long : 100 ≤ length plain) (few : count < 2 ^ 32) (within : change < 2 ^ 32) where
   abbrev one : List ℕ
   one = unmarked plain long
 
-  abbrev change : ℕ
-  change = next_change (u32_at plain 24)
-
   abbrev pub settled_page : List ℕ
-  settled_page = changed_page versions_at versions count plain
-
-  within : change < 2 ^ 32
-  within = Rattle.std.proofs.Math.Nat.mod-lt (u32_at plain 24 + 1) (omega arith)
+  settled_page = with_field 92 change (with_field 28 count (with_field 24 change one))
 
   long_one : 100 ≤ length one
   long_one = omega (arith, long, unmarked_length plain long)
@@ -238,22 +224,22 @@ module _ (count : ℕ) (plain : List ℕ) (long : 100 ≤ length plain) (few : c
   pub page_kind : kind_at 1 settled_page ≡ kind_at 1 plain
   page_kind = first_kind_same settled_page plain page_long high_same
 
-  pub page_sign : bears_sign settled_page ≡ bears_sign plain
-  page_sign = sign_same settled_page plain page_long (λ k more less. page_low k less) page_mid
+  pub page_sign : (profile : Profile) → bears_sign profile settled_page ≡ bears_sign profile plain
+  page_sign profile = sign_same profile settled_page plain page_long (λ k more less. page_low k less) page_mid
 
 -- ---- the settled file
 
-other_than : (n : ℕ) → (n == 1) ≡ false → 1 ≤ n → 2 ≤ n
+pub other_than : (n : ℕ) → (n == 1) ≡ false → 1 ≤ n → 2 ≤ n
 other_than zero is some = absurd (omega (arith, some))
 other_than (suc zero) is some = cc
 other_than (suc (suc n)) is some = omega arith
 
 -- with or without the setting the pages are the same
-pages_set : (passes : Bool) (keys : FileKeys) (file : List ℕ) (count : ℕ) → opened_pages (keys_set passes keys) file count ≡ opened_pages keys file count
+pub pages_set : (passes : Bool) (keys : FileKeys) (file : List ℕ) (count : ℕ) → opened_pages (keys_set passes keys) file count ≡ opened_pages keys file count
 unfolding accepts opened deciphered
 pages_set passes keys file count = refl
 
-themselves : (pages : Pages) → AreReadAlike pages pages
+pub themselves : (pages : Pages) → AreReadAlike pages pages
 themselves pages = record {
   count = refl;
   usable = refl;
@@ -280,6 +266,12 @@ module _ (passes : Bool) (keys : FileKeys) (before after : List ℕ) (listed : I
 
   few : count < 2 ^ 32
   few = few_pages count from.was
+
+  abbrev change : ℕ
+  change = next_change (u32_at plain_before 24)
+
+  within : change < 2 ^ 32
+  within = Rattle.std.proofs.Math.Nat.mod-lt (u32_at plain_before 24 + 1) (omega arith)
 
   abbrev old : Pages
   old = opened_pages keys before count
@@ -313,7 +305,7 @@ module _ (passes : Bool) (keys : FileKeys) (before after : List ℕ) (listed : I
       ∙ sym (ap (λ (m : ℕ). is_page_number count m && accepts keys m (page_stored keys before m)) (eqb-true n 1 is))
 
   -- what is read of page 1
-  at_first : {A : Type 0} (f : List ℕ → A) → f (settled_page count plain_before from.header few) ≡ f plain_before → f (new.page 1) ≡ f (old.page 1)
+  at_first : {A : Type 0} (f : List ℕ → A) → f (settled_page count change plain_before from.header few within) ≡ f plain_before → f (new.page 1) ≡ f (old.page 1)
   at_first f same = by (is_page_number count 1)
     where
       by : (b : Bool) → f (if b then opened now 1 (page_stored keys after 1) else []) ≡ f (if b then opened keys 1 (page_stored keys before 1) else [])
@@ -326,11 +318,11 @@ module _ (passes : Bool) (keys : FileKeys) (before after : List ℕ) (listed : I
     usable = refl;
     accepted = λ n. accept_same n (n == 1) refl;
     page = λ n other. by_number n (is_page_number count n) refl other;
-    node = λ family. at_first (read_node family 1) (page_node count plain_before from.header few family);
-    kind = at_first (kind_at 1) (page_kind count plain_before from.header few);
-    trunk = at_first (λ (bytes : List ℕ). u32_at bytes 32) (page_field count plain_before from.header few 32 (omega arith) (omega arith));
-    free = at_first (λ (bytes : List ℕ). u32_at bytes 36) (page_field count plain_before from.header few 36 (omega arith) (omega arith));
-    kept = at_first kept_fields (page_kept count plain_before from.header few);
+    node = λ family. at_first (read_node family 1) (page_node count change plain_before from.header few within family);
+    kind = at_first (kind_at 1) (page_kind count change plain_before from.header few within);
+    trunk = at_first (λ (bytes : List ℕ). u32_at bytes 32) (page_field count change plain_before from.header few within 32 (omega arith) (omega arith));
+    free = at_first (λ (bytes : List ℕ). u32_at bytes 36) (page_field count change plain_before from.header few within 36 (omega arith) (omega arith));
+    kept = at_first kept_fields (page_kept count change plain_before from.header few within);
   }
 
   size_some : 16 ≤ keys.profile.page_size
@@ -339,9 +331,9 @@ module _ (passes : Bool) (keys : FileKeys) (before after : List ℕ) (listed : I
   begins : take 16 (page_stored keys after 1) ≡ take 16 (page_stored keys before 1)
   begins = first_of_page keys.profile.page_size after size_some ∙ (from.salt ∙ sym (first_of_page keys.profile.page_size before size_some))
 
-  sign : bears_sign (opened keys 1 (page_stored keys after 1)) ≡ bears_sign (opened keys 1 (page_stored keys before 1))
+  sign : bears_sign keys.profile (opened keys 1 (page_stored keys after 1)) ≡ bears_sign keys.profile (opened keys 1 (page_stored keys before 1))
   sign =
-      ap bears_sign (sym (opened_set passes keys 1 (page_stored keys after 1)) ∙ from.first) ∙ page_sign count plain_before from.header few
+      ap (bears_sign keys.profile) (sym (opened_set passes keys 1 (page_stored keys after 1)) ∙ from.first) ∙ page_sign count change plain_before from.header few within keys.profile
 
   fits_now : fits now (page_stored keys after 1) ≡ true
   fits_now =
@@ -360,7 +352,7 @@ counted_so len (Ok h) n is = (h, refl, by_count (count_of_pages h len) is)
     by_count (Ok m) is = ap (λ (k : ℕ). Ok k) (some_is m n is)
     by_count (Err refusal) is = cc
 
-few_pages : (keys : FileKeys) (file : List ℕ) (n : ℕ) → IsListed keys.profile → count_of keys file ≡ Some n → n < 2 ^ 32
+pub few_pages : (keys : FileKeys) (file : List ℕ) (n : ℕ) → IsListed keys.profile → count_of keys file ≡ Some n → n < 2 ^ 32
 few_pages keys file n listed is =
     let by = counted_so (length file) _ n (not_short (nat_lt (length file) keys.profile.page_size) _ is) in
     let least = (IsListed-laid_out keys.profile listed).least in
@@ -370,41 +362,3 @@ few_pages keys file n listed is =
     not_short : (b : Bool) (o : Option ℕ) → (if b then None else o) ≡ Some n → o ≡ Some n
     not_short true o is = cc
     not_short false o is = is
-
-pub settled_clean : (profile : Profile) (secret : Secret) (before after : List ℕ) → IsListed profile
-    → IsSettledFrom (keys_of (with_log profile) secret before) (keys_of profile secret after) before after → (clean : IsClean (keys_of (with_log profile) secret before) before)
-    → (now : IsClean (keys_of profile secret after) after) × (now.held ≡ clean.held)
-settled_clean profile secret before after listed from clean = ⊎_elim by_change by_none from
-  where
-    new_keys : salt_of after ≡ salt_of before → keys_of profile secret after ≡ keys_set profile.reads_log (keys_of (with_log profile) secret before)
-    new_keys salt = same_keys profile secret after before salt ∙ sym (keys_set_of profile.reads_log true profile secret before)
-
-    by_change : IsUnmarked (keys_of (with_log profile) secret before) (keys_of profile secret after) before after → (now : IsClean (keys_of profile secret after) after) × (now.held ≡ clean.held)
-    by_change unmarked =
-        let same = new_keys unmarked.salt in
-        subst (λ (k : FileKeys). (now : IsClean k after) × (now.held ≡ clean.held)) (sym same)
-        (clean_now profile.reads_log (keys_of (with_log profile) secret before) before after (listed_set true profile listed) clean.opens.fit
-        (λ n is. few_pages (keys_of (with_log profile) secret before) before n (listed_set true profile listed) is)
-        (subst (λ (k : FileKeys). IsUnmarked (keys_of (with_log profile) secret before) k before after) same unmarked) clean)
-
-    by_none : WasUnmarked (keys_of (with_log profile) secret before) (keys_of profile secret after) before after → (now : IsClean (keys_of profile secret after) after) × (now.held ≡ clean.held)
-    by_none was =
-        let same = new_keys (ap (λ (l : List ℕ). salt_of l) was.same) in
-        let set = keys_set profile.reads_log (keys_of (with_log profile) secret before) in
-        let is : count_of set before ≡ Some was.count = subst (λ (l : List ℕ). count_of set l ≡ Some was.count) was.same (subst (λ (k : FileKeys). count_of k after ≡ Some was.count) same was.is) in
-        let alike = subst (λ (p : Pages). AreReadAlike (opened_pages (keys_of (with_log profile) secret before) before was.count) p)
-        (sym (pages_set profile.reads_log (keys_of (with_log profile) secret before) before was.count)) (themselves (opened_pages (keys_of (with_log profile) secret before) before was.count)) in
-        let now = clean_alike (keys_of (with_log profile) secret before) set before before was.count alike was.was is
-        (fits_set profile.reads_log (keys_of (with_log profile) secret before) (page_stored (keys_of (with_log profile) secret before) before 1) ∙ clean.opens.fit) clean in
-        subst (λ (k : FileKeys). (now : IsClean k after) × (now.held ≡ clean.held)) (sym same) (subst (λ (l : List ℕ). (now : IsClean set l) × (now.held ≡ clean.held)) (sym was.same) now)
-
--- after Done of a run that settles a file which was checked
-pub settle_done : (profile : Profile) (first second : Secret) (frames : ℕ) (tells : Bool) (drawn before : List ℕ) (old_one : Files → Type 0) (new_one : List ℕ → Files → Type 0) (run : DiskRun)
-    → IsListed profile → StaysOrRenews Done (IsNewDrawn (ChangeFile profile (SettleBy frames)) (renewed profile (SettleBy frames) first second) tells drawn before) old_one new_one run
-    → (laid : CanBeLaid profile first before) → (now : IsClean (keys_of profile first (main_of run.after)) (main_of run.after)) × (now.held ≡ laid.clean.held)
-settle_done profile first second frames tells drawn before old_one new_one run listed ended laid = ⊎_elim
-    (λ stays. absurd (stays.not_done refl))
-    (λ renews.
-    let main : main_of run.after ≡ renews.file = ap (λ (o : Option (List ℕ)). unwrap_or o []) (renews.is_main refl) in
-    subst (λ (l : List ℕ). (now : IsClean (keys_of profile first l) l) × (now.held ≡ laid.clean.held)) (sym main)
-    (settled_clean profile first before renews.file listed renews.is_new.0 laid.clean)) ended

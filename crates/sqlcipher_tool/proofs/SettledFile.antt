@@ -1,8 +1,8 @@
 -- A settling, as its disk shows it.
 use Rattle.std.proofs.Common.{◌≡◌, ◌⊎◌, ⊎_elim, inl, inr, ◌==◌, ◌≤◌, ◌<◌, ◌+◌, ◌^◌, ◌&&◌, ℕ, Bool, true, false, List, [], ◌∷◌, length, drop, Option, Some, Result, Ok, Err, IsTrue, refl, sym, ap, subst, ◌∙◌, arith, rules}
-use Rattle.std.specs.Prelude.{OnOk, if◌then◌else◌}
+use Rattle.std.specs.Prelude.{OnOk, if◌then◌else◌, not, unwrap_or}
 use Rattle.cipher_profile.proofs.Layouts.{IsListed-laid_out}
-use Rattle.cipher_profile.specs.Profile.{IsListed, set_log, with_log}
+use Rattle.cipher_profile.specs.Profile.{IsListed, set_log, usable, with_log}
 use Rattle.cipher_profile.specs.declared.keys.Secret.{Secret}
 use Rattle.cipher_profile.specs.declared.profile.Profile.{Profile}
 use Rattle.fresh_disk.specs.Published.{IsAlone}
@@ -21,14 +21,15 @@ use Rattle.pager.specs.Pages.{is_page_number, opened_pages}
 use Rattle.rekey_job.specs.Draws.{FileDraws}
 use Rattle.sqlcipher_tool.specs.Answer.{Answer}
 use Rattle.sqlcipher_tool.specs.FirstPage.{IsFirstChanged, next_change}
-use Rattle.sqlcipher_tool.specs.Opening.{open_answer, unopened_answer}
+use Rattle.sqlcipher_tool.specs.Opening.{open_answer, page_count_of, unopened_answer}
 use Rattle.sqlcipher_tool.specs.Stop.{IsOutside, stop_answer}
 use Rattle.sqlcipher_tool.specs.declared.opening.Stop.{Stop}
 use Rattle.sqlcipher_tool.specs.declared.opening.Stop.TheVariants.{Refused as StopRefused, KeyRefused as StopKey, DiskFault as StopDisk, OutOfMemory as StopMemory}
 use Rattle.sqlcipher_tool.specs.Change.{KeepsOld, KeepsOrCommits}
 use Rattle.sqlcipher_tool.specs.Holding.{HoldsOnly, held_by}
 use Rattle.sqlcipher_tool.specs.Renewal.{WithDraws}
-use Rattle.sqlcipher_tool.specs.Settle.{IsMarkStop, IsSettledFrom, IsSettledUnder, SettledDraws, first_plain, has_maps, keys_set, marks_of, settled_answer, versions, versions_at}
+use Rattle.sqlcipher_tool.specs.Maps.{AreMapsFreed, first_plain, has_maps, is_rewritten, versions, versions_at, without_maps}
+use Rattle.sqlcipher_tool.specs.Settle.{IsMarkStop, IsSettledFrom, IsSettledUnder, SettledDraws, keys_set, marks_of, settled_answer}
 use Rattle.sqlcipher_tool.specs.declared.settle.Marks.{Marks}
 use Rattle.sqlcipher_tool.specs.declared.settle.Marks.TheVariants.{Maps, Rollback, Wal}
 use Rattle.sqlcipher_tool.specs.declared.status.Status.{Status}
@@ -36,9 +37,11 @@ use Rattle.sqlcipher_tool.specs.declared.status.Status.TheVariants.{Done}
 use Rattle.sqlcipher_tool.proofs.ChangedFields.{changed_read}
 use Rattle.sqlcipher_tool.proofs.ChangedPages.{count_few}
 use Rattle.sqlcipher_tool.proofs.Changing.{commits_done, read_only}
+use Rattle.sqlcipher_tool.proofs.Committed.{some_file}
 use Rattle.sqlcipher_tool.proofs.Databases.{alone_holds, counted_pages}
+use Rattle.sqlcipher_tool.proofs.MapsPage.{freed_length, freed_read, freed_root}
 use Rattle.sqlcipher_tool.proofs.OpenedParts.{IsOpen, header_size, open_accepts, open_count, open_parts}
-use Rattle.sqlcipher_tool.proofs.Stamping.{same_keys, some_file}
+use Rattle.sqlcipher_tool.proofs.Stamping.{same_keys}
 use Rattle.sqlcipher_tool.proofs.Unmarked.{accepts_set, count_set, first_version, holds_set, keys_set_of, maps_kept, opened_set, second_version, unmarked, unmarked_length, unmarked_read, versions_read}
 use Rattle.sqlcipher_tool.proofs.Verified.{some_is}
 use Rattle.sqlcipher_tool.proofs.VerifiedFile.{outside_none}
@@ -114,7 +117,7 @@ module _ {D : Type 0} (reads : D → Files) (images : D → Files → Type 0) (m
       → KeepsOrCommits reads images moment since Done (WithDraws (IsSettledUnder keys file) tells (λ f. SettledDraws keys f drawn))
       (HoldsOnly (held_by keys file)) (λ f. HoldsOnly (held_by keys f)) old new
   already tells drawn marks none main =
-      inr (commits_done reads images moment since counts_now only_now file (inr (marks, refl), λ told. inl none)
+      inr (commits_done reads images moment since counts_now only_now file (inr (inl (marks, refl)), λ told. inl none)
       (read_only reads images moment since counts_now only_now (λ c now. inl (alone_holds keys file c (alone c now))) read)
       (λ c here. let is = alone c (read.same_images.no_more c here) in (alone_holds keys file c is, is.journal)) main)
 
@@ -123,19 +126,21 @@ module _ {D : Type 0} (reads : D → Files) (images : D → Files → Type 0) (m
 -- the setting changes no profile that is served
 pub listed_set : (passes : Bool) (profile : Profile) → IsListed profile → IsListed (set_log passes profile)
 unfolding IsListed
-listed_set passes profile listed = listed
+listed_set passes profile listed = ⊎_elim
+    (λ ciphered. inl (record { version = ciphered.version; size = ciphered.size; rounds = ciphered.rounds; tags = ciphered.tags; reserve = ciphered.reserve }))
+    (λ plain. inr plain) listed
 
 -- a page is sealed alike with the setting and without it
-file_draws_set : (passes : Bool) (keys : FileKeys) (main drawn : List ℕ) → FileDraws keys main (λ n. n == 1) 0 drawn → FileDraws (keys_set passes keys) main (λ n. n == 1) 0 drawn
+file_draws_set : (passes : Bool) (keys : FileKeys) (main drawn : List ℕ) (test : ℕ → Bool) → FileDraws keys main test 0 drawn → FileDraws (keys_set passes keys) main test 0 drawn
 unfolding opened deciphered sealed enciphered untagged
-file_draws_set passes keys main drawn own = own
+file_draws_set passes keys main drawn test own = own
 
 -- a file that does not open
-pub unopened_settle : (frames : ℕ) (first : List ℕ) (stop : Stop) (found : Result Opened OpenError) (answer : Answer) → IsOutside stop ⊎ (stop_answer stop ≡ unopened_answer found)
-    → stop_answer stop ≡ Some answer → answer ≡ settled_answer frames first found
-unopened_settle frames first stop found answer is same = ⊎_elim (λ outside. absurd (outside_none stop answer outside same)) (λ unopened. by_opened found (sym unopened ∙ same)) is
+pub unopened_settle : (usable frames : ℕ) (first : List ℕ) (stop : Stop) (found : Result Opened OpenError) (answer : Answer) → IsOutside stop ⊎ (stop_answer stop ≡ unopened_answer found)
+    → stop_answer stop ≡ Some answer → answer ≡ settled_answer usable frames first found
+unopened_settle usable frames first stop found answer is same = ⊎_elim (λ outside. absurd (outside_none stop answer outside same)) (λ unopened. by_opened found (sym unopened ∙ same)) is
   where
-    by_opened : (found : Result Opened OpenError) → unopened_answer found ≡ Some answer → answer ≡ settled_answer frames first found
+    by_opened : (found : Result Opened OpenError) → unopened_answer found ≡ Some answer → answer ≡ settled_answer usable frames first found
     by_opened (Ok found) is = cc
     by_opened (Err error) is = sym (some_is (open_answer error) answer is)
 
@@ -163,6 +168,15 @@ wal_is plain is = by_tests (has_maps plain) (u8_at plain 18 == 1 && u8_at plain 
     by_tests true b is = cc
     by_tests false b is = refl
 
+-- what has map pages says so
+pub maps_is : (plain : List ℕ) → marks_of plain ≡ Maps → has_maps plain ≡ true
+maps_is plain is = by_tests (has_maps plain) (u8_at plain 18 == 1 && u8_at plain 19 == 1) is
+  where
+    by_tests : (a b : Bool) → (if a then Maps else (if b then Rollback else Wal)) ≡ Maps → a ≡ true
+    by_tests true b is = refl
+    by_tests false true is = cc
+    by_tests false false is = cc
+
 -- A file that opens where marks pass, and the file that it was settled to.
 module _ (profile : Profile) (secret : Secret) (file : List ℕ) (header : Header) (n : ℕ) (some : 1 ≤ n) (listed : IsListed profile)
     (opens : file_opened (keys_of (with_log profile) secret file) file ≡ Ok (record { header = header; count = n })) (main : List ℕ)
@@ -177,7 +191,7 @@ module _ (profile : Profile) (secret : Secret) (file : List ℕ) (header : Heade
   is_open = open_parts keys file header n opens
 
   pub same_salt : salt_of main ≡ salt_of file
-  same_salt = ⊎_elim (λ changed. changed.1.salt) (λ same. ap (λ (l : List ℕ). salt_of l) same.1) under
+  same_salt = ⊎_elim (λ changed. changed.1.salt) (λ rest. ⊎_elim (λ same. ap (λ (l : List ℕ). salt_of l) same.1) (λ freed. freed.1.salt) rest) under
 
   -- the keys without the setting
   pub new_keys : keys_of profile secret main ≡ keys_set profile.reads_log keys
@@ -186,7 +200,8 @@ module _ (profile : Profile) (secret : Secret) (file : List ℕ) (header : Heade
   pub counted : count_of keys main ≡ Some n
   counted = ⊎_elim
       (λ changed. changed.1.is ∙ ap (λ (k : ℕ). Some k) (some_is changed.1.count n (sym changed.1.was ∙ open_count keys file header n is_open)))
-      (λ same. ap (count_of keys) same.1 ∙ open_count keys file header n is_open) under
+      (λ rest. ⊎_elim (λ same. ap (count_of keys) same.1 ∙ open_count keys file header n is_open)
+      (λ freed. freed.1.is ∙ ap (λ (k : ℕ). Some k) (some_is freed.1.count n (sym freed.1.was ∙ open_count keys file header n is_open))) rest) under
 
   few : n < 2 ^ 32
   few =
@@ -196,7 +211,7 @@ module _ (profile : Profile) (secret : Secret) (file : List ℕ) (header : Heade
 
   -- page 1 of it is read by all rules
   pub read_all : (h : Header) × (header_read (first_plain keys main) size profile.reserve ≡ Ok h)
-  read_all = ⊎_elim by_change by_none under
+  read_all = ⊎_elim by_change (λ rest. ⊎_elim by_none by_maps rest) under
     where
       by_change : (marks_of (first_plain keys file) ≡ Wal) × IsFirstChanged keys versions_at versions file main → (h : Header) × (header_read (first_plain keys main) size profile.reserve ≡ Ok h)
       by_change changed =
@@ -225,6 +240,29 @@ module _ (profile : Profile) (secret : Secret) (file : List ℕ) (header : Heade
                 ∙ unmarked_read (first_plain keys file) size profile.reserve header is.1 is.2 is.0 is_open.read,
           )
 
+      by_maps : (marks_of (first_plain keys file) ≡ Maps) × AreMapsFreed keys keys file main → (h : Header) × (header_read (first_plain keys main) size profile.reserve ≡ Ok h)
+      by_maps freed =
+          let plain = first_plain keys file in
+          let long = freed.1.header in
+          let u = usable keys.profile in
+          let count = freed.1.count in
+          let same : count ≡ n = some_is count n (sym freed.1.was ∙ open_count keys file header n is_open) in
+          let base = without_maps u count plain in
+          let long_base : 100 ≤ length base = omega (arith, long, freed_length u count plain long) in
+          let one = unmarked base long_base in
+          let change = next_change (u32_at plain 24) in
+          let none : has_maps base ≡ false = ap (λ (r : ℕ). not (r == 0)) (freed_root u count plain long) in
+          let was : header_read one size profile.reserve ≡ Ok (header_fields one) =
+          unmarked_read one size profile.reserve (header_fields one) (first_version base long_base) (second_version base long_base) (maps_kept base long_base ∙ none)
+          (versions_read base long_base size profile.reserve (header_fields base) (freed_read u count plain long size profile.reserve header is_open.read)) in
+          let fits : change < 2 ^ 32 = Rattle.std.proofs.Math.Nat.mod-lt (u32_at plain 24 + 1) (omega arith) in
+          let long_one : 100 ≤ length one = omega (arith, long_base, unmarked_length base long_base) in
+          let few_count : count < 2 ^ 32 = omega (arith, few, same) in (
+            _,
+            ap (λ (page : List ℕ). header_read page size profile.reserve) freed.1.first
+                ∙ changed_read false count change size profile.reserve one (header_fields one) long_one few_count fits was,
+          )
+
   new_counted : count_of (keys_set profile.reads_log keys) main ≡ count_of keys main
   new_counted = count_set profile.reads_log keys main read_all.0 read_all.1
 
@@ -241,7 +279,21 @@ module _ (profile : Profile) (secret : Secret) (file : List ℕ) (header : Heade
         accepted = accepts_set profile.reads_log keys 1 (page_stored keys main 1) ∙ changed.1.accepted;
         others = changed.1.others;
       }))
-      (λ same. inr (record { same = same.1; count = n; was = open_count keys file header n is_open; is = new_counted ∙ counted })) under
+      (λ rest. inr (⊎_elim
+      (λ same. inl (record { same = same.1; count = n; was = open_count keys file header n is_open; is = new_counted ∙ counted }))
+      (λ freed. inr (record {
+        count = freed.1.count;
+        was = freed.1.was;
+        some = freed.1.some;
+        header = freed.1.header;
+        there = freed.1.there;
+        is = new_counted ∙ freed.1.is;
+        salt = freed.1.salt;
+        first = opened_set profile.reads_log keys 1 (page_stored keys main 1) ∙ freed.1.first;
+        trunk = λ k less is. opened_set profile.reads_log keys _ _ ∙ freed.1.trunk k less is;
+        accepted = λ m from to is. accepts_set profile.reads_log keys m (page_stored keys main m) ∙ freed.1.accepted m from to is;
+        others = freed.1.others;
+      })) rest)) under
 
   pub settled_from : IsSettledFrom keys (keys_of profile secret main) file main
   settled_from = subst (λ (k : FileKeys). IsSettledFrom keys k file main) (sym new_keys) settled_set
@@ -251,7 +303,10 @@ module _ (profile : Profile) (secret : Secret) (file : List ℕ) (header : Heade
       subst (λ (k : FileKeys). HoldsOnly (held_by k main) image) (sym new_keys) (holds_set profile.reads_log keys main n read_all.0 image some counted read_all.1 holds)
 
   draws_set : (drawn : List ℕ) → SettledDraws keys main drawn → SettledDraws (keys_set profile.reads_log keys) main drawn
-  draws_set drawn draws = ⊎_elim (λ none. inl none) (λ own. inr (file_draws_set profile.reads_log keys main drawn own)) draws
+  draws_set drawn draws = ⊎_elim (λ none. inl none) (λ rest. inr (⊎_elim
+      (λ own. inl (file_draws_set profile.reads_log keys main drawn (λ m. m == 1) own))
+      (λ own. inr (subst (λ (o : Option ℕ). FileDraws (keys_set profile.reads_log keys) main (is_rewritten (usable keys.profile) (unwrap_or o 0)) 0 drawn) (sym new_counted)
+      (file_draws_set profile.reads_log keys main drawn (is_rewritten (usable keys.profile) (page_count_of keys main)) own))) rest)) draws
 
   pub settled_draws : (drawn : List ℕ) → SettledDraws keys main drawn → SettledDraws (keys_of profile secret main) main drawn
   settled_draws drawn draws = subst (λ (k : FileKeys). SettledDraws k main drawn) (sym new_keys) (draws_set drawn draws)

@@ -1,5 +1,5 @@
 -- A transaction that changes page 1 alone, as its disk shows it.
-use Rattle.std.proofs.Common.{◌≡◌, ◌≤◌, ◌*◌, ℕ, Bool, List, [], length, drop, Option, Some, None, Result, Ok, Err, IsTrue, refl, sym, ap, subst, ◌∙◌, arith, rules}
+use Rattle.std.proofs.Common.{◌≡◌, ◌≤◌, ◌*◌, ℕ, Bool, List, [], length, drop, Some, Result, Ok, Err, IsTrue, refl, sym, ap, subst, ◌∙◌, arith, rules}
 use Rattle.std.specs.Bool.{beq}
 use Rattle.std.specs.Prelude.{OnOk, if◌then◌else◌, ◌&&◌, ◌==◌, true, false}
 use Rattle.std.specs.Str.{bytes_eq}
@@ -9,9 +9,8 @@ use Rattle.cipher_profile.specs.Profile.{IsListed, is_plain, usable}
 use Rattle.cipher_profile.specs.declared.profile.Profile.{Profile}
 use Rattle.cipher_profile.proofs.Layouts.{IsListed-laid_out}
 use Rattle.db_format.specs.declared.header.Header.{Header}
-use Rattle.edge_model.specs.Files.{File, Files, bytes_of, contents, main_of}
+use Rattle.edge_model.specs.Files.{Files, main_of}
 use Rattle.edge_model.specs.Images.{Each, LeavesOnly}
-use Rattle.edge_model.specs.Moments.{and_then, started, weaker}
 use Rattle.db_format.specs.Pages.{Pages}
 use Rattle.page_cache.specs.Pages.{Page}
 use Rattle.cipher_profile.specs.declared.keys.Secret.{Secret}
@@ -19,7 +18,7 @@ use Rattle.edge_model.specs.Causes.{Rose}
 use Rattle.page_codec.specs.Page.{FileKeys, accepts, keys_of, keys_with_salt, magic, opened, salt_of}
 use Rattle.pager.specs.Base.{base_of}
 use Rattle.pager.specs.Changed.{same_layout, with_bytes}
-use Rattle.pager.specs.Database.{count_by, count_of}
+use Rattle.pager.specs.Database.{count_by}
 use Rattle.pager.specs.File.{page_stored}
 use Rattle.pager.specs.Opening.{file_opened}
 use Rattle.pager.specs.declared.opening.OpenError.{OpenError}
@@ -29,12 +28,11 @@ use Rattle.pager.specs.declared.fill.PageError.{PageError}
 use Rattle.pager.specs.declared.fill.PageError.TheVariants.{OutOfRange, TagRefused, DiskFault as PageFault, EntropyFault as DrawFault, AllPinned}
 use Rattle.atomic_commit.specs.Commit.{IsCommitted, LeavesChanged}
 use Rattle.pager.specs.UnderWay.{HasNewPages, Start, is_touched, seen_pages, IsRefusedAs}
-use Rattle.pager.proofs.UnderWayLemmas.{same_main}
-use Rattle.atomic_commit.specs.Database.{Base, HoldsEither, HoldsOld, HoldsPages, stored_pages}
-use Rattle.atomic_commit.specs.Facts.{IsBase, IsCommitBegun}
+use Rattle.atomic_commit.specs.Database.{HoldsEither, HoldsOld, stored_pages}
+use Rattle.atomic_commit.specs.Facts.{IsBase}
 use Rattle.atomic_commit.specs.Marks.{is_marked}
 use Rattle.sqlcipher_tool.specs.Answer.{IsFault}
-use Rattle.sqlcipher_tool.specs.Change.{Commits, IsLateChange, KeepsOld, KeepsOrCommits, change_status, IsStopOf}
+use Rattle.sqlcipher_tool.specs.Change.{Commits, IsLateChange, KeepsOrCommits, change_status, IsStopOf}
 use Rattle.sqlcipher_tool.specs.Stop.{IsLateStop, stop_of}
 use Rattle.rekey_job.specs.Draws.{FileDraws}
 use Rattle.sqlcipher_tool.specs.Holding.{HoldsOnly, held_by}
@@ -42,20 +40,15 @@ use Rattle.sqlcipher_tool.specs.Renewal.{WithDraws}
 use Rattle.sqlcipher_tool.specs.FirstPage.{IsFirstChanged, IsHarmless, changed_page, next_change, with_field}
 use Rattle.sqlcipher_tool.specs.declared.opening.Stop.TheVariants.{DiskFault as StopDisk}
 use Rattle.sqlcipher_tool.specs.declared.opening.ChangeError.{ChangeError}
-use Rattle.sqlcipher_tool.specs.declared.status.Status.{Status}
 use Rattle.sqlcipher_tool.specs.declared.status.Status.TheVariants.{Done, DiskFault}
-use Rattle.sqlcipher_tool.proofs.Changing.{broken, committed}
-use Rattle.sqlcipher_tool.proofs.Databases.{alone_old, any_base, counted_pages, holds_new, holds_old, is_base, start_of, whole_count}
-use Rattle.sqlcipher_tool.proofs.OpenedParts.{IsOpen, header_size, open_accepts, open_count, open_parts}
+use Rattle.sqlcipher_tool.proofs.Databases.{any_base, counted_pages, is_base, start_of, whole_count}
+use Rattle.sqlcipher_tool.proofs.OpenedParts.{IsOpen, header_size, open_accepts, open_parts}
+use Rattle.sqlcipher_tool.proofs.Committed.{broke, ended, made_new}
 use Rattle.sqlcipher_tool.proofs.ChangedPages.{is_changed, new_count, new_long, own_draws, count_read}
 
 -- what holds where a call was done
 pub was_ok : {A E : Type 0} {P : Type 0} (r : Result A E) (a : A) → r ≡ Ok a → OnOk r P → P
 was_ok {P = P} r a is on = subst (λ (r : Result _ _). OnOk r P) is on
-
-pub some_file : (o : Option File) → 1 ≤ length (contents o) → bytes_of o ≡ Some (contents o)
-some_file None some = absurd (omega (arith, some))
-some_file (Some file) some = refl
 
 -- a file of just its pages has as many
 pub whole_counts : (keys : FileKeys) (file : List ℕ) (header : Header) (n : ℕ) → IsOpen keys file header n → 1 ≤ keys.profile.page_size → 1 ≤ n
@@ -117,6 +110,14 @@ sees_first keys read write file main header n count marks held one two three fre
       accepted = ap (λ (k : FileKeys). (opened_pages k file n).accepts 1) same
           ∙ (ap (λ (b : Bool). b && accepts keys 1 (page_stored keys file 1)) (one_number n some) ∙ open_accepts keys file header n listed (open_parts keys file header n opens));
     }
+
+-- of a page more than the first nothing was changed
+pub one_alone : (m : ℕ) (b : Bool) → b ≡ false → (if m == 1 then true else b) ≡ (m == 1)
+one_alone m b is = ap (λ (b : Bool). if m == 1 then true else b) is ∙ alone (m == 1)
+  where
+    alone : (b : Bool) → (if b then true else false) ≡ b
+    alone true = refl
+    alone false = refl
 
 -- the page that is written is the changed one
 pub page_is : (keys : FileKeys) (file seen : List ℕ) (header fields : Header) (n pages change at : ℕ) (bytes : List ℕ)
@@ -211,104 +212,57 @@ same_keys profile secret one two same = ap (λ (salt : List ℕ). keys_with_salt
 
 -- ---- the disk
 
--- A file that opens, alone in each image, and a transaction from it.
+-- A file that opens, alone in each image, and a transaction from it that changed page 1 alone.
 module _ {D : Type 0} (reads : D → Files) (images : D → Files → Type 0) (moment : D → ℕ) (since : D → ℕ → Files → Type 0)
     (counts_now : (disk : D) (t : ℕ) (c : Files) → t ≤ moment disk → images disk c → since disk t c)
     (only_now : (disk : D) (c : Files) → since disk (moment disk) c → images disk c)
     (keys : FileKeys) (file : List ℕ) (header : Header) (n : ℕ) (opens : file_opened keys file ≡ Ok (record { header = header; count = n })) (some : 1 ≤ n)
-    (start : Start) (is_start : start.base ≡ base_of keys file n) (old mid new : D) (alone : Each (images old) (IsAlone file)) where
-  abbrev pub Old : Files → Type 0
-  Old image = HoldsOnly (held_by keys file) image
+    (start : Start) (is_start : start.base ≡ base_of keys file n) (old mid new : D) (alone : Each (images old) (IsAlone file))
+    (run : LeavesOnly moment since old mid (HoldsOld start.base)) (at : ℕ) (bytes : List ℕ) (harmless : IsHarmless keys.profile at bytes) (salt : keys.salt ≡ salt_of file)
+    (listed : IsListed keys.profile) (touched : ℕ → Bool) (pages : ℕ → List ℕ) (tells : Bool) (after : List ℕ)
+    (is_page : pages 1 ≡ changed_page at bytes n (opened keys 1 (page_stored keys file 1))) (one : (m : ℕ) → is_page_number n m ≡ true → touched m ≡ (m == 1)) where
+  abbrev pub IsNew : List ℕ → Type 0
+  IsNew = WithDraws (IsFirstChanged keys at bytes file) tells (λ main. FileDraws keys main (λ m. m == 1) 0 (drop (length start.drawn) after))
 
-  abbrev pub New : List ℕ → Files → Type 0
-  New main image = HoldsOnly (held_by keys main) image
+  abbrev pub HasNew : List ℕ → Type 0
+  HasNew main = HasNewPages start keys touched pages tells after main
+
+  abbrev HasPages : List ℕ → Type 0
+  HasPages main = HasNewPages (start_of keys file n start.drawn) keys touched pages tells after main
 
   parts : IsOpen keys file header n
   parts = open_parts keys file header n opens
 
-  counts : count_of keys file ≡ Some n
-  counts = open_count keys file header n parts
+  room : 120 ≤ usable keys.profile
+  room = let content = (IsListed-laid_out keys.profile listed).content in omega (arith, content)
 
-  was_old : (c : Files) → HoldsOld start.base c → Old c
-  was_old c holds = holds_old keys file n c some counts (subst (λ (b : Base). HoldsOld b c) is_start holds)
+  sized : 1 ≤ keys.profile.page_size
+  sized = let least = (IsListed-laid_out keys.profile listed).least in omega (arith, least)
 
-  -- what the transaction asks of the images
-  pub begun : IsBase start.base → IsCommitBegun start.base (images old)
-  begun is = record {
-    base_is = is;
-    no_journal = λ c now. (alone c now).journal;
-    holds = λ c now. subst (λ (b : Base). HoldsOld b c) (sym is_start) (alone_old keys file n c counts (alone c now));
-  }
+  is_new : (main : List ℕ) → HasPages main → IsNew main
+  is_new main has = (
+    is_changed keys at bytes harmless n file header parts some salt room touched pages tells start.drawn after main is_page one has,
+    own_draws keys at bytes harmless n file header parts some salt room touched pages tells start.drawn after main is_page one has,
+  )
 
-  -- it was not begun
-  pub unbegun : (status : Status) → (status ≡ Done → ⊥) → new ≡ old → KeepsOld moment since status Old old new
-  unbegun status never same = record {
-    any_moment = subst (λ (d : D). LeavesOnly moment since old d Old) (sym same) (started only_now old Old (λ c now. holds_old keys file n c some counts (alone_old keys file n c counts (alone c now))));
-    not_done = never;
-  }
+  counts_new : (main : List ℕ) → HasPages main → (len : ℕ) → n * keys.profile.page_size ≤ len → count_by keys (page_stored keys main 1) len ≡ Some n
+  counts_new main has = new_count keys at bytes harmless n file header parts some salt room touched pages tells start.drawn after main is_page one has
 
-  module _ (run : LeavesOnly moment since old mid (HoldsOld start.base)) where
-    before : LeavesOnly moment since old mid Old
-    before = weaker was_old run
+  is_long : (main : List ℕ) → HasPages main → n * keys.profile.page_size ≤ length main
+  is_long main has = new_long keys at bytes harmless n file header parts some salt room touched pages tells start.drawn after main is_page one has
 
-    -- it was not ended
-    pub unended : (status : Status) → (status ≡ Done → ⊥) → new ≡ mid → KeepsOld moment since status Old old new
-    unended status never same = record { any_moment = subst (λ (d : D). LeavesOnly moment since old d Old) (sym same) before; not_done = never }
+  -- the commit was done
+  pub done : HasNew (main_of (reads new)) → Each (images new) (IsCommitted start.base (main_of (reads new)))
+      → LeavesOnly moment since mid new (HoldsEither start.base (stored_pages start.base.size start.base.pages (main_of (reads new))))
+      → Commits reads images moment since Done IsNew (λ image. HoldsOnly (held_by keys file) image) (λ main image. HoldsOnly (held_by keys main) image) old new
+  done has now either =
+      ended reads images moment since counts_now only_now keys file header n opens some start is_start old mid new alone run touched pages tells after IsNew sized is_new counts_new is_long has now either
 
-    -- it was not committed
-    pub unwritten : (status : Status) → (status ≡ Done → ⊥) → LeavesOnly moment since mid new (HoldsOld start.base) → KeepsOld moment since status Old old new
-    unwritten status never next = record { any_moment = and_then before (weaker was_old next); not_done = never }
+  -- the disk failed in it
+  pub failed : LeavesChanged moment since start.base HasNew mid new
+      → KeepsOrCommits reads images moment since DiskFault IsNew (λ image. HoldsOnly (held_by keys file) image) (λ main image. HoldsOnly (held_by keys main) image) old new
+  failed broken = broke reads images moment since counts_now only_now keys file header n opens some start is_start old mid new alone run touched pages tells after IsNew sized is_new counts_new is_long broken
 
-    module _ (at : ℕ) (bytes : List ℕ) (harmless : IsHarmless keys.profile at bytes) (salt : keys.salt ≡ salt_of file) (listed : IsListed keys.profile)
-        (touched : ℕ → Bool) (pages : ℕ → List ℕ) (tells : Bool) (after : List ℕ)
-        (is_page : pages 1 ≡ changed_page at bytes n (opened keys 1 (page_stored keys file 1))) (one : (m : ℕ) → is_page_number n m ≡ true → touched m ≡ (m == 1)) where
-      abbrev pub IsNew : List ℕ → Type 0
-      IsNew = WithDraws (IsFirstChanged keys at bytes file) tells (λ main. FileDraws keys main (λ m. m == 1) 0 (drop (length start.drawn) after))
-
-      abbrev pub HasNew : List ℕ → Type 0
-      HasNew main = HasNewPages start keys touched pages tells after main
-
-      room : 120 ≤ usable keys.profile
-      room = let content = (IsListed-laid_out keys.profile listed).content in omega (arith, content)
-
-      size_some : 120 ≤ keys.profile.page_size
-      size_some = let least = (IsListed-laid_out keys.profile listed).least in omega (arith, least)
-
-      as_file : (main : List ℕ) → HasNew main → HasNewPages (start_of keys file n start.drawn) keys touched pages tells after main
-      as_file main has = subst (λ (b : Base). HasNewPages (record { base = b; drawn = start.drawn }) keys touched pages tells after main) is_start has
-
-      is_new : (main : List ℕ) → HasNew main → IsNew main
-      is_new main has = (
-        is_changed keys at bytes harmless n file header parts some salt room touched pages tells start.drawn after main is_page one (as_file main has),
-        own_draws keys at bytes harmless n file header parts some salt room touched pages tells start.drawn after main is_page one (as_file main has),
-      )
-
-      is_long : (main : List ℕ) → HasNew main → n * keys.profile.page_size ≤ length main
-      is_long main has = new_long keys at bytes harmless n file header parts some salt room touched pages tells start.drawn after main is_page one (as_file main has)
-
-      holds : (main : List ℕ) → HasNew main → (image : Files) → HoldsPages start.base (stored_pages start.base.size start.base.pages main) image → New main image
-      holds main has image is =
-          holds_new keys file main n image some (new_count keys at bytes harmless n file header parts some salt room touched pages tells start.drawn after main is_page one (as_file main has)) (is_long main has)
-          (subst (λ (b : Base). HoldsPages b (stored_pages b.size b.pages main) image) is_start is)
-
-      -- the commit was done
-      pub done : HasNew (main_of (reads new)) → Each (images new) (IsCommitted start.base (main_of (reads new)))
-          → LeavesOnly moment since mid new (HoldsEither start.base (stored_pages start.base.size start.base.pages (main_of (reads new))))
-          → Commits reads images moment since Done IsNew Old New old new
-      done has now either =
-          let main = main_of (reads new) in
-          committed reads images moment since counts_now only_now start.base HasNew was_old is_new holds before main has now either
-          (some_file (reads new).main (omega (arith, size_some, one_at n keys.profile.page_size (length main) some (is_long main has))))
-        where
-          one_at : (n size len : ℕ) → 1 ≤ n → n * size ≤ len → size ≤ len
-          one_at n size len some le =
-              let each : size ≤ size * n = Rattle.std.proofs.Math.Nat.le-mul_of_pos_right {m = n} size (omega (arith, some)) in
-              omega (arith, each, le, Rattle.std.proofs.Math.Nat.mul_comm size n)
-
-      -- the disk failed in it
-      pub failed : LeavesChanged moment since start.base HasNew mid new → KeepsOrCommits reads images moment since DiskFault IsNew Old New old new
-      failed run = broken reads images moment since counts_now only_now start.base HasNew was_old is_new holds before run
-
-      pub draws : IsTrue tells → HasNew (main_of (reads new)) → FileDraws keys (main_of (reads new)) (λ m. m == 1) 0 (drop (length start.drawn) after)
-      draws told has = subst (λ (l : List ℕ). FileDraws keys l (λ m. m == 1) 0 (drop (length start.drawn) after)) (sym (same_main (reads new)))
-          ((is_new (main_of (reads new)) has).1 told)
+  pub draws : IsTrue tells → HasNew (main_of (reads new)) → FileDraws keys (main_of (reads new)) (λ m. m == 1) 0 (drop (length start.drawn) after)
+  draws told has =
+      (made_new reads images moment since counts_now only_now keys file header n opens some start is_start old mid new alone run touched pages tells after IsNew sized is_new counts_new is_long has).1 told

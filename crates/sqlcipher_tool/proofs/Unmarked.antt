@@ -1,6 +1,6 @@
 -- A page 1 without the marks of WAL mode and of auto-vacuum is read whether marks pass or not, and keys with the setting and without it are
 -- otherwise the same.
-use Rattle.std.proofs.Common.{◌≡◌, inl, inr, ◌==◌, ◌≤◌, ◌<◌, ◌+◌, ◌&&◌, not, ℕ, suc, zero, Bool, true, false, List, [], ◌∷◌, length, map, Option, Some, None, Result, Ok, Err, IsTrue, refl, sym, ap, subst, ◌∙◌, arith, rules}
+use Rattle.std.proofs.Common.{◌≡◌, inl, inr, ◌==◌, ◌≤◌, ◌<◌, ◌+◌, ◌&&◌, not, ℕ, suc, zero, Bool, true, false, List, [], ◌∷◌, length, map, Option, Some, None, Result, Ok, refl, sym, ap, subst, ◌∙◌, arith, rules}
 use Rattle.std.specs.List.{range_with_len, slice_index_or}
 use Rattle.std.specs.Prelude.{if◌then◌else◌, nat_lt, slice_get, slice_index, unwrap_or}
 use Rattle.cipher_profile.specs.Profile.{set_log}
@@ -22,10 +22,10 @@ use Rattle.pager.specs.File.{page_stored}
 use Rattle.pager.specs.Opening.{Opened, file_opened, first_broken, length_rules, unless, with_header}
 use Rattle.pager.specs.declared.opening.OpenError.{OpenError}
 use Rattle.pager.specs.declared.opening.OpenError.TheVariants.{KeyRefused}
-use Rattle.rollback_journal.specs.Recovery.{Recovers}
 use Rattle.sqlcipher_tool.specs.FirstPage.{IsHarmless}
 use Rattle.sqlcipher_tool.specs.Holding.{HoldsOnly, held_by}
-use Rattle.sqlcipher_tool.specs.Settle.{first_plain, has_maps, keys_set, versions, versions_at}
+use Rattle.sqlcipher_tool.specs.Maps.{first_plain, has_maps, versions, versions_at}
+use Rattle.sqlcipher_tool.specs.Settle.{keys_set}
 use Rattle.sqlcipher_tool.proofs.ChangedFields.{byte_is, byte_kept, bytes_length, field_kept, none_broken}
 
 -- ---- the header

@@ -49,7 +49,9 @@ use Rattle.sqlcipher_tool.specs.Promises.{AnswersOne, IsUnrecovered}
 use Rattle.sqlcipher_tool.specs.Recovered.{answers_after, recovery_answer, refused_answer}
 use Rattle.sqlcipher_tool.specs.Due.{change_answers}
 use Rattle.sqlcipher_tool.specs.Rekey.{rekey_due}
-use Rattle.sqlcipher_tool.specs.Settle.{first_plain, marked_answer, marks_of, settled_answer}
+use Rattle.map_pages.specs.Maps.{map_count}
+use Rattle.sqlcipher_tool.specs.Maps.{first_plain}
+use Rattle.sqlcipher_tool.specs.Settle.{marked_answer, marks_of, settled_answer}
 use Rattle.sqlcipher_tool.specs.declared.settle.Marks.{Marks}
 use Rattle.sqlcipher_tool.specs.declared.settle.Marks.TheVariants.{Rollback, Wal, Maps}
 use Rattle.sqlcipher_tool.specs.Stamp.{stamped_answer}
@@ -239,14 +241,14 @@ stamped_of_file : (opened : Result Opened OpenError) → IsOfFile (stamped_answe
 stamped_of_file (Ok opened) is = is
 stamped_of_file (Err error) is = open_of_file error is
 
-marked_of_file : (frames : ℕ) (marks : Marks) → IsOfFile (marked_answer frames marks)
-marked_of_file frames Rollback is = is
-marked_of_file frames Wal is = is
-marked_of_file frames Maps is = is
+marked_of_file : (frames maps : ℕ) (marks : Marks) → IsOfFile (marked_answer frames maps marks)
+marked_of_file frames maps Rollback is = is
+marked_of_file frames maps Wal is = is
+marked_of_file frames maps Maps is = is
 
-settled_of_file : (frames : ℕ) (first : List ℕ) (opened : Result Opened OpenError) → IsOfFile (settled_answer frames first opened)
-settled_of_file frames first (Ok opened) is = marked_of_file frames (marks_of first) is
-settled_of_file frames first (Err error) is = open_of_file error is
+settled_of_file : (usable frames : ℕ) (first : List ℕ) (opened : Result Opened OpenError) → IsOfFile (settled_answer usable frames first opened)
+settled_of_file usable frames first (Ok opened) is = marked_of_file frames (map_count usable opened.count) (marks_of first) is
+settled_of_file usable frames first (Err error) is = open_of_file error is
 
 -- that there are too many pages is no answer of a recovery
 too_many_of_file : (limit : ℕ) (b : Bool) → AreOfFile (if b then refused (TooManyPages limit) ∷ [] else [])
@@ -266,7 +268,7 @@ pub change_of_file : (change : Change) (renewal : Renewal) (file last : List ℕ
 change_of_file (Stamp field value) renewal file last = (stamped_of_file (opened_with renewal.old_profile renewal.old_secret file), tt)
 change_of_file (Settle frames) renewal file last =
     let keys = keys_of renewal.old_profile renewal.old_secret file in
-    (settled_of_file frames (first_plain keys file) (opened_with renewal.old_profile renewal.old_secret file), tt)
+    (settled_of_file (usable renewal.old_profile) frames (first_plain keys file) (opened_with renewal.old_profile renewal.old_secret file), tt)
 change_of_file (Rekey new) renewal file last =
     rekeyed_of_file (opened_with renewal.old_profile renewal.old_secret file) (λ n. opened_pages (keys_of renewal.old_profile renewal.old_secret file) file n)
 change_of_file (Migrate new) renewal file last =

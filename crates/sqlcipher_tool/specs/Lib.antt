@@ -12,6 +12,7 @@ pub mod FirstPage
 pub mod Header
 pub mod Holding
 pub mod Make
+pub mod Maps
 pub mod Migrate
 pub mod Names
 pub mod Opening

@@ -1,12 +1,13 @@
 -- What stands in the way of opening a file, in the order in which it is looked at.
-use Rattle.std.specs.Prelude.{ℕ, ◌*◌, ◌<◌, List, [], ◌∷◌, length, map, nat_lt, Option, Some, None, Result, Ok, Err}
+use Rattle.std.specs.Prelude.{ℕ, ◌*◌, ◌<◌, List, [], ◌∷◌, length, map, nat_lt, Option, Some, None, unwrap_or, Result, Ok, Err}
 use Rattle.edge_model.specs.Files.{Files, main_of}
 use Rattle.edge_model.specs.Images.{Each}
 use Rattle.cipher_profile.specs.declared.keys.Secret.{Secret}
 use Rattle.cipher_profile.specs.declared.profile.Profile.{Profile}
 use Rattle.db_format.specs.Count.{largest_database}
 use Rattle.db_format.specs.Rules.{Rule}
-use Rattle.page_codec.specs.Page.{keys_of}
+use Rattle.page_codec.specs.Page.{FileKeys, keys_of}
+use Rattle.pager.specs.Database.{count_of}
 use Rattle.pager.specs.File.{whole_pages}
 use Rattle.pager.specs.Opening.{HasNoJournal, Opened, file_opened, key_rules, length_rules}
 use Rattle.pager.specs.declared.opening.OpenError.{OpenError}
@@ -31,6 +32,10 @@ open_answer MemoryEnds = record { status = OutOfMemory; text = []; begun = [] }
 -- what opening Main with this secret comes to
 abbrev pub opened_with : Profile → Secret → List ℕ → Result Opened OpenError
 opened_with profile secret file = file_opened (keys_of profile secret file) file
+
+-- how many pages the file has, 0 where it has no count
+abbrev pub page_count_of : FileKeys → List ℕ → ℕ
+page_count_of keys file = unwrap_or (count_of keys file) 0
 
 -- the answer where it does not open, none where it does
 abbrev pub unopened_answer : Result Opened OpenError → Option Answer

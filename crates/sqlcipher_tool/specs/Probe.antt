@@ -3,7 +3,7 @@ use Rattle.std.specs.Prelude.{ℕ, ◌==◌, ◌&&◌, nat_le, Bool, List, [], �
 use Rattle.edge_model.specs.Files.{Files, main_of}
 use Rattle.cipher_profile.specs.declared.keys.Secret.{Secret}
 use Rattle.cipher_profile.specs.declared.profile.Profile.{Profile}
-use Rattle.cipher_profile.specs.Profile.{probed_profiles}
+use Rattle.profile_word.specs.Tried.{probed_profiles}
 use Rattle.page_codec.specs.Page.{FileKeys, fits, keys_of}
 use Rattle.sqlcipher_tool.specs.Answer.{Answer, Cause, first_answer, done, refused, key_refused}
 use Rattle.sqlcipher_tool.specs.declared.status.Refusal.TheVariants.{JournalThere, Empty}

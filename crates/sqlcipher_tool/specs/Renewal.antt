@@ -1,5 +1,5 @@
 -- What the new file of a command is to the old one.
-use Rattle.std.specs.Prelude.{ℕ, ◌==◌, Bool, IsTrue, List, [], ◌∷◌, Option, Some, None, unwrap_or}
+use Rattle.std.specs.Prelude.{ℕ, ◌==◌, Bool, IsTrue, List, [], ◌∷◌, Option, Some, None}
 use Rattle.cipher_profile.specs.declared.keys.Secret.{Secret}
 use Rattle.cipher_profile.specs.declared.profile.Profile.{Profile}
 use Rattle.page_codec.specs.Page.{FileKeys, keys_of}
@@ -9,11 +9,11 @@ use Rattle.sqlcipher_tool.specs.declared.change.Change.{Change}
 use Rattle.sqlcipher_tool.specs.declared.change.Change.TheVariants.{Stamp, Settle, Rekey, Migrate}
 use Rattle.fresh_file.specs.Draws.{HasOwnDraws}
 use Rattle.make_job.specs.Made.{IsMade}
-use Rattle.pager.specs.Database.{count_of}
 use Rattle.pager.specs.Pages.{is_page_number}
 use Rattle.rekey_job.specs.Rekeyed.{IsRekeyed}
 use Rattle.rekey_job.specs.Draws.{FileDraws}
 use Rattle.sqlcipher_tool.specs.Migrate.{IsMigratedSo}
+use Rattle.sqlcipher_tool.specs.Opening.{page_count_of}
 use Rattle.sqlcipher_tool.specs.Plain.{IsClean, Opens}
 use Rattle.sqlcipher_tool.specs.Settle.{IsSettledFrom, SettledDraws}
 use Rattle.sqlcipher_tool.specs.Stamp.{IsStamped}
@@ -74,11 +74,7 @@ pub record IsRekeyedSo (old new : FileKeys) (before after : List ℕ) : Type 0 w
   pub count : ℕ
   pub rekeyed : IsRekeyed old new count before after
 
--- how many pages the file has, 0 where it has no count
-abbrev pub page_count_of : FileKeys → List ℕ → ℕ
-page_count_of keys file = unwrap_or (count_of keys file) 0
-
--- the same under the keys that the secret gives for it
+-- how many pages the file has under the keys that the secret gives for it, 0 where it has no count
 abbrev pub pages_under : Profile → Secret → List ℕ → ℕ
 pages_under profile secret file = page_count_of (keys_of profile secret file) file
 

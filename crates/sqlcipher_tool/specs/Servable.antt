@@ -8,7 +8,7 @@ use Rattle.btree_model.specs.Schema.{schema_part}
 use Rattle.btree_page.specs.declared.kind.Family.TheVariants.{Table}
 use Rattle.cipher_profile.specs.declared.keys.Secret.{Secret}
 use Rattle.cipher_profile.specs.declared.profile.Profile.{Profile}
-use Rattle.cipher_profile.specs.Profile.{IsListed, is_plain, usable, with_log}
+use Rattle.cipher_profile.specs.Profile.{usable, with_log}
 use Rattle.db_format.specs.Count.{largest_database}
 use Rattle.db_format.specs.Pages.{nothing}
 use Rattle.edge_model.specs.Causes.{Rose}
@@ -35,10 +35,10 @@ use Rattle.sqlcipher_tool.specs.declared.status.Status.TheVariants.{Done, OutOfM
 use Rattle.sqlcipher_tool.specs.Due.{key_lines, word_refusal}
 use Rattle.sqlcipher_tool.specs.Opening.{opened_with}
 use Rattle.sqlcipher_tool.specs.Plain.{IsClean, Opens}
+use Rattle.profile_word.specs.Tried.{IsTried}
 use Rattle.sqlcipher_tool.specs.Probe.{is_fitting}
 use Rattle.sqlcipher_tool.specs.Recovered.{recovered_main, recovery_of}
 use Rattle.sqlcipher_tool.specs.Salvage.{opens_none}
-use Rattle.sqlcipher_tool.specs.Settle.{CanBeSettled}
 use Rattle.sqlcipher_tool.specs.Words.{form, asked_keys}
 
 -- ---- what each command asks of the files
@@ -73,12 +73,11 @@ pub record HasServablePages (profile : Profile) (secret : Secret) (file : List �
   pub few : whole_pages profile file * profile.page_size ≤ largest_database
   pub opens : opens_none (keys_of profile secret file) file ≡ false
 
--- no journal is there, and the key fits under some profile that is not plain
+-- no journal is there, and the key fits under one of the profiles that are tried
 pub record IsProbed (secret : Secret) (files : Files) : Type 0 where
   pub no_journal : files.journal ≡ None
   pub profile : Profile
-  pub listed : IsListed profile
-  pub ciphered : is_plain profile ≡ false
+  pub tried : IsTried profile
   pub fit : is_fitting secret (main_of files) profile ≡ true
 
 -- a new file of this content has no more pages than are served
@@ -120,7 +119,7 @@ IsReadable (OnPages (Find name low high)) profile secret file = HasTable profile
 -- nor of a change of it
 abbrev pub IsChangeable : Change → Profile → Secret → List ℕ → Type 0
 IsChangeable (Stamp field value) profile secret file = IsOk (opened_with profile secret file)
-IsChangeable (Settle frames) profile secret file = CanBeSettled (with_log profile) secret file
+IsChangeable (Settle frames) profile secret file = IsOk (opened_with (with_log profile) secret file)
 IsChangeable (Rekey new) profile secret file = IsClean (keys_of profile secret file) file
 IsChangeable (Migrate new) profile secret file = (held : Content) × Opens (keys_of profile secret file) file held × HasFewPages new held
 
@@ -147,9 +146,9 @@ pub record CanBeServed (words : List (List ℕ)) (left : List ℕ) (files : File
 abbrev pub standing : File → Option File → Files
 standing file fresh = record { main = Some file; journal = None; fresh = fresh }
 
--- the command is on a file of this profile, and whether it can be carried out rests on no size of the content; `probe` finds no plain file
+-- the command is on a file of this profile, and whether it can be carried out rests on no size of the content; `probe` finds what it tries
 abbrev pub IsForAnySize : Profile → Command → Type 0
-IsForAnySize profile Probe = is_plain profile ≡ false
+IsForAnySize profile Probe = IsTried profile
 IsForAnySize profile (Recover other) = other ≡ profile
 IsForAnySize profile (Read other Tags) = other ≡ profile
 IsForAnySize profile (Read other Header) = other ≡ profile

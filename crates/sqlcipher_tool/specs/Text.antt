@@ -1,5 +1,5 @@
 -- What is printed. Each line ends with a line feed, and numbers are decimal.
-use Rattle.std.specs.Prelude.{ℕ, ◌==◌, ◌&&◌, not, List, [], ◌++◌, codes, decimal, if◌then◌else◌}
+use Rattle.std.specs.Prelude.{ℕ, List, [], ◌++◌, codes, decimal}
 use Rattle.std.specs.Fmt.{signed_decimal}
 use Rattle.std.specs.List.{flat_map}
 use Rattle.btree_model.specs.Parts.{Counts}
@@ -9,6 +9,7 @@ use Rattle.db_format.specs.declared.defect.Defect.TheVariants.{TrunkFault, FreeC
 use Rattle.db_format.specs.declared.header.Header.{Header}
 use Rattle.rollback_journal.specs.declared.recovery.Recovery.{Recovery}
 use Rattle.rollback_journal.specs.declared.recovery.Recovery.TheVariants.{Nothing, Cold, Played}
+use Rattle.profile_word.specs.Wording.{word_of}
 use Rattle.text_lines.specs.Text.{line, field_line}
 use Rattle.sqlcipher_tool.specs.declared.status.Refusal.{Refusal}
 use Rattle.sqlcipher_tool.specs.declared.status.Refusal.TheVariants.{NoTags, LayoutDiffers, OnlyRead, LogVersion, LogPageSize, LogShort, LogTooLarge, LogOfOther, KeyMissing, KeyEmpty, KeyTooLong, KeyForm, FileThere, JournalThere, Empty, Short, HeaderFault, WalMode, AutoVacuum, Ragged, TooLarge, PageTag, JournalPageSize, SuperJournal, Defect as RefusedDefect, TooManyPages, NoTable, IndexesDiffer, ScriptLine, LineTooLong, TooManyLines}
@@ -93,15 +94,9 @@ abbrev pub verify_report : Counts → List ℕ
 verify_report found =
     line (codes "ok: " ++ (decimal found.trees ++ (codes " trees, " ++ (decimal found.rows ++ (codes " entries, " ++ (decimal found.free ++ (codes " free pages, " ++ (decimal found.unused ++ codes " unused pages"))))))))
 
--- the word of a profile: its version, and in version 4 the size of its pages where it is not the one that 4 has by itself
-abbrev pub profile_word : Profile → List ℕ
-profile_word profile =
-    decimal profile.version
-    ++ (if profile.version == 4 && not (profile.page_size == 4096) then codes ":" ++ decimal profile.page_size else [])
-
 -- what `probe` prints
 abbrev pub probe_report : Profile → List ℕ
-probe_report profile = line (codes "profile " ++ profile_word profile)
+probe_report profile = line (codes "profile " ++ word_of profile)
 
 -- what `header` prints
 abbrev pub header_report : Header → ℕ → List ℕ

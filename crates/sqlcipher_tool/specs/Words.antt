@@ -27,7 +27,8 @@ use Rattle.std.specs.List.{list_all}
 use Rattle.std.specs.Option.{option_map, option_and_then}
 use Rattle.std.specs.Str.{bytes_eq}
 use Rattle.std.specs.Str.Parse.{digits_value, starts_with_minus}
-use Rattle.cipher_profile.specs.Profile.{IsListed, is_plain, profile_named, profile_set_named, set_log}
+use Rattle.cipher_profile.specs.Profile.{IsListed, is_plain, set_log}
+use Rattle.profile_word.specs.Word.{named_without_log, profile_named}
 use Rattle.cipher_profile.specs.declared.profile.Profile.{Profile}
 use Rattle.text_lines.specs.Numbers.{number_named}
 use Rattle.sqlcipher_tool.specs.declared.command.Command.{Command}
@@ -72,35 +73,35 @@ field_named word =
 abbrev pub stamp_form : List ℕ → List ℕ → List ℕ → Option Command
 stamp_form first second third =
     option_and_then (λ profile. option_and_then (λ field. option_map (λ value. ChangeFile profile (Stamp field value))
-    (number_named third)) (field_named second)) (profile_set_named first)
+    (number_named third)) (field_named second)) (profile_named first)
 
 -- a change from one profile to another, `rekey` or `migrate`, with its two words
 abbrev pub two_profiles : (Profile → Change) → List ℕ → List ℕ → Option Command
-two_profiles change first second = option_and_then (λ old. option_map (λ new. ChangeFile old (change new)) (profile_set_named second)) (profile_set_named first)
+two_profiles change first second = option_and_then (λ old. option_map (λ new. ChangeFile old (change new)) (profile_named second)) (profile_named first)
 
 -- `make` with its two words
 abbrev pub make_form : List ℕ → List ℕ → Option Command
-make_form first second = option_and_then (λ profile. option_map (λ rows. Make profile rows) (number_named second)) (profile_set_named first)
+make_form first second = option_and_then (λ profile. option_map (λ rows. Make profile rows) (number_named second)) (profile_named first)
 
 -- `find` with its four words
 abbrev pub find_form : List ℕ → List ℕ → List ℕ → List ℕ → Option Command
 find_form first second third fourth =
     option_and_then (λ profile. option_and_then (λ low. option_map (λ high. Read profile (OnPages (Find second low high)))
-    (rowid_named fourth)) (rowid_named third)) (profile_set_named first)
+    (rowid_named fourth)) (rowid_named third)) (profile_named first)
 
 -- the command that the words make, or none
 abbrev pub form : List (List ℕ) → Option Command
 form [] = None
 form (name ∷ []) = if bytes_eq name (codes "probe") then Some Probe else None
 form (name ∷ word ∷ []) =
-    if bytes_eq name (codes "tags") then option_map (λ profile. Read profile Tags) (profile_set_named word)
-    else (if bytes_eq name (codes "header") then option_map (λ profile. Read profile Header) (profile_set_named word)
-    else (if bytes_eq name (codes "verify") then option_map (λ profile. Read profile (OnPages Verify)) (profile_set_named word)
-    else (if bytes_eq name (codes "export") then option_map (λ profile. Read profile (OnPages Export)) (profile_set_named word)
-    else (if bytes_eq name (codes "agree") then option_map (λ profile. Read profile (OnPages Agree)) (profile_set_named word)
-    else (if bytes_eq name (codes "salvage") then option_map (λ profile. Read profile Salvage) (profile_set_named word)
-    else (if bytes_eq name (codes "recover") then option_map Recover (profile_set_named word)
-    else (if bytes_eq name (codes "settle") then option_map (λ profile. ChangeFile profile (Settle 0)) (profile_set_named word) else None)))))))
+    if bytes_eq name (codes "tags") then option_map (λ profile. Read profile Tags) (profile_named word)
+    else (if bytes_eq name (codes "header") then option_map (λ profile. Read profile Header) (profile_named word)
+    else (if bytes_eq name (codes "verify") then option_map (λ profile. Read profile (OnPages Verify)) (profile_named word)
+    else (if bytes_eq name (codes "export") then option_map (λ profile. Read profile (OnPages Export)) (profile_named word)
+    else (if bytes_eq name (codes "agree") then option_map (λ profile. Read profile (OnPages Agree)) (profile_named word)
+    else (if bytes_eq name (codes "salvage") then option_map (λ profile. Read profile Salvage) (profile_named word)
+    else (if bytes_eq name (codes "recover") then option_map Recover (profile_named word)
+    else (if bytes_eq name (codes "settle") then option_map (λ profile. ChangeFile profile (Settle 0)) (profile_named word) else None)))))))
 form (name ∷ first ∷ second ∷ []) =
     if bytes_eq name (codes "rekey") then two_profiles Rekey first second
     else (if bytes_eq name (codes "migrate") then two_profiles Migrate first second
@@ -113,7 +114,7 @@ form (name ∷ first ∷ second ∷ third ∷ fourth ∷ fifth ∷ rest) = None
 abbrev pub play_form : List (List ℕ) → Option Profile
 play_form [] = None
 play_form (name ∷ []) = None
-play_form (name ∷ word ∷ []) = if bytes_eq name (codes "play") then profile_named word else None
+play_form (name ∷ word ∷ []) = if bytes_eq name (codes "play") then named_without_log word else None
 play_form (name ∷ word ∷ next ∷ rest) = None
 
 -- whether the words are a `play` of a file that is only read with its log
@@ -124,7 +125,7 @@ reads_log_of (Some profile) = profile.reads_log
 abbrev pub plays_with_log : List (List ℕ) → Bool
 plays_with_log [] = false
 plays_with_log (name ∷ []) = false
-plays_with_log (name ∷ word ∷ []) = bytes_eq name (codes "play") && reads_log_of (profile_set_named word)
+plays_with_log (name ∷ word ∷ []) = bytes_eq name (codes "play") && reads_log_of (profile_named word)
 plays_with_log (name ∷ word ∷ next ∷ rest) = false
 
 -- ---- what is yes or no of a command

@@ -1,6 +1,5 @@
 // The words of the command line.
 ghost use Rattle.std.specs.Prelude.{◌≡◌, ◌∷◌, [], IfSome};
-ghost use Rattle.text_lines.specs.Numbers.{number_named};
 ghost use Rattle.sqlcipher_tool.specs.Due.{word_refusal};
 ghost use Rattle.sqlcipher_tool.specs.declared.change.Change.TheVariants.{Rekey as RekeyOf, Migrate as MigrateOf};
 ghost use Rattle.cipher_profile.specs.Profile.{IsListed};
@@ -9,7 +8,8 @@ ghost use Rattle.sqlcipher_tool.specs.Words.{form, play_form, find_form, stamp_f
 use crate::change::Change;
 use crate::reading::{Job, Reading};
 use crate::status::Refusal;
-use cipher_profile::{Profile, profile_of, profile_with_setting};
+use cipher_profile::Profile;
+use profile_word::{profile_of, profile_without_log};
 use std::marker::Model;
 use text_lines::number_of;
 
@@ -165,7 +165,7 @@ pub fn played_profile(words: &[&str]) -> Option<Profile>
     ensures listed { IfSome result IsListed }
 {
     match words {
-        [name, word] if *name == "play" => profile_of(word),
+        [name, word] if *name == "play" => profile_without_log(word.as_bytes()),
         _ => None,
     }
 }
@@ -175,7 +175,7 @@ pub fn plays_with_log(words: &[&str]) -> bool
     ensures { result ≡ plays_with_log (texts words.now) }
 {
     match words {
-        [name, word] if *name == "play" => match profile_with_setting(word) {
+        [name, word] if *name == "play" => match profile_of(word) {
             Some(profile) => profile.reads_log,
             None => false,
         },
@@ -189,13 +189,24 @@ pub fn parse_words<'w>(words: &[&'w str]) -> Option<Command<'w>>
     ensures served { IfSome result IsServed }
 {
     match words {
-        [name] if *name == "probe" => Some(Command::Probe),
+        [name] => command_alone(name),
         [name, word] => command_on(name, word),
         [name, first, second] => command_with(name, first, second),
-        [name, first, second, third] if *name == "stamp" => stamp_with(first, second, third),
+        [name, first, second, third] => command_of_four(name, first, second, third),
         [name, first, second, third, fourth] => command_of_five(name, first, second, third, fourth),
         _ => None,
     }
+}
+
+// The command of this name alone.
+fn command_alone<'w>(name: &str) -> Option<Command<'w>>
+    ensures form { result ≡ form (name.now ∷ []) }
+    ensures served { IfSome result IsServed }
+{
+    if name == "probe" {
+        return Some(Command::Probe);
+    }
+    None
 }
 
 // The command of this name on a file of the profile that the word names.
@@ -203,7 +214,7 @@ fn command_on<'w>(name: &str, word: &str) -> Option<Command<'w>>
     ensures form { result ≡ form (name.now ∷ word.now ∷ []) }
     ensures served { IfSome result IsServed }
 {
-    let profile = profile_with_setting(word);
+    let profile = profile_of(word);
     if name == "tags" {
         return Some(Command::Read(profile?, Reading::Tags));
     }
@@ -248,6 +259,17 @@ fn command_with<'w>(name: &str, first: &str, second: &str) -> Option<Command<'w>
     None
 }
 
+// The command of this name with three words.
+fn command_of_four<'w>(name: &str, first: &str, second: &str, third: &str) -> Option<Command<'w>>
+    ensures form { result ≡ form (name.now ∷ first.now ∷ second.now ∷ third.now ∷ []) }
+    ensures served { IfSome result IsServed }
+{
+    if name == "stamp" {
+        return stamp_with(first, second, third);
+    }
+    None
+}
+
 // The command of this name with four words.
 fn command_of_five<'w>(
     name: &str,
@@ -270,7 +292,7 @@ fn find_with<'w>(first: &str, second: &'w str, third: &str, fourth: &str) -> Opt
     ensures form { result ≡ find_form first.now second.now third.now fourth.now }
     ensures served { IfSome result IsServed }
 {
-    let profile = profile_with_setting(first)?;
+    let profile = profile_of(first)?;
     let low = rowid_of(third)?;
     let high = rowid_of(fourth)?;
     let name = Name::new(second);
@@ -282,7 +304,7 @@ fn stamp_with<'w>(first: &str, second: &str, third: &str) -> Option<Command<'w>>
     ensures form { result ≡ stamp_form first.now second.now third.now }
     ensures served { IfSome result IsServed }
 {
-    let profile = profile_with_setting(first)?;
+    let profile = profile_of(first)?;
     let field = field_of(second)?;
     let value = number_of(third.as_bytes())?;
     Some(Command::Change(profile, Change::Stamp { field, value }))
@@ -293,8 +315,8 @@ fn rekey_with<'w>(first: &str, second: &str) -> Option<Command<'w>>
     ensures form { result ≡ two_profiles RekeyOf first.now second.now }
     ensures served { IfSome result IsServed }
 {
-    let old = profile_with_setting(first)?;
-    let new = profile_with_setting(second)?;
+    let old = profile_of(first)?;
+    let new = profile_of(second)?;
     Some(Command::Change(old, Change::Rekey(new)))
 }
 
@@ -303,8 +325,8 @@ fn migrate_with<'w>(first: &str, second: &str) -> Option<Command<'w>>
     ensures form { result ≡ two_profiles MigrateOf first.now second.now }
     ensures served { IfSome result IsServed }
 {
-    let old = profile_with_setting(first)?;
-    let new = profile_with_setting(second)?;
+    let old = profile_of(first)?;
+    let new = profile_of(second)?;
     Some(Command::Change(old, Change::Migrate(new)))
 }
 
@@ -313,7 +335,7 @@ fn make_with<'w>(first: &str, second: &str) -> Option<Command<'w>>
     ensures form { result ≡ make_form first.now second.now }
     ensures served { IfSome result IsServed }
 {
-    let profile = profile_with_setting(first)?;
+    let profile = profile_of(first)?;
     let rows = number_of(second.as_bytes())?;
     Some(Command::Make { profile, rows })
 }

@@ -88,8 +88,8 @@ pub fn change_first<'d, D: Disk, E: Entropy>(
     }
 }
 
-// How the command stops whose transaction was not begun: both codecs have the layout of the file.
-fn begin_error(error: BeginError) -> ChangeError
+/// How the command stops whose transaction was not begun: both codecs have the layout of the file.
+pub fn begin_error(error: BeginError) -> ChangeError
     requires { error ≢ BeginError.LayoutDiffers }
     ensures { result ≡ ChangeError.Stopped Stop.OutOfMemory }
 {
@@ -99,8 +99,8 @@ fn begin_error(error: BeginError) -> ChangeError
     }
 }
 
-// How page 1, where it is refused, stops the command: it is there, and a frame is free for it.
-fn page_error(error: PageError) -> ChangeError
+/// How page 1, where it is refused, stops the command: it is there, and a frame is free for it.
+pub fn page_error(error: PageError) -> ChangeError
     requires there { error ≢ PageError.OutOfRange }
     requires free { error ≢ PageError.AllPinned }
     ensures { IsStopOf error result }
@@ -115,8 +115,8 @@ fn page_error(error: PageError) -> ChangeError
     }
 }
 
-// The bytes and the fields of a changed page 1.
-fn write_fields<D: Disk, E: Entropy>(
+/// The bytes and the fields of a changed page 1.
+pub fn write_fields<D: Disk, E: Entropy>(
     txn: &mut Txn<'_, D, E>,
     at: usize,
     bytes: &[u8],
@@ -153,8 +153,8 @@ fn write_fields<D: Disk, E: Entropy>(
     Ok(())
 }
 
-// Bytes at an offset of page 1.
-fn write_bytes<D: Disk, E: Entropy>(
+/// Bytes at an offset of page 1.
+pub fn write_bytes<D: Disk, E: Entropy>(
     txn: &mut Txn<'_, D, E>,
     at: usize,
     bytes: &[u8],

@@ -13,6 +13,7 @@ mod header;
 mod in_use;
 mod laws;
 mod make;
+mod maps;
 mod migrate;
 mod mute;
 mod names;

@@ -2,8 +2,9 @@
 ghost use Rattle.std.specs.Prelude.{◌≡◌, ◌⊎◌, ◌≤◌, ◌<◌, length, slice_get, None, Some, Err, IfOk, OnOk, IfErr, IsTrue, All};
 ghost use Rattle.edge_model.specs.Causes.{HasCause, Rose};
 ghost use Rattle.edge_model.specs.OnlyRead.{OnlyRead};
-ghost use Rattle.cipher_profile.specs.Profile.{IsListed, probed_profiles};
+ghost use Rattle.cipher_profile.specs.Profile.{IsListed};
 ghost use Rattle.page_codec.specs.Page.{salt_of};
+ghost use Rattle.profile_word.specs.Tried.{probed_profiles};
 ghost use Rattle.sqlcipher_tool.specs.Answer.{first_answer, Puts, PutsLine, IsAnswered, HasCauses};
 ghost use Rattle.edge_model.specs.Files.{main_of};
 ghost use Rattle.sqlcipher_tool.specs.Probe.{first_fitting, fits_file, probe_causes, probe_answer};
@@ -13,10 +14,11 @@ use crate::conclusion::conclude_outcome;
 use crate::opening::Stop;
 use crate::status::{Refusal, Status};
 use crate::text::probe_report;
-use cipher_profile::{Profile, Secret, derive, derive_beside, probed_profiles};
+use cipher_profile::{Profile, Secret, derive, derive_beside};
 use edge_model::{Disk, Failed, Role, Sink};
 use page_codec::Codec;
 use pager::{MAX_PAGE, file_length, read_main, read_page};
+use profile_word::probed_profiles;
 use text_lines::Text;
 
 // The length of the shortest page of any profile that is tried, in bytes.
@@ -89,7 +91,8 @@ fn find_profile<D: Disk>(disk: &mut D, secret: &Secret, len: u64) -> Result<Opti
     find_with_salt(disk, secret, &salt, len)
 }
 
-// The same, where Main has this salt. A passphrase is stretched once for the profiles that stretch it alike, as all of version 4 do.
+// The same, where Main has this salt. A passphrase is stretched once for profiles that stretch it alike and stand one behind
+// another, as all of version 4 do.
 fn find_with_salt<D: Disk>(
     disk: &mut D,
     secret: &Secret,
@@ -104,7 +107,7 @@ fn find_with_salt<D: Disk>(
 {
     let mut known = profile_after(0);
     let mut keys = derive(secret, &known, salt);
-    for tried in 0..10 {
+    for tried in 0..15 {
         let profile = profile_after(tried);
         keys = derive_beside(secret, &profile, salt, &known, &keys);
         known = profile;
@@ -119,7 +122,7 @@ fn find_with_salt<D: Disk>(
 
 // The profile that is tried after so many others.
 fn profile_after(tried: usize) -> Profile
-    requires { tried < 10 }
+    requires { tried < 15 }
     ensures value { slice_get probed_profiles tried ≡ Some result }
     ensures listed { IsListed result }
 {

@@ -1,5 +1,5 @@
 // `rekey`: every page is sealed under another key, in one transaction.
-ghost use Rattle.std.specs.Prelude.{◌≡◌, ◌≢◌, ◌≤◌, List, drop, length, Ok, Err, IfErr, IsErr, OnOk, IsTrue, Some};
+ghost use Rattle.std.specs.Prelude.{◌≡◌, ◌≢◌, ◌≤◌, drop, length, Ok, Err, IfErr, IsErr, OnOk, IsTrue, Some};
 ghost use Rattle.std.specs.List.{Contains};
 ghost use Rattle.fresh_disk.specs.OnlyFresh.{IsOld};
 ghost use Rattle.fresh_disk.specs.Published.{IsAlone};
@@ -20,9 +20,9 @@ ghost use Rattle.sqlcipher_tool.specs.Behind.{IsRefusedChange};
 ghost use Rattle.sqlcipher_tool.specs.Change.{IsLateChange, KeepsOrCommits, change_answer, change_status, rekey_error};
 ghost use Rattle.rekey_job.specs.Draws.{FileDraws};
 ghost use Rattle.sqlcipher_tool.specs.Holding.{HoldsOnly, held_by};
-ghost use Rattle.sqlcipher_tool.specs.Opening.{AreRecovered, opened_with};
+ghost use Rattle.sqlcipher_tool.specs.Opening.{AreRecovered, opened_with, page_count_of};
 ghost use Rattle.sqlcipher_tool.specs.Rekey.{rekey_answers, rekey_due};
-ghost use Rattle.sqlcipher_tool.specs.Renewal.{IsRekeyedSo, WithDraws, page_count_of};
+ghost use Rattle.sqlcipher_tool.specs.Renewal.{IsRekeyedSo, WithDraws};
 
 use crate::opening::{ChangeError, Stop, open_main};
 use crate::status::Refusal;

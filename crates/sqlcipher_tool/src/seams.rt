@@ -7,6 +7,7 @@ ghost use Rattle.cipher_profile.specs.declared.keys.Secret.{Secret};
 ghost use Rattle.cipher_profile.specs.declared.profile.Profile.{Profile};
 ghost use Rattle.db_format.specs.Pages.{Pages};
 ghost use Rattle.page_codec.specs.Page.{keys_of};
+ghost use Rattle.pager.specs.Pages.{opened_pages};
 ghost use Rattle.sqlcipher_tool.specs.Crash.{IsSafely, new_held, old_held};
 ghost use Rattle.sqlcipher_tool.specs.Holding.{HoldsOnly, disk_run};
 ghost use Rattle.sqlcipher_tool.specs.Plain.{IsClean};
@@ -15,7 +16,7 @@ ghost use Rattle.sqlcipher_tool.specs.Renewal.{IsNewDrawn, Renewal, renewed};
 ghost use Rattle.sqlcipher_tool.specs.Recovered.{recovered_main};
 ghost use Rattle.sqlcipher_tool.specs.Seams.{AreKept, AreTaken, HoldAtFirst, HoldsThroughout, Joins};
 ghost use Rattle.sqlcipher_tool.specs.Settle.{IsSettledFrom};
-ghost use Rattle.sqlcipher_tool.specs.Settling.{CanBeLaid};
+ghost use Rattle.sqlcipher_tool.specs.Settling.{CanBeLaid, CanLoseMaps};
 ghost use Rattle.sqlcipher_tool.specs.declared.change.Change.TheVariants.{Settle as SettleBy};
 ghost use Rattle.sqlcipher_tool.specs.declared.command.Command.TheVariants.{Change as ChangeFile};
 ghost use Rattle.sqlcipher_tool.specs.declared.status.Status.TheVariants.{Done};
@@ -52,15 +53,17 @@ pub fn read_alike_law()
     ensures { (old new : Pages) → AreReadAlike old new → (parts new ≡ parts old) × (content new ≡ content old) }
 {}
 
-/// A settled file is clean under its key where marks do not pass, as the old one was where they do, and holds the same.
+/// A settled file is clean under its key where marks do not pass, as the old one was where they do, and holds the same. Where it had map
+/// pages, none of its parts had a place on one.
 pub fn settled_clean_law()
     ensures { (profile : Profile) (secret : Secret) (before after : List ℕ) → IsListed profile
         → IsSettledFrom (keys_of (with_log profile) secret before) (keys_of profile secret after) before after → (clean : IsClean (keys_of (with_log profile) secret before) before)
+        → CanLoseMaps (opened_pages (keys_of (with_log profile) secret before) before clean.opens.count)
         → (now : IsClean (keys_of profile secret after) after) × (now.held ≡ clean.held) }
 {}
 
 /// After Done of the last run FILE is clean under its key where marks do not pass, so it is in rollback mode with all pages in use accepted,
-/// and holds what was checked before the log was laid.
+/// and holds what it held at the start of that run, where it was such as `check_to_settle` asks.
 pub fn settle_done_law<T: Disk>(two: &T, two_end: &T)
     ensures { (profile : Profile) (first second : Secret) (frames : ℕ) (tells : Bool) (drawn : List ℕ) → IsListed profile
         → IsSafely Done (ChangeFile profile (SettleBy frames)) tells drawn (disk_run T.reads T.images T.moment T.since two.now two_end.now) (Some (renewed profile (SettleBy frames) first second))

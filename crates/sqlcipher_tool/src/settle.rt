@@ -6,7 +6,8 @@ ghost use Rattle.edge_model.specs.Causes.{Rose};
 ghost use Rattle.edge_model.specs.Files.{main_of};
 ghost use Rattle.edge_model.specs.Images.{Each, From, LeavesOnly};
 ghost use Rattle.edge_model.specs.OnlyRead.{OnlyRead};
-ghost use Rattle.cipher_profile.specs.Profile.{IsListed, with_log};
+ghost use Rattle.cipher_profile.specs.Profile.{IsListed, usable, with_log};
+ghost use Rattle.map_pages.specs.Maps.{map_count};
 ghost use Rattle.page_codec.specs.Page.{keys_of, salt_of};
 ghost use Rattle.pager.specs.Base.{base_of};
 ghost use Rattle.pager.specs.Held.{pins_of};
@@ -21,24 +22,21 @@ ghost use Rattle.sqlcipher_tool.specs.Change.{IsLateChange, KeepsOrCommits, chan
 ghost use Rattle.sqlcipher_tool.specs.Holding.{HoldsOnly, held_by};
 ghost use Rattle.sqlcipher_tool.specs.Opening.{AreRecovered, opened_with};
 ghost use Rattle.sqlcipher_tool.specs.Renewal.{WithDraws};
-ghost use Rattle.sqlcipher_tool.specs.Settle.{IsMarkStop, IsSettledFrom, IsSettledUnder, SettledDraws, first_plain, marked_answer, marks_of, settle_answer};
+ghost use Rattle.sqlcipher_tool.specs.Maps.{first_plain};
+ghost use Rattle.sqlcipher_tool.specs.Settle.{IsMarkStop, IsSettledFrom, IsSettledUnder, SettledDraws, marked_answer, marks_of, settle_answer};
 
 use crate::first_page::change_first;
+use crate::maps::{LARGEST_ROOT_AT, VERSIONS_AT, free_maps};
 use crate::opening::{ChangeError, Stop, open_main};
 use crate::status::Refusal;
 use crate::text::settled_report;
 use cipher_profile::{Profile, Secret};
 use edge_model::{Disk, Entropy};
+use map_pages::map_count;
 use number_fields::u32_at;
 use pager::{OpenedFile, PageError, PageSource, Pager};
 use std::alloc::Global;
 use text_lines::Text;
-
-/// Where the versions of a database stand in its header, in bytes.
-const VERSIONS_AT: usize = 18;
-
-/// Where the field stands that says whether there are pointer-map pages.
-const LARGEST_ROOT_AT: usize = 52;
 
 /// What page 1 says of a file.
 #[derive(Clone, Copy, Debug, PartialEq, Eq)]
@@ -117,7 +115,7 @@ fn settle_pages<'d, D: Disk, E: Entropy>(
     ensures disk { result.0.ghost_name ≡ pager.entry.disk.ghost_name }
     ensures entropy { result.1.ghost_name ≡ pager.entry.entropy.ghost_name }
     ensures told { IsTrue D.tells → (answer : Answer) → change_answer result.2 ≡ Some answer
-        → answer ≡ marked_answer frames (marks_of (first_plain pager.entry.codec (main_of (D.reads pager.entry.disk.now)))) }
+        → answer ≡ marked_answer frames (map_count (usable pager.entry.codec.profile) pager.entry.count) (marks_of (first_plain pager.entry.codec (main_of (D.reads pager.entry.disk.now)))) }
     ensures safely { IsTrue D.tells → KeepsOrCommits D.reads D.images D.moment D.since (change_status result.2)
         (WithDraws (IsSettledUnder pager.entry.codec (main_of (D.reads pager.entry.disk.now))) E.tells
         (λ file. SettledDraws pager.entry.codec file (drop (length (E.drawn pager.entry.entropy.now)) (E.drawn result.1.now))))
@@ -136,6 +134,8 @@ fn settle_pages<'d, D: Disk, E: Entropy>(
     let mut pager = pager;
     // Behind the commit nothing takes memory.
     let report = settled_report(frames, 0);
+    let maps = map_count(pager.usable() as u32, pager.pages());
+    let freed = settled_report(frames, u64::from(maps));
     match read_marks(&mut pager) {
         Ok(Marks::Wal) => {
             let write = pager.codec().again();
@@ -146,12 +146,8 @@ fn settle_pages<'d, D: Disk, E: Entropy>(
             (disk, entropy, Ok(report))
         }
         Ok(Marks::Maps) => {
-            let (disk, entropy) = pager.into_parts();
-            (
-                disk,
-                entropy,
-                Err(ChangeError::Stopped(Stop::Refused(Refusal::AutoVacuum))),
-            )
+            let write = pager.codec().again();
+            free_maps(alloc, pager, write, freed)
         }
         Err(stop) => {
             let (disk, entropy) = pager.into_parts();

@@ -1,5 +1,6 @@
 // `settle` of a file with its log: the steps of it, each over a disk of the same folder. `specs/Seams.antt` says how they join.
 ghost use Rattle.std.specs.Prelude.{◌≡◌, ◌⊎◌, ◌≢◌, ◌≤◌, ◌<◌, ◌∷◌, [], length, drop, true, false, not, None, Some, Ok, Err, IfErr, IfOk, IfSome, IsTrue, OnOk};
+ghost use Rattle.btree_walk.specs.Causes.{is_failure};
 ghost use Rattle.cipher_profile.specs.Profile.{IsListed, is_plain};
 ghost use Rattle.db_format.specs.Header.{header_fields};
 ghost use Rattle.db_format.specs.Source.{no_pins};
@@ -9,6 +10,9 @@ ghost use Rattle.edge_model.specs.Images.{Each, From, LeavesOnly};
 ghost use Rattle.edge_model.specs.OnlyRead.{OnlyRead};
 ghost use Rattle.log_recovery.specs.Opened.{IsLogDone, KeepsOpened, log_answer_to};
 ghost use Rattle.log_recovery.specs.declared.settling.LogLaid.{LogLaid as Laying};
+ghost use Rattle.map_pages.specs.Beside.{is_fault_beside};
+ghost use Rattle.map_pages.specs.Settled.{CanBeSettled};
+ghost use Rattle.pager.specs.Causes.{is_fault};
 ghost use Rattle.pager.specs.Held.{pins_of};
 ghost use Rattle.pager.specs.Pages.{opened_pages};
 ghost use Rattle.pager.specs.Reads.{DiskRead, Untouched};
@@ -39,11 +43,14 @@ use crate::settle::{Marks, read_marks};
 use crate::status::{Refusal, Status};
 use crate::verify::verify_pages;
 use crate::with_log::conclude_view;
+use btree_walk::WalkError;
 use cipher_profile::{Profile, Secret};
+use db_format::Defect;
 use edge_model::{Disk, Entropy, Failed, Role, Sink, Source};
 use log_recovery::{LogLaid, settle_log};
 use log_view::ViewError;
-use pager::{Pager, codec_of, file_length, read_main};
+use map_pages::{MapRefusal, census_beside};
+use pager::{PageError, Pager, codec_of, file_length, read_main};
 use std::alloc::Global;
 
 /// The profile of a file that is settled, where the words ask for that and do not refuse it.
@@ -197,10 +204,52 @@ fn check_pages<D: Disk, E: Entropy>(alloc: Global, pager: &mut Pager<'_, D, E>) 
     ensures entropy { Untouched pager.old.entropy pager.new.entropy }
 {
     match read_marks(pager) {
-        Ok(Marks::Maps) => Err(Stop::Refused(Refusal::AutoVacuum)),
+        Ok(Marks::Maps) => check_maps(alloc, pager),
         Ok(Marks::Rollback) => check_walk(alloc, pager),
         Ok(Marks::Wal) => check_walk(alloc, pager),
         Err(stop) => Err(stop),
+    }
+}
+
+// The check of the pages of a file with map pages: none of its parts has a place on one.
+fn check_maps<D: Disk, E: Entropy>(alloc: Global, pager: &mut Pager<'_, D, E>) -> Result<(), Stop>
+    requires header { IsTrue D.tells → 1 ≤ pager.old.count
+        → pager.old.header ≡ header_fields ((opened_pages pager.old.codec (main_of (D.reads pager.old.disk.now)) pager.old.count).page 1) }
+    requires unpinned { pins_of pager.old.cache.held ≡ no_pins }
+    ensures walked { OnOk result (IsTrue D.tells → IsWalked (opened_pages pager.old.codec (main_of (D.reads pager.old.disk.now)) pager.old.count)) }
+    ensures apart { OnOk result (IsTrue D.tells → CanBeSettled (opened_pages pager.old.codec (main_of (D.reads pager.old.disk.now)) pager.old.count)) }
+    ensures cause { result ≡ Err Stop.DiskFault → Rose (D.faults pager.old.disk.now) (D.faults pager.new.disk.now) }
+    ensures disk { DiskRead D.tells D.reads D.images D.moment D.since D.faults pager.old.disk pager.new.disk }
+    ensures entropy { Untouched pager.old.entropy pager.new.entropy }
+{
+    let header = *pager.header();
+    match census_beside(alloc, pager, &header) {
+        Ok(_) => {}
+        Err(error) => return Err(map_stop(&error)),
+    }
+    check_walk(alloc, pager)
+}
+
+// How the command stops where a part has a place on a map page, or what else stopped the walk. A map page that is used is used twice.
+fn map_stop(error: &WalkError<MapRefusal<PageError>>) -> Stop
+    ensures { result ≡ Stop.DiskFault → IsTrue (is_failure (is_fault_beside is_fault) error.now) }
+{
+    match error {
+        WalkError::Defect(defect) => Stop::Refused(Refusal::Defect(*defect)),
+        WalkError::Source(MapRefusal::MapPage { page }) => {
+            Stop::Refused(Refusal::Defect(Defect::PageTwice { page: *page }))
+        }
+        WalkError::Source(MapRefusal::Refused(PageError::TagRefused { page })) => {
+            Stop::Refused(Refusal::PageTag { page: *page })
+        }
+        WalkError::Source(MapRefusal::Refused(PageError::DiskFault)) => Stop::DiskFault,
+        // A walk asks for pages of the file alone, draws nothing, and pins fewer pages than there are frames; no clause of it says so.
+        WalkError::Source(
+            MapRefusal::Refused(
+                PageError::AllPinned | PageError::OutOfRange | PageError::EntropyFault,
+            ),
+        )
+        | WalkError::OutOfMemory => Stop::OutOfMemory,
     }
 }
 

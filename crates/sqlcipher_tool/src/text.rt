@@ -1,11 +1,12 @@
 // Printed lines, in place: none takes memory.
 ghost use Rattle.std.specs.Prelude.{◌≡◌, ◌+◌, ◌≤◌, ◌++◌, [], length, codes};
 ghost use Rattle.text_lines.specs.Text.{field_line};
-ghost use Rattle.sqlcipher_tool.specs.Text.{defect_text, of_page, verify_report, refusal_text, refusal_line, tags_report, probe_report, profile_word, recovery_line, stamped_report, settled_report, rekeyed_report, migrated_report, made_report, header_report, usage_line, key_refused_line};
+ghost use Rattle.sqlcipher_tool.specs.Text.{defect_text, of_page, verify_report, refusal_text, refusal_line, tags_report, probe_report, recovery_line, stamped_report, settled_report, rekeyed_report, migrated_report, made_report, header_report, usage_line, key_refused_line};
 
 use crate::status::Refusal;
 use cipher_profile::Profile;
 use db_format::{Defect, Header};
+use profile_word::push_word;
 use rollback_journal::Recovery;
 use text_lines::Text;
 
@@ -156,19 +157,6 @@ pub fn probe_report(profile: &Profile) -> Text
     push_word(&mut text, profile);
     text.push(b"\n");
     text
-}
-
-// The word of a profile.
-fn push_word(text: &mut Text, profile: &Profile)
-    requires { length text.old ≤ 900 }
-    ensures word { text.new ≡ text.old ++ profile_word profile.now }
-    ensures short { length text.new ≤ length text.old + 50 }
-{
-    text.push_number(u64::from(profile.version));
-    if profile.version == 4 && profile.page_size != 4096 {
-        text.push(b":");
-        text.push_number(u64::from(profile.page_size));
-    }
 }
 
 /// The line of a recovery.

@@ -1,15 +1,18 @@
-use Rattle.std.proofs.Common.{◌≡◌, inl, ◌≤◌, ◌<◌, true, ℕ, List, drop, length, refl, sym, ap, subst, ◌∙◌, arith}
+use Rattle.std.proofs.Common.{◌≡◌, inl, ◌≤◌, ◌<◌, true, ℕ, List, Result, drop, length, refl, sym, ap, subst, ◌∙◌, arith}
 use Rattle.cipher_profile.proofs.Layouts.{IsListed-laid_out}
 use Rattle.fresh_disk.specs.Published.{IsAlone}
 use Rattle.edge_model.specs.Files.{Files, bytes_of, main_of}
 use Rattle.edge_model.specs.Images.{Each, From, LeavesOnly}
 use Rattle.edge_model.specs.Moments.{at_exit, then_from, weaker}
 use Rattle.page_codec.specs.Page.{keys_of}
+use Rattle.rollback_journal.specs.declared.recovery.RecoverError.{RecoverError}
+use Rattle.rollback_journal.specs.declared.recovery.Recovery.{Recovery}
 use Rattle.atomic_commit.specs.Facts.{SameFresh}
 use Rattle.sqlcipher_tool.specs.Change.{KeepsOrCommits}
 use Rattle.sqlcipher_tool.specs.Due.{change_answers}
 use Rattle.sqlcipher_tool.specs.Holding.{HoldsOnly, held_by}
-use Rattle.sqlcipher_tool.specs.Recovered.{recovered_main, recovery_of}
+use Rattle.sqlcipher_tool.specs.Promises.{AnswersOne}
+use Rattle.sqlcipher_tool.specs.Recovered.{answers_after, recovered_main, recovery_of}
 use Rattle.sqlcipher_tool.specs.Renewal.{IsNewDrawn, Renewal, renewed, secret_after}
 use Rattle.sqlcipher_tool.specs.Words.{profile_after, profile_before}
 use Rattle.sqlcipher_tool.specs.declared.command.Command.TheVariants.{Change as ChangeFile}
@@ -23,6 +26,18 @@ use Rattle.sqlcipher_tool.proofs.Verified.{stop_one}
 use Rattle.sqlcipher_tool.proofs.VerifiedFile.{answers_recovered, change_of_file, refused_due}
 use Rattle.sqlcipher_tool.proofs.LeftAlone.{empty_unopened, has_no_byte, unwritten_read}
 use Rattle.sqlcipher_tool.proofs.change.change_file.Goals as goal
+
+pub returns-in-Ok-clause-answer : goal.returns-in-Ok-clause-answer
+returns-in-Ok-clause-answer g c = λ told.
+    let d = g.D.Disk in
+    let before = d.reads c.args.disk.now in
+    let after = main_of (d.reads c.change_main.new.disk) in
+    let renewal : Renewal = renewed c.args.profile c.args.change c.args.secrets.now.first c.args.secrets.now.second in
+    let taken = g.S.Sink.taken in
+    subst (λ (r : Result Recovery RecoverError). AnswersOne (answers_after r (change_answers c.args.change renewal (recovered_main c.args.profile before) after)) c.change_main.result g.S.Sink.tells (taken c.args.out.now) (taken c.change_main.new.out))
+    (sym (c.in-Ok.ensures.recovery told))
+    (subst (λ (l : List ℕ). AnswersOne (change_answers c.args.change renewal l after) c.change_main.result g.S.Sink.tells (taken c.args.out.now) (taken c.change_main.new.out))
+    (c.in-Ok.ensures.main told) (c.change_main.ensures.answer told))
 
 pub returns-in-Ok-clause-causes : goal.returns-in-Ok-clause-causes
 returns-in-Ok-clause-causes g c = causes_after c.change_main.result _ _ _ _ _ _ _ c.recover_main.ensures.later c.change_main.ensures.causes

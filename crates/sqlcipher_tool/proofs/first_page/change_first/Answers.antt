@@ -1,4 +1,4 @@
-use Rattle.std.proofs.Common.{◌≡◌, ◌==◌, inl, inr, ℕ, Bool, true, false, List, drop, length, Err, if◌then◌else◌, refl, sym, ap, subst, ◌∙◌, arith, rules}
+use Rattle.std.proofs.Common.{◌≡◌, ◌==◌, inl, inr, ℕ, Bool, true, List, drop, length, Err, refl, sym, ap, subst, ◌∙◌, arith, rules}
 use Rattle.edge_model.specs.Images.{From, LeavesOnly}
 use Rattle.edge_model.specs.Moments.{started_from, then_from}
 use Rattle.page_codec.specs.Page.{FileKeys}
@@ -18,7 +18,8 @@ use Rattle.sqlcipher_tool.specs.FirstPage.{IsFirstChanged}
 use Rattle.rekey_job.specs.Draws.{FileDraws}
 use Rattle.sqlcipher_tool.specs.declared.opening.ChangeError.{ChangeError}
 use Rattle.sqlcipher_tool.specs.declared.status.Status.TheVariants.{Done, DiskFault, OutOfMemory, EntropyFault}
-use Rattle.sqlcipher_tool.proofs.Stamping.{SeesFirst, begun, done, draws, failed, page_faults, page_is, page_late, sees_first, unbegun, unended, unwritten, was_ok, differ, layout_same}
+use Rattle.sqlcipher_tool.proofs.Committed.{begun, unbegun, unended, unwritten}
+use Rattle.sqlcipher_tool.proofs.Stamping.{SeesFirst, done, draws, failed, one_alone, page_faults, page_is, page_late, sees_first, was_ok, differ, layout_same}
 use Rattle.sqlcipher_tool.proofs.first_page.change_first.Goals as goal
 use Rattle.sqlcipher_tool.proofs.Changing.{error_not_done}
 
@@ -115,14 +116,6 @@ returns-in-Err-write_fields-clause-fresh g c = λ told.
 
 pub returns-in-Err-write_fields-clause-late : goal.returns-in-Err-write_fields-clause-late
 returns-in-Err-write_fields-clause-late g c = page_late c.in-Err-write_fields.error c.page_error.result c.page_error.ensures
-
--- of a page more than the first nothing was changed
-one_alone : (m : ℕ) (b : Bool) → b ≡ false → (if m == 1 then true else b) ≡ (m == 1)
-one_alone m b is = ap (λ (b : Bool). if m == 1 then true else b) is ∙ alone (m == 1)
-  where
-    alone : (b : Bool) → (if b then true else false) ≡ b
-    alone true = refl
-    alone false = refl
 
 pub returns-in-Ok-done-clause-safely : goal.returns-in-Ok-done-clause-safely
 returns-in-Ok-done-clause-safely g c = λ told.

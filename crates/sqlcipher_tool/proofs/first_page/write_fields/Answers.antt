@@ -1,11 +1,11 @@
-use Rattle.std.proofs.Common.{◌≡◌, ◌==◌, ℕ, Bool, true, false, List, Err, if◌then◌else◌, refl, sym, ap, subst, ◌∙◌, arith, rules}
-use Rattle.std.specs.Int.{w32, to_be_bytes}
+use Rattle.std.proofs.Common.{◌≡◌, ℕ, true, List, Err, sym, ap, subst, ◌∙◌, arith, rules}
 use Rattle.pager.specs.Changed.{with_bytes}
 use Rattle.pager.specs.Pages.{is_page_number}
 use Rattle.pager.specs.UnderWay.{seen_pages}
 use Rattle.edge_model.specs.Files.{main_of}
 use Rattle.edge_model.specs.Moments.{and_then, then_from}
 use Rattle.sqlcipher_tool.specs.FirstPage.{with_field}
+use Rattle.sqlcipher_tool.proofs.FieldsWritten.{again, field_of}
 use Rattle.sqlcipher_tool.proofs.Stamping.{refused_later}
 use Rattle.sqlcipher_tool.proofs.first_page.write_fields.Goals as goal
 
@@ -41,24 +41,12 @@ changed_by seen one two three four bytes at change pages first second third four
     ∙ ap (λ (l : List ℕ). with_field 92 change (with_field 28 pages l)) second
     ∙ ap (λ (l : List ℕ). with_field 92 change (with_field 28 pages (with_field 24 change l))) first
 
--- a number in its bytes
-field_of : (at value : ℕ) (bytes plain page : List ℕ) → bytes ≡ to_be_bytes w32 value → page ≡ with_bytes at bytes plain → page ≡ with_field at value plain
-field_of at value bytes plain page same is = is ∙ ap (λ (b : List ℕ). with_bytes at b plain) same
-
 pub returns-clause-changed : goal.returns-clause-changed
 returns-clause-changed g c = λ told.
     changed_by _ _ _ _ _ c.args.bytes.now c.args.at c.args.change c.args.pages (c.in_ok-write_bytes.ensures.written told)
     (field_of 24 c.args.change _ _ _ c.u32_bytes.ensures (c.in_ok-write_bytes-2.ensures.written told))
     (field_of 28 c.args.pages _ _ _ c.u32_bytes-2.ensures (c.in_ok-write_bytes-3.ensures.written told))
     (field_of 92 c.args.change _ _ _ c.u32_bytes-3.ensures (c.in_ok-write_bytes-4.ensures.written told))
-
--- a page that is changed again
-again : (m : ℕ) (a b d : Bool) → a ≡ (if m == 1 then true else b) → b ≡ (if m == 1 then true else d) → a ≡ (if m == 1 then true else d)
-again m a b d one two = one ∙ ap (λ (b : Bool). if m == 1 then true else b) two ∙ both (m == 1)
-  where
-    both : (is : Bool) → (if is then true else (if is then true else d)) ≡ (if is then true else d)
-    both true = refl
-    both false = refl
 
 pub returns-clause-touched : goal.returns-clause-touched
 returns-clause-touched g c = λ m num.

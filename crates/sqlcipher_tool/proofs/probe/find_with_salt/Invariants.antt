@@ -1,7 +1,7 @@
 use Rattle.std.proofs.Common.{◌≡◌, ◌≤◌, take, None, IsTrue}
 use Rattle.std.specs.Prelude.{find}
 use Rattle.cipher_profile.specs.Keys.{page_keys}
-use Rattle.cipher_profile.specs.Profile.{probed_profiles}
+use Rattle.profile_word.specs.Tried.{probed_profiles}
 use Rattle.edge_model.specs.OnlyRead.{OnlyRead}
 use Rattle.edge_model.specs.Files.{main_of}
 use Rattle.sqlcipher_tool.specs.Probe.{is_fitting}

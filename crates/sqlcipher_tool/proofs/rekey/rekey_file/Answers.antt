@@ -18,9 +18,9 @@ use Rattle.atomic_commit.specs.Facts.{SameFresh}
 use Rattle.sqlcipher_tool.specs.Change.{KeepsOrCommits, change_status}
 use Rattle.rekey_job.specs.Draws.{FileDraws}
 use Rattle.sqlcipher_tool.specs.Holding.{HoldsOnly, held_by}
-use Rattle.sqlcipher_tool.specs.Opening.{opened_with}
+use Rattle.sqlcipher_tool.specs.Opening.{opened_with, page_count_of}
 use Rattle.sqlcipher_tool.specs.Rekey.{rekey_due}
-use Rattle.sqlcipher_tool.specs.Renewal.{IsRekeyedSo, WithDraws, page_count_of}
+use Rattle.sqlcipher_tool.specs.Renewal.{IsRekeyedSo, WithDraws}
 use Rattle.sqlcipher_tool.specs.Verify.{opened_answers}
 use Rattle.sqlcipher_tool.specs.Behind.{IsRefusedChange}
 use Rattle.sqlcipher_tool.proofs.Behind.{after_read, read_stays}

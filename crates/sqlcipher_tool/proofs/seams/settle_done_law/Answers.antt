@@ -4,7 +4,7 @@ use Rattle.sqlcipher_tool.specs.Holding.{HoldsOnly, disk_run}
 use Rattle.sqlcipher_tool.specs.Recovered.{recovered_main}
 use Rattle.sqlcipher_tool.specs.Renewal.{renewed}
 use Rattle.sqlcipher_tool.specs.declared.change.Change.TheVariants.{Settle as SettleBy}
-use Rattle.sqlcipher_tool.proofs.SettledClean.{settle_done}
+use Rattle.sqlcipher_tool.proofs.SettledDone.{settle_done}
 use Rattle.sqlcipher_tool.proofs.seams.settle_done_law.Goals as goal
 
 pub returns : goal.returns

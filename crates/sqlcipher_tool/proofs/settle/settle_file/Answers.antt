@@ -1,11 +1,11 @@
 use Rattle.std.proofs.Common.{◌≡◌, ⊎_elim, inl, ◌≤◌, ℕ, List, [], drop, length, Option, Result, Ok, Err, true, IsTrue, refl, sym, ap, subst, ◌∙◌, arith, rules}
-use Rattle.std.specs.Prelude.{IfErr, OnOk, unwrap_or}
-use Rattle.fresh_disk.specs.OnlyFresh.{IsOld}
+use Rattle.std.specs.Prelude.{OnOk, unwrap_or}
 use Rattle.fresh_disk.specs.Published.{IsAlone}
 use Rattle.edge_model.specs.Files.{Files, main_of}
-use Rattle.edge_model.specs.Images.{Each, From, LeavesOnly}
+use Rattle.edge_model.specs.Images.{From, LeavesOnly}
 use Rattle.edge_model.specs.Moments.{then_from}
-use Rattle.cipher_profile.specs.Profile.{IsListed, with_log}
+use Rattle.cipher_profile.specs.Profile.{IsListed, usable, with_log}
+use Rattle.map_pages.specs.Maps.{map_count}
 use Rattle.cipher_profile.specs.declared.profile.Profile.{Profile}
 use Rattle.page_codec.specs.Page.{FileKeys, keys_of, salt_of}
 use Rattle.pager.specs.Opening.{file_opened}
@@ -15,7 +15,8 @@ use Rattle.sqlcipher_tool.specs.Change.{KeepsOrCommits, change_status}
 use Rattle.sqlcipher_tool.specs.Holding.{HoldsOnly, held_by}
 use Rattle.sqlcipher_tool.specs.Opening.{opened_with}
 use Rattle.sqlcipher_tool.specs.Renewal.{WithDraws}
-use Rattle.sqlcipher_tool.specs.Settle.{IsSettledFrom, IsSettledUnder, SettledDraws, first_plain, marked_answer, marks_of, settled_answer}
+use Rattle.sqlcipher_tool.specs.Maps.{first_plain}
+use Rattle.sqlcipher_tool.specs.Settle.{IsSettledFrom, IsSettledUnder, SettledDraws, marked_answer, marks_of, settled_answer}
 use Rattle.sqlcipher_tool.specs.declared.status.Status.{Status}
 use Rattle.sqlcipher_tool.specs.declared.status.Status.TheVariants.{Done}
 use Rattle.sqlcipher_tool.proofs.Behind.{after_read, read_stays}
@@ -35,7 +36,7 @@ pub returns-in-Err-clause-told : goal.returns-in-Err-clause-told
 returns-in-Err-clause-told g c = λ told answer same.
     let file = main_of (g.D.Disk.reads c.args.disk.now) in
     let keys = keys_of (with_log c.args.profile) c.args.secret.now file in
-    unopened_settle c.args.frames (first_plain keys file) c.in-Err.stop (opened_with (with_log c.args.profile) c.args.secret.now file) answer (c.in-Err.ensures.stop told) same
+    unopened_settle (usable c.args.profile) c.args.frames (first_plain keys file) c.in-Err.stop (opened_with (with_log c.args.profile) c.args.secret.now file) answer (c.in-Err.ensures.stop told) same
 
 pub returns-in-Err-clause-safely : goal.returns-in-Err-clause-safely
 returns-in-Err-clause-safely g c = λ told start.
@@ -121,9 +122,10 @@ returns-clause-told g c = λ told answer is.
     let codec : p.codec ≡ keys = made.file.0 ∙ c.in-Ok.ensures.codec told in
     let same : main_of (d.reads p.disk.now) ≡ file = ap (λ (x : _). main_of (d.reads x)) made.disk.1 ∙ ap (λ (files : Files). main_of files) (c.open_main.ensures.only_read told).stays in
     c.settle_pages-disk.ensures.told told answer is
-    ∙ ap (λ (k : FileKeys). marked_answer c.args.frames (marks_of (first_plain k (main_of (d.reads p.disk.now))))) codec
-    ∙ ap (λ (l : List ℕ). marked_answer c.args.frames (marks_of (first_plain keys l))) same
-    ∙ sym (ap (settled_answer c.args.frames (first_plain keys file)) (c.in-Ok.ensures.opens told))
+    ∙ ap (λ (k : FileKeys). marked_answer c.args.frames (map_count (usable k.profile) p.count) (marks_of (first_plain k (main_of (d.reads p.disk.now))))) codec
+    ∙ ap (λ (l : List ℕ). marked_answer c.args.frames (map_count (usable keys.profile) p.count) (marks_of (first_plain keys l))) same
+    ∙ ap (λ (n : ℕ). marked_answer c.args.frames (map_count (usable keys.profile) n) (marks_of (first_plain keys file))) made.file.2
+    ∙ sym (ap (settled_answer (usable c.args.profile) c.args.frames (first_plain keys file)) (c.in-Ok.ensures.opens told))
 
 pub returns-clause-safely : goal.returns-clause-safely
 returns-clause-safely g c = λ told start.
