@@ -35,6 +35,7 @@ log_company.py
 two_runs.sh
 first_use.sh
 beside_an_app.sh
+settings.sh
 renames.sh
 edges.sh
 log_refusals.sh

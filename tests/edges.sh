@@ -99,15 +99,29 @@ row 1 usage 'unknown command `chek`; --help lists' '"$tool" file.db chek 4 < key
 row 1 usage 'unknown command `?[31mred`; --help' '"$tool" file.db $'"'\e[31mred'"' < key'
 row 1 usage '`verify` takes the version that wrote the file, 1, 2, 3 or 4, which `probe` finds' '"$tool" file.db verify < key'
 row 1 usage '`verify` takes a version and nothing else' '"$tool" file.db verify 4 4 < key'
-row 1 usage '`v4` is no version: there are 1, 2, 3, 4 and 4:SIZE, and `probe` finds that of a file' '"$tool" file.db verify v4 < key'
-row 1 usage '`4:512` is no version: the pages of version 4 have 1024, 2048, 4096,' '"$tool" file.db tags 4:512 < key'
-row 1 usage '`4:` is no version: the pages of version 4 have' '"$tool" file.db rekey 4 4: < key'
+row 1 usage '`v4` is no version: there are 1, 2, 3 and 4, each with settings behind colons, and `probe` finds that of a file' '"$tool" file.db verify v4 < key'
+row 1 usage '`4:512` is no version: `512`: the pages of encrypted files have 1024, 2048, 4096,' '"$tool" file.db tags 4:512 < key'
+row 1 usage '`4:` is no version: ``: the pages of encrypted files have' '"$tool" file.db rekey 4 4: < key'
 for word in plain plain: plain:256 plain:131072 plain:04096 plain:4k 'plain 4096'; do
-    row 1 usage "\`$word\` is no version: the pages of plain files have 512, 1024, 2048," "\"\$tool\" file.db verify '$word' < key"
+    row 1 usage "the pages of plain files have 512, 1024, 2048," "\"\$tool\" file.db verify '$word' < key"
 done
 row 1 usage '`Plain:4096` is no version: there are' '"$tool" file.db migrate 4 Plain:4096 < key'
 row 1 usage '`verify` takes the version that wrote the file, 1, 2, 3 or 4, which `probe` finds, or of a plain file plain:SIZE' '"$tool" file.db verify < key'
-row 1 usage '`3:1024` is no version: there are' '"$tool" file.db migrate 4:8192 3:1024 < key'
+while IFS='|' read -r word part what; do
+    row 1 usage "\`$word\` is no version: \`$part\`: $what" "\"\$tool\" file.db verify '$word' < key"
+done <<'PARTS'
+4:hmac=sha2|hmac=sha2|hmac=sha1, hmac=sha256, hmac=sha512 or hmac=off
+4:1024:kdf=off|kdf=off|kdf=sha1, kdf=sha256 or kdf=sha512
+3:rounds=0|rounds=0|rounds=1 to rounds=2147483647
+3:rounds=2147483648:kdf=x|rounds=2147483648|rounds=1 to rounds=2147483647
+3:4096:4096|4096|it is given twice
+4:rounds=1:wal:rounds=1|rounds=1|it is given twice
+4:04096|04096|the pages of encrypted files have
+plain:4096:rounds=1|rounds=1|a plain file has no setting but the size of its pages and `wal`
+4:plain-header=32|plain-header=32|a file whose first bytes are in the clear
+4:pages=1024|pages=1024|a setting is the size of a page, rounds=N,
+4:WAL|WAL|a file is read with its log under the setting `wal`
+PARTS
 row 1 usage '`make` takes a version, and how many rows' '"$tool" new.db make 4:8192 many < key'
 row 1 usage '`5` is no version' '"$tool" file.db rekey 4 5 < key'
 row 1 usage '`0` is no version' '"$tool" file.db stamp 0 user-version 7 < key'

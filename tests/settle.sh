@@ -2,8 +2,8 @@
 # `settle` on files in WAL mode with their logs, by the product, of each profile and each age (tests/reference/oracle/log_pairs.py): behind it there is
 # no log, the program's `verify`, `export`, `rekey` and `migrate` serve the file without the setting, and print what they say of the pair under it; the
 # product finds it sound, in `journal_mode` delete, and dumps the rows that it dumps of a copy of the pair which it has closed itself. Once more it
-# changes nothing. A file with auto-vacuum is refused, and so is a log of another file, before anything is written; beside a program that has the file
-# open the status is 4. Then it is stopped at each writing call of the system, and each call of the system fails once: what is left the product reads
+# changes nothing. Of a file with auto-vacuum the map pages are free then, and the product finds none (`auto_vacuum` 0). A log of another file is refused
+# before anything is written; beside a program that has the file open the status is 4. Then it is stopped at each writing call of the system, and each call of the system fails once: what is left the product reads
 # with the same rows, and `settle` again goes to its end.
 #
 #     tests/settle.sh
@@ -55,8 +55,21 @@ print(count)
 PYTHON
 }
 
+# How many map pages a settled file had, for the reserve of its pages (Database File Format, section 1.8).
+maps_of() { # maps_of FILE WORD
+    python3 - "$1" "$2" <<'PYTHON'
+import os, sys
+path, word = sys.argv[1:]
+version, _, size = word.partition(":")
+size = int(size or (4096 if version == "4" else 1024))
+usable = size - {"1": 16, "2": 48, "3": 48, "4": 80, "plain": 0}[version]
+count = os.path.getsize(path) // size
+print((count - 2) // (usable // 5 + 1) + 1 if count >= 2 else 0)
+PYTHON
+}
+
 # ---- each pair
-settled=0 refused=0 number=0
+settled=0 refused=0 number=0 vacuumed=0
 while IFS=$'\t' read -r name word special; do
     number=$((number + 1))
     [ $((number % every)) -eq 0 ] || continue
@@ -64,9 +77,8 @@ while IFS=$'\t' read -r name word special; do
     place "$pair"
     told "$word" verify "$word:wal" > "$scratch/verified"
     status=$?
-    # What is refused as a pair is refused alike, as is auto-vacuum by its name, before anything is written. (So is a file of version 1
-    # behind the product's VACUUM: its key is refused, without a log too.)
-    [ "${special#auto-vacuum}" = "$special" ] || { status=2; echo auto-vacuum > "$scratch/verified"; }
+    # What is refused as a pair is refused alike, before anything is written. (So is a file of version 1 behind the product's VACUUM: its key is
+    # refused, without a log too.)
     if [ "$status" -ne 0 ]; then
         seen "$scratch/now" > "$scratch/before"
         told "$word" settle "$word" > "$scratch/lines"
@@ -82,12 +94,22 @@ while IFS=$'\t' read -r name word special; do
     rows "$word" "$scratch/theirs/file" > "$scratch/dump"
     rm -rf "$scratch/theirs"
     told "$word" export "$word:wal" > "$scratch/exported"
-    wanted="settled: $(committed "$pair/file-wal") log frames, 0 map pages"
     told "$word" settle "$word" > "$scratch/lines"
     status=$?
+    # Map pages are no longer unused, but free.
+    maps=0
+    [ "${special#auto-vacuum}" = "$special" ] || maps=$(maps_of "$scratch/now/file" "$word")
+    awk -v maps="$maps" '/^ok: / { $6 += maps; $9 -= maps } { print }' "$scratch/verified" > "$scratch/sound"
+    vacuumed=$((vacuumed + (maps > 0)))
+    wanted="settled: $(committed "$pair/file-wal") log frames, $maps map pages"
     [ "$status" -eq 0 ] && [ "$(cat "$scratch/lines")" = "$wanted" ] || say "$name: ends with $status and '$(cat "$scratch/lines" "$scratch/errors")', wanted '$wanted'"
+    # Of pages that were not committed standard error says so, of frames from before the log was begun anew it says nothing.
+    case $name in
+        *-uncommitted) grep -q ' frames behind its last commit were not laid' "$scratch/errors" || say "$name: standard error has '$(cat "$scratch/errors")'" ;;
+        *-commits | *-restarted*) ! grep -q 'behind its last commit' "$scratch/errors" || say "$name: standard error has '$(cat "$scratch/errors")'" ;;
+    esac
     [ "$(left)" = ./file ] || say "$name: left are $(left)"
-    told "$word" verify "$word" | cmp -s - "$scratch/verified" || say "$name: verify says another thing: $(told "$word" verify "$word")"
+    told "$word" verify "$word" | cmp -s - "$scratch/sound" || say "$name: verify says another thing: $(told "$word" verify "$word")"
     told "$word" export "$word" | cmp -s - "$scratch/exported" || say "$name: export prints other rows"
     cp "$scratch/now/file" "$scratch/settled"
     rows "$word" "$scratch/settled" | cmp -s - "$scratch/dump" || say "$name: the product dumps other rows"
@@ -109,7 +131,51 @@ while IFS=$'\t' read -r name word special; do
     settled=$((settled + 1))
 done < "$scratch/pairs/pairs.tsv"
 [ "$settled" -gt 0 ] || say "no pair is settled"
-echo "settle: $settled pairs settled, $refused refused"
+[ "$vacuumed" -gt 0 ] || [ "$every" -gt 1 ] || say "no file with auto-vacuum is settled"
+echo "settle: $settled pairs settled, $vacuumed of them with map pages, $refused refused"
+
+# ---- many map pages: more than a trunk takes, beside an old freelist, and more trunks than pages that stand in memory; one page of a tree on a map page
+made_with_maps() { # made_with_maps SIZE ROWS BYTES: a plain file with auto-vacuum and a freelist, in `now`
+    rm -rf "$scratch/now" && mkdir "$scratch/now"
+    printf '%s\n' "PRAGMA page_size = $1; PRAGMA auto_vacuum = 2; CREATE TABLE t(a INTEGER PRIMARY KEY, b); CREATE TABLE u(x);" \
+        "WITH RECURSIVE n(i) AS (SELECT 1 UNION ALL SELECT i + 1 FROM n WHERE i < $2) INSERT INTO t SELECT i, randomblob($3) FROM n;" \
+        "INSERT INTO u SELECT randomblob(3000) FROM t LIMIT 40; DROP TABLE u;" | sqlite3 -batch "$scratch/now/file" > /dev/null
+}
+key=''
+while read -r size rows bytes; do
+    made_with_maps "$size" "$rows" "$bytes"
+    rows plain:"$size" "$scratch/now/file" > "$scratch/dump"
+    free=$(sqlite3 "$scratch/now/file" 'PRAGMA freelist_count')
+    told plain:"$size" settle plain:"$size" > "$scratch/lines"
+    maps=$(maps_of "$scratch/now/file" plain:"$size")
+    [ "$(cat "$scratch/lines")" = "settled: 0 log frames, $maps map pages" ] || say "$size, $rows rows: '$(cat "$scratch/lines" "$scratch/errors")', wanted $maps map pages"
+    [ "$(looks plain:"$size" "$scratch/now/file")" = "ok delete 0 " ] || say "$size, $rows rows: the product says $(looks plain:"$size" "$scratch/now/file")"
+    [ "$(sqlite3 "$scratch/now/file" 'PRAGMA freelist_count')" -eq $((free + maps)) ] || say "$size, $rows rows: free are $(sqlite3 "$scratch/now/file" 'PRAGMA freelist_count'), wanted $free and $maps"
+    rows plain:"$size" "$scratch/now/file" | cmp -s - "$scratch/dump" || say "LOST: $size, $rows rows: the product dumps other rows"
+    # Its new free pages are used, and it stays sound.
+    echo "INSERT INTO t(b) SELECT randomblob(3000) FROM t LIMIT 500; PRAGMA integrity_check;" | sqlite3 "$scratch/now/file" | grep -qx ok || say "$size, $rows rows: behind new rows the product finds it unsound"
+done <<'FILES'
+512 40 20
+512 30000 400
+1024 9000 900
+4096 20000 3000
+65536 4000 9000
+FILES
+# A part of the database on a map page is a page that is used twice: refused before anything is written.
+made_with_maps 1024 400 400
+python3 - "$scratch/now/file" <<'PYTHON'
+import sys
+with open(sys.argv[1], "r+b") as file:
+    file.seek(32)
+    trunk = int.from_bytes(file.read(4), "big")
+    file.seek((trunk - 1) * 1024 + 8)
+    file.write((2).to_bytes(4, "big"))      # a leaf of the freelist is page 2, the first map page
+PYTHON
+seen "$scratch/now" > "$scratch/before"
+told plain:1024 settle plain:1024 > "$scratch/lines"
+status=$?
+[ "$status" -eq 2 ] && [ "$(cat "$scratch/lines")" = "page 2: page twice" ] || say "a map page on the freelist: $status, '$(cat "$scratch/lines" "$scratch/errors")'"
+seen "$scratch/now" | cmp -s - "$scratch/before" || say "a map page on the freelist: refused, and the file has changed"
 
 # ---- a log of another file: under another key, of another page size or version, of a plain file
 strange=0
@@ -199,6 +265,66 @@ told 3 settle 3 > "$scratch/lines"
 [ "$(cat "$scratch/lines")" = "settled: 0 log frames, 0 map pages" ] && grep -q 'no commit in it holds' "$scratch/errors" ||
     say "a log with a damaged header: '$(cat "$scratch/lines" "$scratch/errors")'"
 [ "$(left)" = ./file ] || say "a log with a damaged header: left are $(left)"
+
+# ---- a log that was cut: within a frame behind its last whole commit, before the salts of a frame and behind them; at a frame's end; at a commit's end,
+# where it is whole; and a whole one with a part of a frame from before it was begun anew, as a limit on its size leaves it. What it has behind its last
+# commit standard error names, and of a whole one it says nothing. The lines and the rows are those of the product, which says nothing of it.
+cut_to() { # cut_to LOG HOW: the log is cut within the last commit of its own; prints how many frames of its own are committed then, and how many are not
+    python3 - "$1" "$2" <<'PYTHON'
+import sys
+path, how = sys.argv[1:]
+log = open(path, "rb").read()
+size, own = 24 + int.from_bytes(log[8:12], "big"), 0
+while 32 + (own + 1) * size <= len(log) and log[32 + own * size + 8:32 + own * size + 16] == log[16:24]:
+    own += 1
+ends = [k + 1 for k in range(own) if log[32 + k * size + 4:32 + k * size + 8] != bytes(4)]
+last, before = ends[-1], ends[-2]
+kept = {"whole": len(log), "page": 32 + last * size - 7, "salts": 32 + (last - 1) * size + 16, "head": 32 + (last - 1) * size + 9,
+        "frame": 32 + (last - 1) * size, "commit": 32 + before * size, "older": 32 + before * size}[how]
+log = log[:kept]
+if how == "older":      # two frames and a part of one whose salts are others
+    log += (bytes(8) + bytes(byte ^ 255 for byte in log[16:24]) + bytes(size - 16)) * 2 + bytes(8) + b"\xaa" * 100
+open(path, "wb").write(log)
+committed = last if how == "whole" else before
+print(committed, max(0, (kept - 32) // size - committed))
+PYTHON
+}
+cut=0
+while read -r name word; do
+    pair=$scratch/pairs/$name key=$(key_of "$word")
+    [ -d "$pair" ] || continue
+    for how in whole page salts head frame commit older; do
+        place "$pair"
+        read -r frames more < <(cut_to "$scratch/now/file-wal" "$how")
+        [ -n "$frames" ] || { say "$name: the log is not cut: $how"; continue; }
+        cp -r "$scratch/now" "$scratch/theirs"
+        rows "$word" "$scratch/theirs/file" > "$scratch/dump"
+        rm -rf "$scratch/theirs"
+        told "$word" settle "$word" > "$scratch/lines"
+        status=$?
+        wanted="settled: $frames log frames, 0 map pages"
+        [ "$status" -eq 0 ] && [ "$(cat "$scratch/lines")" = "$wanted" ] || say "$name: $how: ends with $status and '$(cat "$scratch/lines" "$scratch/errors")', wanted '$wanted'"
+        rows "$word" "$scratch/now/file" | cmp -s - "$scratch/dump" || say "$name: $how: the product dumps other rows"
+        case $how in
+            page | salts | head) wanted='it ended within a frame' ;;
+            frame) wanted="$more frames behind its last commit were not laid" ;;
+            *) wanted='' ;;
+        esac
+        if [ -n "$wanted" ] && [ "$how$more" != frame0 ]; then
+            grep -q "file-wal: $wanted" "$scratch/errors" || say "$name: $how: standard error has '$(cat "$scratch/errors")', wanted '$wanted'"
+        elif grep -q 'it ended within a frame\|behind its last commit' "$scratch/errors"; then
+            say "$name: $how: standard error has '$(cat "$scratch/errors")'"
+        fi
+        cut=$((cut + 1))
+    done
+done <<'PAIRS'
+3-commits 3
+2-commits 2
+4-commits 4
+plain-1024-commits plain:1024
+PAIRS
+[ "$cut" -gt 0 ] || say "no log is cut"
+echo "settle: $cut logs cut or whole, each told as it is"
 
 # ---- a hot journal beside the two: it is played back first, and then the log is read, as the product does
 pair=$scratch/pairs/plain-4096-restarted
@@ -301,6 +427,9 @@ done <<'PAIRS'
 3-closed 3
 4-first 4
 plain-512-first plain:512
+3-full 3
+4-1024-incremental 4:1024
+plain-512-full-dropped plain:512
 PAIRS
 [ "$stopped" -gt 0 ] || say "no stop"
-finish "$settled pairs, $strange logs of other files, $torn torn pages, $stopped stops and $failed faults"
+finish "$settled pairs, $strange logs of other files, $torn torn pages, $cut logs cut, $stopped stops and $failed faults"

@@ -125,6 +125,8 @@ def try_installed(folder):
     row("installed: salvage", f"{path}; sqlcipher-tool file.db salvage 3 < key | sqlcipher-tool-salvage-to-sql | grep COMMIT", folder, [], 0, ["COMMIT"])
     row("installed: completion", f". {prefix}/share/bash-completion/completions/sqlcipher-tool-ask; COMP_WORDS=(sqlcipher-tool f mig) COMP_CWORD=2; "
         "_sqlcipher_tool; echo \"${COMPREPLY[@]}\"", folder, [], 0, ["migrate"])
+    row("installed: completion of settings", f". {prefix}/share/bash-completion/completions/sqlcipher-tool; COMP_WORDS=(sqlcipher-tool f tags 4:rounds=1:h) "
+        "COMP_CWORD=3; _sqlcipher_tool; echo \"${COMPREPLY[@]}\"", folder, [], 0, ["4:rounds=1:hmac=sha256"])
     for name in ("man/man1/sqlcipher-tool.1", "doc/sqlcipher-tool/README.md", "doc/sqlcipher-tool/docs/DAMAGED_FILES.md", "doc/sqlcipher-tool/docs/FORMATS.md"):
         if not os.path.isfile(os.path.join(prefix, "share", name)):
             wrong.append(f"installed: share/{name} is not there")
