@@ -142,6 +142,8 @@ if has sqlcipher; then
     run settle void "log,marked" 3 3 settle 3
     run settle alone marked 3 3 settle 3
     run settle small none 3 3 settle 3
+    echo 'PRAGMA auto_vacuum = 2; VACUUM;' | { cp "$scratch/small" "$scratch/vacuum"; sql 3 "$k0" "$scratch/vacuum"; } > /dev/null
+    run settle vacuum vacuumed 3 3 settle 3
     started="log,laid=$(frames live),index,marked"
     kept_from_syncs settle live 3 3 settle 3
     started=none

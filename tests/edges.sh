@@ -461,7 +461,7 @@ row 2 'header fault at 16: 1000' 'its header names no size of pages that SQLite 
 row 2 'header fault at 21: 65' '' 'field 21 A "verify plain:1024"'
 row 2 'WAL mode' $'`export plain:1024:wal` reads the file as it is\n`sqlite3 FILE \'PRAGMA journal_mode = DELETE\'`; of a copy, FILE-wal has to lie beside it\n`settle plain:1024` lays FILE-wal into the file, where it is there' 'field 18 "\\2\\2" "export plain:1024"'
 row 0 "$counts" "$counts$told" 'field 18 "\\2\\2" "salvage plain:1024" | tail -n 1'
-row 2 'auto-vacuum' $'`export plain:1024:wal` reads a file with auto-vacuum as it is\n`sqlite3 FILE \'PRAGMA auto_vacuum = 0; VACUUM\'`' 'field 52 "\\0\\0\\0\\3" "migrate plain:1024 plain:4096"'
+row 2 'auto-vacuum' $'`export plain:1024:wal` reads a file with auto-vacuum as it is\n`sqlite3 FILE \'PRAGMA auto_vacuum = 0; VACUUM\'`\n`settle plain:1024` lays FILE-wal into the file, where it is there' 'field 52 "\\0\\0\\0\\3" "migrate plain:1024 plain:4096"'
 row 3 "$refused" "$magic" 'field 0 s "verify plain:1024"'
 row 4 '' $'this write-ahead log holds newer pages of the database\n`verify plain:1024:wal` reads the file with its log\n`settle plain:1024` lays FILE-wal into the file, where it is there\nPRAGMA journal_mode = DELETE\'` takes the log into the file; a log that is another\nit was not touched' \
     'cp kept.db logged.db; echo > logged.db-wal; "$tool" logged.db verify plain:1024 <&-'
@@ -587,7 +587,7 @@ row 2 'journal page size 1024' 'give 3, 2, 1 or 4:1024' '"$tool" hot.db tags 4:8
 row 2 'journal page size 1024' 'give 3, 2, 1 or 4:1024' '"$tool" hot.db salvage 4 < key'
 row 0 'played: 0' 'it had nothing to play back' '"$tool" hot.db recover 4:1024'
 hot_journal 00001000
-row 2 'journal page size 4096' 'another size: give 4;' '"$tool" hot.db recover 3'
+row 2 'journal page size 4096' 'another size: give 4, or another version with this size, as 3:4096;' '"$tool" hot.db recover 3'
 hot_journal 00010000
 row 2 'journal page size 65536' 'give 4:65536' '"$tool" hot.db recover 4'
 hot_journal 00000200

@@ -18,7 +18,7 @@ stride=${STRIDE:-16}
 pairs=$top/tests/reference/oracle/log_pairs.py
 export SQLCIPHER4=$four
 
-needs sqlcipher python3
+needs sqlcipher sqlite3 python3
 if ! has_reference; then
     leave_out "all of it, since Python's cryptography is missing"
     finish

@@ -107,7 +107,7 @@ def undrawn(calls):
 def expression(calls, tables, state):
     """A regular expression over calls that each end in a space. Before each call there may be reads that only look; reads are
     taken as they come (`*+`, `++`), so that a list of calls that does not agree is refused in a short time."""
-    tokens = re.findall(r"\{[^}]*\}|(?:hot|cold|left|log|laid|shorter|index|marked)\(|[()*+?]|[\w:@]+", calls)
+    tokens = re.findall(r"\{[^}]*\}|(?:hot|cold|left|log|laid|shorter|index|marked|vacuumed)\(|[()*+?]|[\w:@]+", calls)
 
     def item():
         token = tokens.pop(0)
