@@ -57,7 +57,7 @@ for box in "$scratch/changing" "$scratch/missing"; do
     tried 'both words' 2 "$only" - migrate plain:512:wal plain:512:wal
     tried 'another number' 2 "$only" - stamp 3:wal application-id 0
     for words in 'verify 3:wal:wal' 'verify wal' 'verify :wal' 'verify 3:WAL' 'verify 3:wa' 'verify 3:wall' 'verify 3wal' 'verify 3:' 'verify 3:wal:' \
-        'verify 3::wal' 'verify 3:wal:1024' 'verify plain:wal' 'verify 5:wal' 'verify 4:4095:wal' 'probe 3:wal' 'probe:wal' 'find 3:wal items 7' \
+        'verify 3::wal' 'verify 3:wal:wal' 'verify plain:wal' 'verify 5:wal' 'verify 4:4095:wal' 'probe 3:wal' 'probe:wal' 'find 3:wal items 7' \
         'play 3:WAL' 'play wal' 'recover 3:wal:wal' 'rekey 3:wal' 'migrate 3 :wal' 'make 3:wal'; do
         # shellcheck disable=SC2086
         tried "$(basename "$box")" 1 usage - $words
