@@ -205,7 +205,13 @@ product_files() {
         file=$files/$name
         key=${file%.db}.key
         [ -f "$file" ] && [ -f "$key" ] || fail "$name or its key is not made"
-        compare_with "$file" "$key" probe
+        # The reference has no words with settings, by which the program finds this one.
+        if [ "$name" = v3-raw-page-4096.db ]; then
+            compared=$((compared + 1))
+            [ "$("$program" "$file" probe < "$key" 2> /dev/null)" = "profile 3:4096" ] || say "$name probe: $("$program" "$file" probe < "$key" 2>&1)"
+        else
+            compare_with "$file" "$key" probe
+        fi
         if [ "$journal" != none ]; then
             [ -f "$file-journal" ] || fail "$name has no journal"
             # shellcheck disable=SC2086
