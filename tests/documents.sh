@@ -20,7 +20,7 @@ DOCUMENTS = ["README.md", "CONTRIBUTING.md", "bench/README.md", "crates/README.m
 # Words in backquotes that name no thing of this repository: other programs and their settings, words of the formats, of traces and of tools.
 ELSEWHERE = set("""
     strace sqlite3 cryptography hashlib cat ulimit flock inf rt sqlite sha1 sha2 hex itoa lru thiserror LruCache Drop executemany
-    sqlcipher_export sqlcipher4 cipher_page_size kdf_iter cipher_hmac_algorithm cipher_kdf_algorithm cipher_use_hmac cipher_plaintext_header_size cipher_hmac_pgno
+    sqlcipher_export sqlcipher4 cipher_page_size kdf_iter cipher_hmac_algorithm cipher_kdf_algorithm cipher_use_hmac cipher_plaintext_header_size cipher_hmac_pgno hexkey
     hashlib.pbkdf2_hmac journal_size_limit FILE P N KEY
 """.split())
 wrong = []

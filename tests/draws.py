@@ -1,6 +1,6 @@
 #!/usr/bin/env python3
 """The random bytes in a file are those that the system gave: strace sees each read of the device, and the salt of a new file and the IV and the
-filling of each of its pages, which a commit seals, are the bytes that were read, none of them twice.
+filling of each of its pages, which a commit seals, are the bytes that were read, none of them twice. For a file with a plain header no salt is drawn.
 
     tests/draws.py
 
@@ -10,6 +10,7 @@ import os, shutil, subprocess, sys, tempfile
 TOP = os.path.dirname(os.path.dirname(os.path.abspath(__file__)))
 PROGRAM = os.path.abspath(os.environ.get("PROGRAM", os.path.join(TOP, "out", "sqlcipher-tool")))
 OLD, NEW = (f"x'{digit * 64}'" for digit in "0a")
+SALTED, NEWER = (f"x'{digit * 96}'" for digit in "0a")      # for a file with a plain header, the salt last
 # page size, reserve and length of the tag, by version (SQLCipher's design: the IV stands before the tag, in the reserve)
 LAYOUTS = {"2": (1024, 48, 20), "3": (1024, 48, 20), "4": (4096, 80, 64), "1": (1024, 16, 0)}
 
@@ -28,17 +29,20 @@ def main():
         print("left out: all of it, since strace is missing")
         return 77
     wrong = pages = 0
+    headed = "4:plain-header=32"
     for version, words, keys in (("3", ["make", "3", "40"], [OLD]), ("4", ["make", "4", "40"], [OLD]), ("1", ["make", "1", "40"], [OLD]),
-                                 ("3", ["rekey", "3", "3"], [OLD, NEW]), ("4", ["migrate", "3", "4"], [OLD, NEW]), ("2", ["migrate", "3", "2"], [OLD, NEW])):
+                                 ("3", ["rekey", "3", "3"], [OLD, NEW]), ("4", ["migrate", "3", "4"], [OLD, NEW]), ("2", ["migrate", "3", "2"], [OLD, NEW]),
+                                 ("4", ["make", headed, "40"], [SALTED]), ("4", ["migrate", "3", headed], [OLD, SALTED]),
+                                 ("4", ["rekey", headed, "4:plain-header=48"], [SALTED, NEWER])):
         folder = tempfile.mkdtemp()
         file = os.path.join(folder, "file")
         if words[0] != "make":
-            subprocess.run([PROGRAM, file, "make", "3", "40"], input=(OLD + "\n").encode(), capture_output=True)
+            subprocess.run([PROGRAM, file, "make", words[1], "40"], input=(keys[0] + "\n").encode(), capture_output=True)
         status, drawn = drawn_by(folder, words, keys)
         data = open(file, "rb").read()
         size, reserve, tag = LAYOUTS[version]
         at = 0
-        if words[0] != "rekey":
+        if words[0] != "rekey" and headed not in words:
             at = 16
             if data[:16] != drawn[:16]:
                 wrong += 1

@@ -118,8 +118,25 @@ done <<'PARTS'
 4:rounds=1:wal:rounds=1|rounds=1|it is given twice
 4:04096|04096|the pages of encrypted files have
 plain:4096:rounds=1|rounds=1|a plain file has no setting but the size of its pages and `wal`
-4:plain-header=32|plain-header=32|a file whose first bytes are in the clear
-4:pages=1024|pages=1024|a setting is the size of a page, rounds=N,
+4:plain-header=0|plain-header=0|plain-header=16, 32, 48, 64, 80 or 96, for pages with tags: version 1 and hmac=off have none
+4:plain-header=20|plain-header=20|plain-header=16, 32, 48, 64, 80 or 96, for pages with tags: version 1 and hmac=off have none
+4:plain-header=112|plain-header=112|plain-header=16, 32, 48, 64, 80 or 96, for pages with tags: version 1 and hmac=off have none
+4:plain-header=032|plain-header=032|plain-header=16, 32, 48, 64, 80 or 96, for pages with tags: version 1 and hmac=off have none
+4:plain-header=off|plain-header=off|plain-header=16, 32, 48, 64, 80 or 96, for pages with tags: version 1 and hmac=off have none
+4:plain-header|plain-header|plain-header=16, 32, 48, 64, 80 or 96, for pages with tags: version 1 and hmac=off have none
+1:plain-header=32|plain-header=32|plain-header=16, 32, 48, 64, 80 or 96, for pages with tags: version 1 and hmac=off have none
+1:4096:plain-header=96:key=hex|plain-header=96|plain-header=16, 32, 48, 64, 80 or 96, for pages with tags: version 1 and hmac=off have none
+3:hmac=off:plain-header=32|plain-header=32|plain-header=16, 32, 48, 64, 80 or 96, for pages with tags: version 1 and hmac=off have none
+4:plain-header=16:rounds=9:hmac=off|plain-header=16|plain-header=16, 32, 48, 64, 80 or 96, for pages with tags: version 1 and hmac=off have none
+4:plain-header=32:rounds=9:plain-header=16|plain-header=16|it is given twice
+4:key=text|key=text|key=hex, where the key line is the passphrase in hex digits
+4:key=HEX|key=HEX|key=hex, where the key line is the passphrase in hex digits
+3:rounds=9:key=|key=|key=hex, where the key line is the passphrase in hex digits
+4:key|key|key=hex, where the key line is the passphrase in hex digits
+4:key=hex:wal:key=hex|key=hex|it is given twice
+plain:4096:plain-header=32|plain-header=32|a plain file has no setting but the size of its pages and `wal`
+plain:4096:key=hex|key=hex|a plain file has no setting but the size of its pages and `wal`
+4:pages=1024|pages=1024|a setting is the size of a page, rounds=N, kdf=HASH, hmac=HASH, hmac=off, plain-header=N, key=hex or wal,
 4:WAL|WAL|a file is read with its log under the setting `wal`
 PARTS
 row 1 usage '`make` takes a version, and how many rows' '"$tool" new.db make 4:8192 many < key'
@@ -378,18 +395,20 @@ row 3 "$refused" 'ends in a space' 'printf "%s \n" "$k0" | "$tool" file.db tags 
 row 3 "$refused" 'begins and ends with a quote' 'printf "\"%s\"\n" "$k0" | "$tool" file.db tags 4'
 row 3 "$refused" 'begins and ends with a quote' "echo \"'old'\" | \"\$tool\" file.db tags 4"
 row 3 "$refused" 'under version 3' '"$tool" file.db header 3 < key'
-row 3 "$refused" 'under version 4:1024' '"$tool" file.db header 4:1024 < key'
+row 3 "$refused" 'under version 4:1024: its settings are those that the program that wrote it gives to the product; without them `probe` finds' '"$tool" file.db header 4:1024 < key'
 { printf 'SQLite format 3\0\0\0'; tail -c +19 file.db; } > plain.db
 printf '\0' | dd of=plain.db bs=1 seek=20 conv=notrunc status=none
-row 3 "$refused" 'it is not encrypted, but its header names no size of pages' '"$tool" plain.db tags 4 < key'
-row 3 "$refused" 'it is not encrypted, but its header names no size of pages' "echo $digits | \"\$tool\" plain.db probe"
+no_size='but names no size of pages that SQLite has: it is damaged, or SQLCipher wrote it with its first 16 bytes alone in the clear: then give 4:plain-header=16'
+row 3 "$refused" "$no_size" '"$tool" plain.db tags 4 < key'
+row 3 "$refused" "$no_size" "echo $digits | \"\$tool\" plain.db probe"
 row 3 "$refused" 'does not fit under version 4' '{ printf "SQLite format 3\1"; tail -c +17 file.db; } > other.db; "$tool" other.db tags 4 < key'
 rows=$((rows + 1))
 for line in "$digits" "old carriage" 'quoted secret"'; do
     printf '%s\n' "$line" | "$tool" file.db tags 4 2>&1 > /dev/null | grep -qF -- "$line" && say "a key is shown: $line"
 done
 
-row 2 'key with salt' 'give the first 64 digits alone' "echo \"x'$digits${digits:0:32}'\" | \"\$tool\" file.db tags 4"
+keep_64='so give the first 64 digits alone, as x'"'..'; where its first bytes are in the clear, as under :plain-header=32, it does not, and the line is right"
+row 2 'key with salt' "$keep_64" "echo \"x'$digits${digits:0:32}'\" | \"\$tool\" file.db tags 4"
 
 # Plain files: what an encrypted file, another size, a mode, reserved bytes and a missing key line are told by, and what the lines say.
 unencrypted='the file begins with `SQLite format 3`: it is not encrypted. Give plain:1024 in the place of the version, and no key; `migrate plain:1024 4` encrypts it'
@@ -453,9 +472,9 @@ field() { # field OFFSET BYTES WORDS: the words on a copy with these bytes there
     # shellcheck disable=SC2086
     "$tool" field.db $3 <&-
 }
-row 2 'header fault at 20: 12' 'its pages have 12 reserved bytes: where SQLite wrote it, `sqlite3 FILE .dump | sqlite3 NEW`' 'field 20 "\\014" "verify plain:1024"'
-row 2 'header fault at 20: 80' '(`cipher_plaintext_header_size`), it is not served' 'field 20 "\\120" "header plain:1024"'
-row 3 "$refused" 'the file begins with `SQLite format 3`, and its pages have 80 reserved bytes: where SQLite wrote it' 'field 20 "\\120" "header plain:1024" > lines.txt 2>&1; "$tool" field.db verify 4 < key'
+row 2 'header fault at 20: 12' 'its pages have 12 reserved bytes: where SQLCipher wrote it with its first bytes in the clear' 'field 20 "\\014" "verify plain:1024"'
+row 2 'header fault at 20: 80' '(`cipher_plaintext_header_size`), give 4:plain-header=32, and the key with its salt, x'"'"' and 96 hex digits and '"'"'; where SQLite wrote it, `sqlite3 FILE .dump | sqlite3 NEW`' 'field 20 "\\120" "header plain:1024"'
+row 3 "$refused" 'the file begins with `SQLite format 3`, and its pages have 80 reserved bytes: where SQLCipher wrote it' 'field 20 "\\120" "header plain:1024" > lines.txt 2>&1; "$tool" field.db verify 4 < key'
 row 2 'header fault at 16: 1' 'give plain:65536' 'field 16 "\\0\\1" "verify plain:1024"'
 row 2 'header fault at 16: 1000' 'its header names no size of pages that SQLite has: the file is damaged' 'field 16 "\\3\\350" "verify plain:1024"'
 row 2 'header fault at 21: 65' '' 'field 21 A "verify plain:1024"'
@@ -467,6 +486,78 @@ row 4 '' $'this write-ahead log holds newer pages of the database\n`verify plain
     'cp kept.db logged.db; echo > logged.db-wal; "$tool" logged.db verify plain:1024 <&-'
 rm -f sqlite.db kept.db field.db short.db logged.db logged.db-wal
 
+# A plain header: the salt comes with the key. A passphrase in hex: the line has no other form. A refusal by words or key line needs no file.
+one_alone='the pages of these two versions differ, or the file holds its salt under one of them alone: `migrate` writes the database anew'
+salt=a0a1a2a3a4a5a6a7a8a9aaabacadaeaf
+salted="x'$digits$salt'"
+printf '%s\n' "$salted" > salted
+unsalted='does not hold its salt: the key line is x'"'"' and 96 hex digits and '"'"', the raw key and the salt behind it, or under :key=hex'
+not_hex='under :key=hex the key line is the passphrase in hex digits, two a byte, and nothing else: 616263 is abc'
+row 0 'made: 1 rows, 500 data bytes' 'the new key was taken as a raw key with its salt' '"$tool" headed.db make 4:plain-header=32 1 < salted'
+row 0 'made: 1 rows, 500 data bytes' 'the new key was taken as a passphrase in hex digits' 'echo 6f6c64 | "$tool" hex.db make 4:rounds=9:key=hex 1'
+row 0 'made: 1 rows, 500 data bytes' 'the new key was taken as a passphrase in hex digits, with its salt' \
+    'rm headed.db; echo "6f6c64,$salt" | "$tool" headed.db make 4:rounds=9:plain-header=32:key=hex 1'
+# The same file under a raw key. A key line that has one form alone is not asked what else it may have been meant as.
+row 0 '' 'the new key was taken as a raw key with its salt' '(echo "6f6c64,$salt"; cat salted) | "$tool" headed.db rekey 4:rounds=9:plain-header=32:key=hex 4:plain-header=32 > lines.txt'
+row 0 '' 'the new key was taken as a passphrase in hex digits' '(echo 6f6c64; echo "$digits") | "$tool" hex.db rekey 4:rounds=9:key=hex 4:rounds=9:key=hex > lines.txt'
+# Two lines that are the same are two keys where one of them is in hex.
+row 0 '' "$pass"$'\nof the new key: the key line is 64 hex digits' '(echo "$digits"; echo "$digits") | "$tool" hex.db rekey 4:rounds=9:key=hex 4:rounds=9 > lines.txt'
+row 0 '' "$raw" '(echo "$digits"; cat key) | "$tool" hex.db rekey 4:rounds=9 4 > lines.txt'
+row 0 '' "$pass"$'\nof the new key: the key line is 64 hex digits' '(cat key; echo "$digits") | "$tool" hex.db rekey 4 4:rounds=9 > lines.txt'
+for name in headed.db absent.db; do
+    while IFS='|' read -r status line says words keys; do
+        row "$status" "$line" "$says" "printf '%b' \"$keys\" | \"\$tool\" $name $words"
+    done << END
+2|key without salt|$unsalted|verify 4:plain-header=32|$k0\n
+2|key without salt|$unsalted|header 4:plain-header=16|old\n
+2|key without salt|$unsalted|salvage 4:plain-header=96|$salted \n
+2|key without salt|$unsalted|find 4:key=hex:plain-header=32 items 1 1|6f6c64\n
+2|key without salt|$unsalted|export 4:plain-header=32:wal|$k0\n
+2|key without salt|$unsalted|settle 4:plain-header=32|$k0\n
+2|key without salt|$unsalted|stamp 4:plain-header=32 user-version 7|$k0\n
+2|key without salt|$unsalted|rekey 4:plain-header=32 4:plain-header=48|$k0\n$salted\n
+2|key without salt|$unsalted|rekey 4:plain-header=32 4:plain-header=48|$salted\n$k0\n
+2|key without salt|$unsalted|migrate 4 4:plain-header=32|$k0\n$k0\n
+2|key without salt|$unsalted|migrate plain:4096 4:plain-header=32|$k0\n
+2|key with salt|$keep_64|verify 4|$salted\n
+2|key with salt|$keep_64|probe|$salted\n
+2|key with salt|$keep_64|settle 4|$salted\n
+2|key with salt|$keep_64|migrate 4:plain-header=32 4|$salted\n$salted\n
+2|key is not hex|$not_hex|verify 4:key=hex|old\n
+2|key is not hex|$not_hex|agree 4:key=hex|6f6c6\n
+2|key is not hex|$not_hex|tags 4:key=hex|6f 6c 64\n
+2|key is not hex|$not_hex|tags 4:key=hex|6f6c64\r\n
+2|key is not hex|$not_hex|verify 4:key=hex|$k0\n
+2|key is not hex|$not_hex|verify 4:key=hex|6f6c64,$salt\n
+2|key is not hex|$not_hex|verify 4:key=hex:plain-header=32|$salted\n
+2|key is not hex|$not_hex|verify 4:key=hex:plain-header=32|,$salt\n
+2|key is not hex|$not_hex|verify 4:key=hex:plain-header=32|6f6c64,${salt:2}\n
+2|key is not hex|$not_hex|rekey 4 4:key=hex|$k0\nold\n
+2|key is not hex|$not_hex|migrate plain:4096 4:key=hex|old\n
+2|key empty|a key line is empty|verify 4:key=hex|\n
+2|key missing|before the key line: this command takes one|verify 4:plain-header=32|
+2|layout differs|$one_alone|rekey 4 4:plain-header=32|
+2|layout differs|$one_alone|rekey 4:plain-header=32:rounds=9 4:key=hex|
+2|layout differs|a plain file has no key to change|rekey 4:plain-header=32 plain:4096|
+END
+    row 2 'key without salt' "$unsalted" "\"\$tool\" new-$name make 4:plain-header=32 1 < key"
+    row 2 'key is not hex' "$not_hex" "echo old | \"\$tool\" new-$name make 4:key=hex 1"
+    row 2 'key too long' 'at most 1,024 bytes' "head -c 1025 < <(yes 61 | tr -d '\\n') | \"\$tool\" $name verify 4:key=hex"
+    row 1 '' '' "[ -e new-$name ]"
+done
+row 0 'made: 1 rows, 500 data bytes' 'the new key was taken as a passphrase in hex digits' 'rm hex.db; head -c 1024 < <(yes 61 | tr -d "\n") | "$tool" hex.db make 4:rounds=1:key=hex 1'
+# What a refused key may come of, where the word is of a file with a plain header and where it should be.
+not_clear='the key, its salt or a setting is not the file'"'"'s, or the file does not begin with `SQLite format 3`: then its first bytes are not in the clear, or they are damaged'
+headed='its pages have 80 reserved bytes: where SQLCipher wrote it with its first bytes in the clear (`cipher_plaintext_header_size`), give 4:plain-header=32'
+row 2 'header fault at 20: 80' "$headed" '"$tool" headed.db verify plain:4096 <&-'
+row 3 "$refused" "the file begins with \`SQLite format 3\`, and $headed" '"$tool" headed.db verify 4 < key'
+row 3 "$refused" "the file begins with \`SQLite format 3\`, and $headed" '"$tool" headed.db probe < key'
+row 3 "$refused" "$not_clear" '"$tool" headed.db verify 4:plain-header=48 < salted'
+row 3 "$refused" "$not_clear" 'tr 1 2 < salted | "$tool" headed.db salvage 4:plain-header=32'
+row 3 "$refused" "$not_clear" '"$tool" file.db verify 4:plain-header=32 < salted'
+row 3 "$refused" "$not_clear" 'printf s | dd of=headed.db conv=notrunc status=none; "$tool" headed.db verify 4:plain-header=32 < salted'
+rm -f headed.db hex.db salted
+
 # A new key that may have been meant otherwise. The old key is not spoken of.
 other="x'ffffffffffffffffffffffffffffffffffffffffffffffffffffffffffffffff'"
 printf '%s\n' "$k0" "$other" > keys
@@ -476,8 +567,8 @@ row 2 'key missing' 'this command takes two, the old key and the new one' '"$too
 row 2 'key missing' 'the file of the first key has no line feed at its end' '(head -c 67 key; head -c 67 key) | "$tool" rekeyed.db rekey 4 4'
 row 2 'key empty' 'a key line is empty' 'echo | "$tool" rekeyed.db tags 4'
 row 2 'key too long' 'at most 1,024 bytes' 'head -c 1025 /dev/zero | "$tool" rekeyed.db tags 4'
-row 2 'layout differs' '`migrate` writes the database anew' '"$tool" rekeyed.db rekey 4 3 < keys'
-row 2 'layout differs' '`migrate` writes the database anew' '"$tool" rekeyed.db rekey 4 4:8192 < keys'
+row 2 'layout differs' "$one_alone" '"$tool" rekeyed.db rekey 4 3 < keys'
+row 2 'layout differs' "$one_alone" '"$tool" rekeyed.db rekey 4 4:8192 < keys'
 row 2 'file is there' '`make` takes a new name' '"$tool" rekeyed.db make 4 1 < key'
 row 0 "rekeyed: $pages pages" "$raw" '"$tool" rekeyed.db rekey 4 4 < keys'
 row 0 "rekeyed: $pages pages" "$pass"$'\nof the new key: the key line ends in a carriage return' \

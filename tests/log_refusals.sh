@@ -46,7 +46,7 @@ only='a file with its log is only read'
 lay changing
 mkdir "$scratch/missing"
 for box in "$scratch/changing" "$scratch/missing"; do
-    for profile in 3 4:1024 plain:1024; do
+    for profile in 3 4:1024 plain:1024 4:key=hex:plain-header=32; do
         while read -r words; do
             # shellcheck disable=SC2086
             tried "$(basename "$box")" 2 "$only" - $words
@@ -58,12 +58,16 @@ for box in "$scratch/changing" "$scratch/missing"; do
     tried 'another number' 2 "$only" - stamp 3:wal application-id 0
     for words in 'verify 3:wal:wal' 'verify wal' 'verify :wal' 'verify 3:WAL' 'verify 3:wa' 'verify 3:wall' 'verify 3wal' 'verify 3:' 'verify 3:wal:' \
         'verify 3::wal' 'verify 3:wal:wal' 'verify plain:wal' 'verify 5:wal' 'verify 4:4095:wal' 'probe 3:wal' 'probe:wal' 'find 3:wal items 7' \
-        'play 3:WAL' 'play wal' 'recover 3:wal:wal' 'rekey 3:wal' 'migrate 3 :wal' 'make 3:wal'; do
+        'play 3:WAL' 'play wal' 'recover 3:wal:wal' 'rekey 3:wal' 'migrate 3 :wal' 'make 3:wal' 'verify 4:wal:plain-header=0' 'verify 1:wal:plain-header=32' \
+        'verify 4:plain-header=32:wal:plain-header=32' 'verify 4:key=hex:wal:key=hex' 'verify 4:wal:key=text' 'verify plain:1024:wal:plain-header=32'; do
         # shellcheck disable=SC2086
         tried "$(basename "$box")" 1 usage - $words
     done
     tried "$(basename "$box")" 2 'profile has no tags' - tags plain:1024:wal
     tried "$(basename "$box")" 2 'profile has no tags' - tags 1:wal
+    # (the key lines are no hex, and have no salt)
+    tried "$(basename "$box")" 2 'key without salt' 'does not hold its salt' verify 3:plain-header=32:wal
+    tried "$(basename "$box")" 2 'key is not hex' 'two a byte, and nothing else' export 3:wal:key=hex
 done
 
 # No file is opened and no key line is read then.

@@ -24,10 +24,12 @@ if ! has_reference; then
     finish
 fi
 
-keyed() { sed -e "s/K0/$k0/g" -e "s/K1/$k1/g"; }
+s0="${k0%\'}a0a1a2a3a4a5a6a7a8a9aaabacadaeaf'" s1="${k0%\'}a0a1a2a3a4a5a6a7a8a9aaabacadaeae'"
+h0=000aff,00112233445566778899aabbccddeeff
+keyed() { sed -e "s/K0/$k0/g" -e "s/K1/$k1/g" -e "s/S0/$s0/g" -e "s/S1/$s1/g" -e "s/H0/$h0/g"; }
 letters() { printf "%$1s" '' | tr ' ' "${2:-k}"; }      # letters COUNT [LETTER]
 
-# ---- worked scripts: K0 and K1 stand for their key lines, a comma for a line feed
+# ---- worked scripts: K0 and K1 stand for their key lines, S0 and S1 for K0 with two salts, H0 for a passphrase in hex with a salt, a comma for a line feed
 
 row() { # row STATUS ANSWERS FILE PROFILE SCRIPT
     local found status
@@ -69,7 +71,10 @@ row 2 'done, line 2: no step' none 4 $'stop\n\nstop\n'
 for line in 'share' 'share ' 'share 16' 'share 0 0' ' share 0' 'share 0 ' 'share  0' $'share\t0' $'share 0\r' 'Share 0' 'share +0' 'share 00000000000' \
     'share 4294967296' 'share -1' 'read 0 1' 'read 0 1 4016' 'read 0 4294967296 0' 'read 0 1 0 0' 'change 0 2 100' 'change 0 2 4016 1' 'change 0 2 100 256' \
     'change 0 2 100 1 1' 'stop 0' 'stop ' 'open 0' 'open 0 4' 'open 0 4 ' 'open 0 5 k' 'open 16 4 k' 'open 0  4 k' 'open 0 plain:4096 ' 'open 0 plain:4096 k' \
-    "open 0 4 x'$(letters 96 0)'" "open 0 4 $(letters 1025)" "rekey 0 4" "rekey 0 4 $(letters 1025)" "$(letters 1100)" 'walk 0' 'lock 0' '#'; do
+    "open 0 4 x'$(letters 96 0)'" "open 0 4 $(letters 1025)" "rekey 0 4" "rekey 0 4 $(letters 1025)" "$(letters 1100)" 'walk 0' 'lock 0' '#' \
+    'open 0 4 S0' 'rekey 0 4 S0' 'open 0 4:plain-header=32 K0' 'rekey 0 4:plain-header=32 k' 'open 0 4:plain-header=32 H0' 'open 0 4:plain-header=32:key=hex S0' \
+    'open 0 4:plain-header=32:key=hex 000aff' 'rekey 0 4:plain-header=32:key=hex H00' 'open 0 4:key=hex H0' 'open 0 4:key=hex K0' 'open 0 4:key=hex k' \
+    'rekey 0 4:key=hex 000' 'open 0 4:key=hex 00 ' 'open 0 4:key=hex ' 'open 0 4:plain-header=0 S0' 'open 0 1:plain-header=32 S0' 'open 0 4:key=text K0'; do
     row 2 'done, line 2: no step' none 4 "stop, $line"
 done
 row 2 'done, line 2: too long' none 4 "stop, $(letters 1101)"
@@ -89,6 +94,21 @@ kept none
 row 0 'done, done, done, done, done, misuse, done, done, byte 13' none 4 \
     'open 0 4 K0, share 0, reserve 0, change 0 2 0 9, stop, share 0, open 0 4 K0, share 0, read 0 2 0'
 kept none
+
+# A plain header: the salt comes with the key, of one session another than of the file, and files with a header and without are of another layout. A
+# passphrase in hex may come in the place of a raw key.
+keyed <<< S0 > "$scratch/salted"
+"$program" "$scratch/headed" make 4:plain-header=32 0 < "$scratch/salted" > /dev/null 2>&1 || say "make 4:plain-header=32 0 fails"
+row 0 'misuse, misuse, misuse, done, done, done' none 4 \
+    'open 0 4:plain-header=32 S0, open 0 4:plain-header=32:key=hex H0, share 0, open 0 4:rounds=2:key=hex 000aff, open 0 4 K0, share 0'
+row 0 'misuse, misuse, done, done, key refused, key refused, done, done' headed 4:plain-header=32 \
+    "open 0 4 K0, open 0 4:rounds=2:key=hex 000aff, open 0 4:plain-header=32 S1, open 1 4:plain-header=48 S0, share 0, share 1, open 0 4:plain-header=32 S0, \
+share 0"
+kept headed
+row 0 'done, done, byte 83, misuse, done, misuse, done, done, done, done, byte 7, done, key refused, done, done, byte 83, byte 7' headed 4:plain-header=32 \
+    "open 0 4:plain-header=32 S0, share 0, read 0 1 0, change 0 1 0 83, reserve 0, change 0 1 31 1, change 0 3 7 7, \
+rekey 0 4:plain-header=48:rounds=2:key=hex H0, commit 0, share 0, read 0 3 7, open 1 4:plain-header=32 S0, share 1, \
+open 2 4:plain-header=48:rounds=2:key=hex H0, share 2, read 2 1 0, read 2 3 7"
 
 # Files that do not open, each by its line, and a session may try again.
 : > "$scratch/empty"

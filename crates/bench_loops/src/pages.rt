@@ -7,7 +7,7 @@ ghost use Rattle.std.specs.Prelude.{◌≡◌, ◌*◌, ◌≤◌, All, length};
 ghost use Rattle.cipher_profile.specs.Profile.{IsListed, usable};
 
 use crate::words::number;
-use cipher_profile::{Profile, Secret, derive, read_key};
+use cipher_profile::{LineForm, Profile, Secret, derive, read_key};
 use edge_memory::MemSource;
 use page_codec::{Codec, MAGIC};
 use profile_word::profile_of;
@@ -102,7 +102,7 @@ fn of_profile(profile: Profile, secret: &Secret, word: &str, times: u64) -> u8
     if word == "derive" {
         return derive_often(&profile, secret, times);
     }
-    let salt = if profile.is_plain() { MAGIC } else { [0u8; 16] };
+    let salt = if profile.is_clear() { MAGIC } else { [0u8; 16] };
     let codec = Codec::new(
         profile,
         derive(&Secret::Raw([1; 32]), &profile, &salt),
@@ -135,7 +135,11 @@ pub fn run(rt: &HostRuntime, words: &Vec<String>) -> io::Result<()> {
     let Ok(mut source) = MemSource::new(rt.alloc(), b"password\n", &[]) else {
         return Err(io::ErrorKind::OutOfMemory.into());
     };
-    let result = match (profile, read_key(&mut source)) {
+    let form = LineForm {
+        hex: false,
+        salted: false,
+    };
+    let result = match (profile, read_key(form, &mut source)) {
         (Some(profile), Ok(secret)) if word != "hash" => of_profile(
             profile,
             &secret,

@@ -1,5 +1,5 @@
 -- What holds of each of the profiles.
-use Rattle.std.proofs.Common.{◌≤◌, ◌≡◌, ◌+◌, ◌%◌, ◌==◌, ℕ, false, arith, refl, inl, inr, lit≤, subst, sym}
+use Rattle.std.proofs.Common.{◌≤◌, ◌≡◌, ◌+◌, ◌%◌, ◌<◌, ◌==◌, ℕ, false, arith, refl, inl, inr, lit≤, subst, sym}
 use Rattle.std.proofs.lemmas.Bool.Decides.{nat_tests}
 use Rattle.cipher_profile.specs.declared.profile.HashKind.{HashKind}
 use Rattle.cipher_profile.specs.declared.profile.HashKind.TheVariants.{Sha1, Sha256, Sha512}
@@ -62,6 +62,24 @@ reserved tag_len reserve short is = record {
   blocks = omega (arith, short, is);
 }
 
+-- what a plain header has, of no bytes as well
+record IsHeader (profile : Profile) : Type 0 where
+  blocks : profile.plain_header % 16 ≡ 0
+  some : 0 < profile.plain_header → 16 ≤ profile.plain_header
+  most : profile.plain_header ≤ 96
+  tagged : 0 < profile.plain_header → 0 < profile.tag_len
+
+headed : (profile : Profile) → IsEncrypted profile → IsHeader profile
+headed profile is = elim is.header [
+  | inl none ↦ record {
+    blocks = omega (arith, none);
+    some = λ some. absurd (omega (arith, none, some));
+    most = omega (arith, none);
+    tagged = λ some. absurd (omega (arith, none, some));
+  }
+  | inr header ↦ record { blocks = header.blocks; some = λ _. header.some; most = header.most; tagged = λ _. header.tagged }
+]
+
 -- the version of an encrypted file is not 0
 ciphered : (version : ℕ) → 1 ≤ version → (version == 0) ≡ false
 ciphered version some = grind (arith, nat_tests, some)
@@ -72,6 +90,7 @@ laid_out_encrypted profile is =
     let within : profile.tag_len ≤ digest_len profile.hash = tag_within profile is in
     let of : IsReserve profile.tag_len profile.reserve = reserved profile.tag_len profile.reserve (omega (arith, within, digest_short profile.hash)) is.reserve in
     let not_plain : is_plain profile ≡ false = ciphered profile.version is.version in
+    let header : IsHeader profile = headed profile is in
     record {
       sizes = inr is.size;
       least = omega (arith, size.least);
@@ -88,6 +107,10 @@ laid_out_encrypted profile is =
       tag = within;
       tagged = λ _. not_plain;
       rounds = is.rounds;
+      header_blocks = header.blocks;
+      header_some = header.some;
+      header_most = header.most;
+      header_tagged = header.tagged;
     }
 
 laid_out_plain : (size : ℕ) → IsPlainSize size → IsLaidOut (plain_of size)
@@ -109,6 +132,10 @@ laid_out_plain size one =
       tag = lit≤ tt;
       tagged = λ some. absurd (omega (arith, some));
       rounds = lit≤ tt;
+      header_blocks = refl;
+      header_some = λ some. absurd (omega (arith, some));
+      header_most = lit≤ tt;
+      header_tagged = λ some. absurd (omega (arith, some));
     }
 
 -- the setting of the log changes none of it
@@ -129,6 +156,10 @@ laid_out_set profile is = record {
   tag = is.tag;
   tagged = is.tagged;
   rounds = is.rounds;
+  header_blocks = is.header_blocks;
+  header_some = is.header_some;
+  header_most = is.header_most;
+  header_tagged = is.header_tagged;
 }
 
 pub IsListed-laid_out : (profile : Profile) → IsListed profile → IsLaidOut profile

@@ -10,4 +10,4 @@ mod profile;
 pub use key_line::{KeyError, read_key};
 pub use keys::{PageKeys, Secret, derive, derive_beside};
 pub use passphrase::PassBytes;
-pub use profile::{HashKind, Profile};
+pub use profile::{HashKind, LineForm, Profile};

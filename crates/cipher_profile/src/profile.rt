@@ -1,6 +1,6 @@
 // The profiles of encrypted and of plain files: a record of what a file's pages and keys are.
 ghost use Rattle.std.specs.Prelude.{◌≡◌};
-ghost use Rattle.cipher_profile.specs.Profile.{IsLaidOut, IsListed, is_plain, usable};
+ghost use Rattle.cipher_profile.specs.Profile.{IsLaidOut, IsListed, form_of, is_clear, is_plain, usable};
 
 /// A hash of a profile.
 #[derive(Clone, Copy, Debug, PartialEq, Eq)]
@@ -30,8 +30,21 @@ pub struct Profile {
     pub rounds: u32,
     /// The length of a tag; 0 where pages have none.
     pub tag_len: u32,
+    /// How many first bytes of page 1 stand in the clear, where the salt stands else; 0 where the salt stands there. It is brought with the key then.
+    pub plain_header: u32,
+    /// Whether the key line has the passphrase in hex digits: its word has the setting `key=hex`.
+    pub hex_key: bool,
     /// Whether a file is read with its log, and only read: its word has the setting `wal`.
     pub reads_log: bool,
+}
+
+/// What the key line of an encrypted file holds.
+#[derive(Clone, Copy, Debug, PartialEq, Eq)]
+pub struct LineForm {
+    /// Whether the line is a passphrase in hex digits. Else it is a raw key in its own form, or a passphrase as it stands.
+    pub hex: bool,
+    /// Whether the salt comes with the key, since the file does not hold it.
+    pub salted: bool,
 }
 
 impl Profile {
@@ -49,5 +62,25 @@ impl Profile {
         ensures { result ≡ is_plain self.now }
     {
         self.version == 0
+    }
+
+    /// Whether page 1 begins as it is stored, with the magic: in a plain file, and in one with a plain header. Else it begins with the salt.
+    pub fn is_clear(&self) -> bool
+        ensures { result ≡ is_clear self.now }
+    {
+        self.version == 0 || self.plain_header > 0
+    }
+
+    /// What its key line holds, where it has one: a plain file has no key.
+    pub fn line_form(&self) -> Option<LineForm>
+        ensures { result ≡ form_of self.now }
+    {
+        if self.version == 0 {
+            return None;
+        }
+        Some(LineForm {
+            hex: self.hex_key,
+            salted: self.plain_header > 0,
+        })
     }
 }

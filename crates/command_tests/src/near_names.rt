@@ -1,6 +1,6 @@
 // The names that are near that of `find`, on a made file of a hundred rows.
 use crate::served::{KEY, OTHER_KEY, disk_with, made};
-use cipher_profile::read_key;
+use cipher_profile::{LineForm, read_key};
 use edge_memory::{MemEntropy, MemSource, SilentDisk};
 use schema_names::{NearName, SchemaKind};
 use sqlcipher_tool::near_names;
@@ -44,7 +44,11 @@ fn first_near(
     let mut disk = SilentDisk {
         inner: disk_with(alloc, main)?,
     };
-    let Ok(secret) = read_key(&mut input) else {
+    let form = LineForm {
+        hex: false,
+        salted: false,
+    };
+    let Ok(secret) = read_key(form, &mut input) else {
         return Ok(None);
     };
     match near_names(alloc, words, &secret, &mut entropy, &mut disk) {

@@ -65,17 +65,24 @@ fn seal(rt: &impl Abort, codec: &Codec, n: u32, plain: &[u8], stored: &mut [u8])
     codec.seal_page(n, plain, &zeros[..codec.profile().reserve as usize], stored);
 }
 
-// The codec of the profile under a key line, for a salt of zeros.
+// The codec of the profile under a key line, for a salt of zeros where the file holds one.
 fn codec_of(rt: &impl Abort, alloc: Global, word: &str, key: &[u8]) -> Result<Codec, Fail> {
     let Some(profile) = profile_of(word) else {
         panic!(rt; "no profile {word}");
     };
-    assert!(rt; !profile.is_plain(), "a plain file has no key");
-    let Ok(secret) = read_key(&mut MemSource::new(alloc, key, &[])?) else {
+    let Some(form) = profile.line_form() else {
+        panic!(rt; "a plain file has no key");
+    };
+    let Ok(secret) = read_key(form, &mut MemSource::new(alloc, key, &[])?) else {
         panic!(rt; "no key");
     };
-    let keys = derive(&secret, &profile, &[0; 16]);
-    Ok(Codec::new(profile, keys, [0; 16]))
+    let salt = if profile.is_clear() {
+        page_codec::MAGIC
+    } else {
+        [0; 16]
+    };
+    let keys = derive(&secret, &profile, &salt);
+    Ok(Codec::new(profile, keys, salt))
 }
 
 /// The file of so many pages of the profile under a key line, with these changes.

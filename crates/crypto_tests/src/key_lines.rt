@@ -1,11 +1,34 @@
 // What no clause says: known keys, and what key lines of each kind give.
 use crate::hex_text::is_hex_of;
-use cipher_profile::{KeyError, Secret, derive, derive_beside, read_key};
+use cipher_profile::{KeyError, LineForm, Secret, derive, derive_beside, read_key};
 use edge_memory::{MemSource, SilentSource};
 use edge_model::Source;
 use profile_word::profile_of;
 use std::alloc::Global;
+use std::process::Abort;
 use std::test::Fail;
+
+// The line of a file that holds its salt, and of one that does not.
+const FORM: LineForm = LineForm {
+    hex: false,
+    salted: false,
+};
+
+const SALTED: LineForm = LineForm {
+    hex: false,
+    salted: true,
+};
+
+// The same with the passphrase in hex.
+const HEX: LineForm = LineForm {
+    hex: true,
+    salted: false,
+};
+
+const SALTED_HEX: LineForm = LineForm {
+    hex: true,
+    salted: true,
+};
 
 const SALT: [u8; 16] = [0, 1, 2, 3, 4, 5, 6, 7, 8, 9, 10, 11, 12, 13, 14, 15];
 
@@ -54,7 +77,7 @@ fn known_keys_are_derived(rt: HostRuntime) -> Result<(), Fail> {
     ];
     for (word, line, enc, mac) in table {
         let mut source = source_of(rt.alloc(), line, &[])?;
-        match (profile_of(word), read_key(&mut source)) {
+        match (profile_of(word), read_key(FORM, &mut source)) {
             (Some(profile), Ok(secret)) => {
                 let keys = derive(&secret, &profile, &SALT);
                 assert!(rt; is_hex_of(enc, &keys.enc), "the cipher's key of {word}");
@@ -78,17 +101,29 @@ fn source_of(alloc: Global, bytes: &[u8], failing: &[u64]) -> Result<MemSource, 
 enum Answer<'a> {
     Key(&'a [u8]),
     Pass(&'a [u8]),
+    SaltedKey(&'a [u8], &'a [u8]),
+    SaltedPass(&'a [u8], &'a [u8]),
     Refusal(KeyError),
 }
 
-// Whether the next line gives this.
-fn gives(source: &mut impl Source, want: Answer) -> bool {
-    match (read_key(source), want) {
+// Whether the next line, of this form, gives this.
+fn gives_as(form: LineForm, source: &mut impl Source, want: Answer) -> bool {
+    match (read_key(form, source), want) {
         (Ok(Secret::Raw(key)), Answer::Key(bytes)) => key.as_slice() == bytes,
         (Ok(Secret::Pass(passphrase)), Answer::Pass(bytes)) => passphrase.as_slice() == bytes,
+        (Ok(Secret::SaltedRaw(key, own)), Answer::SaltedKey(bytes, salt)) => {
+            key.as_slice() == bytes && own.as_slice() == salt
+        }
+        (Ok(Secret::SaltedPass(passphrase, own)), Answer::SaltedPass(bytes, salt)) => {
+            passphrase.as_slice() == bytes && own.as_slice() == salt
+        }
         (Err(error), Answer::Refusal(refusal)) => error == refusal,
         _ => false,
     }
+}
+
+fn gives(source: &mut impl Source, want: Answer) -> bool {
+    gives_as(FORM, source, want)
 }
 
 const KEY: &[u8; 32] =
@@ -100,6 +135,12 @@ const RAW: &[u8] = b"x'000102030405060708090a0b0c0d0e0f101112131415161718191a1b1
 const SHORT: &[u8] = b"x'000102030405060708090a0b0c0d0e0f101112131415161718191a1b1c1d1e1'";
 
 const SPOILED: &[u8] = b"x'000102030405060708090a0b0c0d0e0f101112131415161718191a1b1c1d1e1g'";
+
+const SALTED_RAW: &[u8] =
+    b"x'000102030405060708090a0b0c0d0e0f101112131415161718191a1b1c1d1e1f202122232425262728292a2b2c2d2e2f'";
+
+// The salt behind that key.
+const BEHIND: &[u8; 16] = b"\x20\x21\x22\x23\x24\x25\x26\x27\x28\x29\x2a\x2b\x2c\x2d\x2e\x2f";
 
 const SALTED_SPOILED: &[u8] =
     b"x'000102030405060708090a0b0c0d0e0f101112131415161718191a1b1c1d1e1f202122232425262728292a2b2c2d2e2g'";
@@ -133,6 +174,78 @@ fn lines_give_keys_passphrases_and_refusals(rt: HostRuntime) -> Result<(), Fail>
         assert!(rt; gives(&mut source, want), "{line:?}");
     }
     Ok(())
+}
+
+// Whether each of these lines, of this form, gives what stands beside it.
+fn check(
+    rt: &impl Abort,
+    alloc: Global,
+    form: LineForm,
+    table: &[(&[u8], Answer)],
+) -> Result<(), Fail> {
+    for (line, want) in table.iter() {
+        let mut source = source_of(alloc, line, &[])?;
+        assert!(rt; gives_as(form, &mut source, *want), "{line:?}");
+    }
+    Ok(())
+}
+
+#[test]
+fn a_file_without_its_salt_takes_one_from_the_line(rt: HostRuntime) -> Result<(), Fail> {
+    let table: [(&[u8], Answer); 7] = [
+        (SALTED_RAW, Answer::SaltedKey(KEY, BEHIND)),
+        (
+            b"X'000102030405060708090A0B0C0D0E0F101112131415161718191A1B1C1D1E1F202122232425262728292A2B2C2D2E2F'\n",
+            Answer::SaltedKey(KEY, BEHIND),
+        ),
+        (RAW, Answer::Refusal(KeyError::KeyUnsalted)),
+        (SALTED_SPOILED, Answer::Refusal(KeyError::KeyUnsalted)),
+        (b"old", Answer::Refusal(KeyError::KeyUnsalted)),
+        (b"\n", Answer::Refusal(KeyError::KeyEmpty)),
+        (b"", Answer::Refusal(KeyError::KeyMissing)),
+    ];
+    check(&rt, rt.alloc(), SALTED, &table)
+}
+
+#[test]
+fn a_passphrase_in_hex_is_decoded(rt: HostRuntime) -> Result<(), Fail> {
+    let table: [(&[u8], Answer); 9] = [
+        (b"00ff0A", Answer::Pass(b"\x00\xff\x0a")),
+        (b"616263\n", Answer::Pass(b"abc")),
+        (b"00ff0", Answer::Refusal(KeyError::KeyNotHex)),
+        (b"zz", Answer::Refusal(KeyError::KeyNotHex)),
+        (b"616263\r\n", Answer::Refusal(KeyError::KeyNotHex)),
+        (SALTED_RAW, Answer::Refusal(KeyError::KeyNotHex)),
+        (
+            b"616263,000102030405060708090a0b0c0d0e0f",
+            Answer::Refusal(KeyError::KeyNotHex),
+        ),
+        (b"\n", Answer::Refusal(KeyError::KeyEmpty)),
+        (b"", Answer::Refusal(KeyError::KeyMissing)),
+    ];
+    check(&rt, rt.alloc(), HEX, &table)
+}
+
+#[test]
+fn a_passphrase_in_hex_has_its_salt_behind_a_comma(rt: HostRuntime) -> Result<(), Fail> {
+    let table: [(&[u8], Answer); 6] = [
+        (
+            b"616263,000102030405060708090a0B0c0D0e0F",
+            Answer::SaltedPass(b"abc", &SALT),
+        ),
+        (b"616263", Answer::Refusal(KeyError::KeyUnsalted)),
+        (b"616263,00", Answer::Refusal(KeyError::KeyNotHex)),
+        (
+            b"616263,000102030405060708090a0b0c0d0e0g",
+            Answer::Refusal(KeyError::KeyNotHex),
+        ),
+        (
+            b",000102030405060708090a0b0c0d0e0f",
+            Answer::Refusal(KeyError::KeyNotHex),
+        ),
+        (SALTED_RAW, Answer::Refusal(KeyError::KeyNotHex)),
+    ];
+    check(&rt, rt.alloc(), SALTED_HEX, &table)
 }
 
 #[test]

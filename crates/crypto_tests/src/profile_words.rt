@@ -11,7 +11,7 @@ const SHA256: HashKind = HashKind::Sha256;
 const SHA512: HashKind = HashKind::Sha512;
 
 // The word's version, size and reserve; the hashes of the tags and of the keys; the rounds, the length of a tag, and whether the
-// file is read with its log.
+// file is read with its log. No byte of page 1 stands in the clear, and the key line has no passphrase in hex.
 fn check(
     rt: &impl Abort,
     word: &str,
@@ -21,9 +21,6 @@ fn check(
     tag_len: u32,
     reads_log: bool,
 ) {
-    let Some(profile) = profile_of(word) else {
-        panic!(rt; "{word}");
-    };
     let (version, page_size, reserve) = sizes;
     let (hash, kdf) = hashes;
     let want = Profile {
@@ -34,11 +31,21 @@ fn check(
         kdf,
         rounds,
         tag_len,
+        plain_header: 0,
+        hex_key: false,
         reads_log,
+    };
+    check_profile(rt, word, want);
+}
+
+// The word's profile.
+fn check_profile(rt: &impl Abort, word: &str, want: Profile) {
+    let Some(profile) = profile_of(word) else {
+        panic!(rt; "{word}");
     };
     assert!(rt; profile == want, "{word}");
     assert!(rt;
-        profile_without_log(word.as_bytes()).is_none() == reads_log,
+        profile_without_log(word.as_bytes()).is_none() == want.reads_log,
         "{word} without its log"
     );
 }
@@ -192,6 +199,73 @@ fn words_give_settings(rt: HostRuntime) {
     );
 }
 
+// Version 4 by itself.
+const SQLCIPHER_4: Profile = Profile {
+    version: 4,
+    page_size: 4096,
+    reserve: 80,
+    hash: HashKind::Sha512,
+    kdf: HashKind::Sha512,
+    rounds: 256_000,
+    tag_len: 64,
+    plain_header: 0,
+    hex_key: false,
+    reads_log: false,
+};
+
+// SQLCipher API, "cipher_plaintext_header_size".
+#[test]
+fn words_give_a_plain_header(rt: HostRuntime) {
+    let table: [(&str, u32); 6] = [
+        ("4:plain-header=16", 16),
+        ("4:plain-header=32", 32),
+        ("4:plain-header=48", 48),
+        ("4:plain-header=64", 64),
+        ("4:plain-header=80", 80),
+        ("4:plain-header=96", 96),
+    ];
+    for (word, plain_header) in table {
+        let want = Profile {
+            plain_header,
+            ..SQLCIPHER_4
+        };
+        check_profile(&rt, word, want);
+    }
+    // Version 1 has tags only where its word says so.
+    let tagged = Profile {
+        version: 1,
+        page_size: 1024,
+        reserve: 48,
+        hash: SHA1,
+        kdf: SHA1,
+        rounds: 4_000,
+        tag_len: 20,
+        plain_header: 32,
+        hex_key: false,
+        reads_log: false,
+    };
+    check_profile(&rt, "1:plain-header=32:hmac=sha1", tagged);
+}
+
+#[test]
+fn words_give_a_key_in_hex(rt: HostRuntime) {
+    let in_hex = Profile {
+        hex_key: true,
+        ..SQLCIPHER_4
+    };
+    check_profile(&rt, "4:key=hex", in_hex);
+    let headed = Profile {
+        plain_header: 32,
+        ..in_hex
+    };
+    check_profile(&rt, "4:key=hex:plain-header=32", headed);
+    let with_log = Profile {
+        reads_log: true,
+        ..headed
+    };
+    check_profile(&rt, "4:wal:plain-header=32:key=hex", with_log);
+}
+
 #[test]
 fn other_words_name_no_profile(rt: HostRuntime) {
     for word in [
@@ -244,8 +318,19 @@ fn other_words_name_no_profile(rt: HostRuntime) {
         "4:size=1024",
         "4096",
         "4:rounds=1:bad",
-        "4:plain-header=32",
-        "4:key=hex",
+        "4:plain-header=0",
+        "4:plain-header=20",
+        "4:plain-header=112",
+        "4:plain-header=032",
+        "4:plain-header=",
+        "1:plain-header=32",
+        "3:hmac=off:plain-header=32",
+        "4:plain-header=32:plain-header=32",
+        "4:key=",
+        "4:key=text",
+        "4:key=hex:key=hex",
+        "plain:4096:plain-header=32",
+        "plain:4096:key=hex",
     ] {
         assert!(rt; profile_of(word).is_none(), "{word}");
     }
@@ -274,6 +359,24 @@ fn profiles_are_tried_in_their_order(rt: HostRuntime) {
     for (word, profile) in words.iter().zip(probed_profiles().iter()) {
         let mut text = Text::new();
         push_word(&mut text, profile);
+        assert!(rt; text.as_bytes() == word.as_bytes(), "{word}");
+    }
+}
+
+// What a word prints is the word, where its settings stand in this order.
+#[test]
+fn settings_are_printed_in_their_order(rt: HostRuntime) {
+    for word in [
+        "4:plain-header=32",
+        "4:key=hex",
+        "4:hmac=sha256:plain-header=96:key=hex:wal",
+        "2:4096:rounds=1:kdf=sha256:hmac=sha512:plain-header=16:key=hex:wal",
+    ] {
+        let Some(profile) = profile_of(word) else {
+            panic!(rt; "{word}");
+        };
+        let mut text = Text::new();
+        push_word(&mut text, &profile);
         assert!(rt; text.as_bytes() == word.as_bytes(), "{word}");
     }
 }

@@ -57,6 +57,10 @@ fn codec_of(rt: &impl Abort, word: &str, first: u8) -> Codec {
     }
     let mut key = [0u8; 32];
     ascending(first, &mut key);
+    if profile.is_clear() {
+        let secret = Secret::SaltedRaw(key, *SALT);
+        return Codec::new(profile, derive(&secret, &profile, MAGIC), *MAGIC);
+    }
     let keys = derive(&Secret::Raw(key), &profile, SALT);
     Codec::new(profile, keys, *SALT)
 }

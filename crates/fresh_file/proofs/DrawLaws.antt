@@ -4,7 +4,7 @@ use Rattle.std.specs.Io.{StartsWith}
 use Rattle.std.proofs.Math.Seq.{drop-append-add, drop-append_seam}
 use Rattle.std.proofs.lemmas.List.{append_assoc, take-append-drop, take_at}
 use Rattle.std.specs.Prelude.{true, false, if◌then◌else◌}
-use Rattle.cipher_profile.specs.Profile.{is_plain}
+use Rattle.cipher_profile.specs.Profile.{is_clear}
 use Rattle.cipher_profile.specs.declared.keys.Secret.{Secret}
 use Rattle.cipher_profile.specs.declared.profile.Profile.{Profile}
 use Rattle.page_codec.specs.Page.{FileKeys, keys_of, keys_with_salt, magic, salt_of}
@@ -12,22 +12,22 @@ use Rattle.fresh_file.specs.Sealed.{IsSealedWith}
 use Rattle.pager.specs.File.{whole_pages}
 use Rattle.pager.specs.Pages.{is_page_number}
 use Rattle.atomic_commit.specs.Draws.{OwnDraws}
-use Rattle.fresh_file.specs.Draws.{AreOwnDraws, HasOwnDraws, HasSaltAndDraws}
+use Rattle.fresh_file.specs.Draws.{AreOwnDraws, HasDraws, HasOwnDraws, HasSaltAndDraws}
 use Rattle.fresh_file.specs.Salted.{IsSalted}
 
 -- the keys with the salt of a file are that file's
 pub keys_are : (profile : Profile) (secret : Secret) (salt file : List ℕ) (keys : FileKeys) → keys ≡ keys_with_salt profile secret salt
-    → (is_plain profile ≡ true → salt ≡ magic) → salt_of file ≡ keys.salt → keys ≡ keys_of profile secret file
+    → (is_clear profile ≡ true → salt ≡ magic) → salt_of file ≡ keys.salt → keys ≡ keys_of profile secret file
 keys_are profile secret salt file keys is plainly begins =
-    is ∙ ap (λ (l : List ℕ). keys_with_salt profile secret l) (by_kind (is_plain profile) refl)
+    is ∙ ap (λ (l : List ℕ). keys_with_salt profile secret l) (by_kind (is_clear profile) refl)
   where
-    by_kind : (plain : Bool) → is_plain profile ≡ plain → salt ≡ (if plain then magic else salt_of file)
-    by_kind true plain = plainly plain
-    by_kind false ciphered = sym (begins ∙ ap (λ (k : FileKeys). k.salt) is)
+    by_kind : (clear : Bool) → is_clear profile ≡ clear → salt ≡ (if clear then magic else salt_of file)
+    by_kind true clear = plainly clear
+    by_kind false hidden = sym (begins ∙ ap (λ (k : FileKeys). k.salt) is)
 
 -- what is said under the keys of a file's salt is said under those that the secret gives for it
 pub told_as : (profile : Profile) (secret : Secret) (salt : List ℕ) (is_under : FileKeys → List ℕ → Type 0) (keys : FileKeys) → keys ≡ keys_with_salt profile secret salt
-    → (is_plain profile ≡ true → salt ≡ magic) → (file : List ℕ) → IsSalted keys (is_under keys) file → is_under (keys_of profile secret file) file
+    → (is_clear profile ≡ true → salt ≡ magic) → (file : List ℕ) → IsSalted keys (is_under keys) file → is_under (keys_of profile secret file) file
 told_as profile secret salt is_under keys is plainly file salted =
     subst (λ (k : FileKeys). is_under k file) (keys_are profile secret salt file keys is plainly salted.salt) salted.is_new
 
@@ -51,17 +51,26 @@ own_after reserve from before more sealed seals own = record {
       (λ (le : own.place n + reserve ≤ own.place m). inr (omega (arith, le, own.later m has_m, own.later n has_n))) (own.apart m n other has_m has_n);
 }
 
--- the salt of an encrypted file was drawn first
+-- the salt of a file that holds one was drawn first, and where it holds none nothing was
 pub drawn_with : (keys : FileKeys) (file salt before mid after : List ℕ) → length salt ≡ 16 → keys.salt ≡ salt → salt_of file ≡ keys.salt
-    → (is_plain keys.profile ≡ false → mid ≡ before ++ salt) → StartsWith after mid
+    → (is_clear keys.profile ≡ false → mid ≡ before ++ salt) → (is_clear keys.profile ≡ true → mid ≡ before) → StartsWith after mid
     → AreOwnDraws keys file (length mid) after → HasOwnDraws keys file (drop (length before) after)
-drawn_with keys file salt before mid after long is begins drew grown own ciphered = salted (drew ciphered)
+drawn_with keys file salt before mid after long is begins drew bare grown own ciphered = by_kind (is_clear keys.profile) refl
   where
     rest : List ℕ
     rest = drop (length mid) after
 
     drawn : List ℕ
     drawn = drop (length before) after
+
+    unsalted : mid ≡ before → AreOwnDraws keys file 0 drawn
+    unsalted none =
+        let mid_long : length mid ≡ length before + 0 = omega (arith, ap (λ (l : List ℕ). length l) none) in
+        let after_is : after ≡ before ++ rest = sym (take-append-drop (length mid) after) ∙ ap (λ (l : List ℕ). l ++ rest) (grown ∙ none) in
+        let drawn_is : drawn ≡ rest = ap (λ (l : List ℕ). drop (length before) l) after_is ∙ drop-append_seam before rest in
+        let all_is : after ≡ before ++ drawn = after_is ∙ ap (λ (l : List ℕ). before ++ l) (sym drawn_is) in
+        own_after keys.profile.reserve 0 before drawn (is_page_number (whole_pages keys.profile file)) (IsSealedWith keys file)
+        (subst (λ (l : List ℕ). AreOwnDraws keys file (length before + 0) l) all_is (subst (λ (k : ℕ). AreOwnDraws keys file k after) mid_long own))
 
     salted : mid ≡ before ++ salt → HasSaltAndDraws keys file drawn
     salted first =
@@ -76,6 +85,10 @@ drawn_with keys file salt before mid after long is begins drew grown own ciphere
           pages = own_after keys.profile.reserve 16 before drawn (is_page_number (whole_pages keys.profile file)) (IsSealedWith keys file)
               (subst (λ (l : List ℕ). AreOwnDraws keys file (length before + 16) l) all_is (subst (λ (k : ℕ). AreOwnDraws keys file k after) mid_long own));
         }
+
+    by_kind : (clear : Bool) → is_clear keys.profile ≡ clear → HasDraws clear keys file drawn
+    by_kind true clear = unsalted (bare clear)
+    by_kind false hidden = salted (drew hidden)
 
 -- a file that is that one begins with its salt
 pub salt_is : (keys : FileKeys) (is_new : List ℕ → Type 0) (main file : List ℕ) → main ≡ file → IsSalted keys is_new file → salt_of main ≡ keys.salt

@@ -8,7 +8,7 @@ use Rattle.std.proofs.lemmas.List.{length-take, take-append-le, take_at}
 use Rattle.std.proofs.Math.Nat.{mul-le-mul_right}
 use Rattle.edge_model.specs.Files.{written, Torn}
 use Rattle.fresh_disk.specs.Torn.{MayTear}
-use Rattle.cipher_profile.specs.Profile.{is_plain}
+use Rattle.cipher_profile.specs.Profile.{IsLaidOut, is_clear}
 use Rattle.page_codec.specs.Page.{FileKeys, magic, opened, sealed}
 use Rattle.db_format.specs.declared.header.Header.{Header}
 use Rattle.db_format.specs.Header.{header_bytes}
@@ -229,7 +229,7 @@ module _ (keys : FileKeys) (header : Header) (page : ℕ → List ℕ) (head : L
     (stays : (m : ℕ) → put m ≡ true → (m ≡ 1 → ⊥) → plain_page keys m (fresh_contents mid) ≡ page m)
     (is_head : head ≡ header_bytes (sized_page header count))
     (all : (n : ℕ) → 2 ≤ n → n ≤ count → put n ≡ true)
-    (salt : length keys.salt ≡ 16) (room : 16 ≤ keys.profile.page_size) (plainly : is_plain keys.profile ≡ true → keys.salt ≡ magic)
+    (salt : length keys.salt ≡ 16) (room : 16 ≤ keys.profile.page_size) (plainly : is_clear keys.profile ≡ true → keys.salt ≡ magic) (laid_out : IsLaidOut keys.profile)
     (same : after ≡ mid) (no_draw : now ≡ drawn) where
   abbrev pages : Pages
   pages = record { count = count; usable = usable; page = page; accepts = accepts }
@@ -257,7 +257,7 @@ module _ (keys : FileKeys) (header : Header) (page : ℕ → List ℕ) (head : L
   finished = record {
     file = well.paged.file;
     is = same ∙ well.paged.is;
-    salt = salt_first keys well.paged.file (well.paged.sealed 1 (also_here 1 put)) salt room
+    salt = salt_first keys well.paged.file (well.paged.sealed 1 (also_here 1 put)) laid_out salt room
         (λ plain. ap (λ (l : List ℕ). take 16 (plain_page keys 1 l)) (sym file_is) ∙ ap (λ (l : List ℕ). take 16 l) here
         ∙ ap (λ (l : List ℕ). take 16 (with_head l (page 1))) is_head ∙ header_first (sized_page header count) (page 1) ∙ sym (plainly plain));
     size = omega (arith, (well.paged.sealed count last_put).1.whole, well.paged.short);

@@ -1,6 +1,6 @@
 -- The bytes that the pages of a whole new file were sealed with.
-use Rattle.std.specs.Prelude.{◌≡◌, false, ◌≤◌, ◌/◌, ◌&&◌, ℕ, nat_le, List, length, take}
-use Rattle.cipher_profile.specs.Profile.{is_plain}
+use Rattle.std.specs.Prelude.{◌≡◌, Bool, true, false, ◌≤◌, ◌/◌, ◌&&◌, ℕ, nat_le, List, length, take}
+use Rattle.cipher_profile.specs.Profile.{is_clear, is_plain}
 use Rattle.db_format.specs.Pages.{Test}
 use Rattle.page_codec.specs.Page.{FileKeys, salt_of}
 use Rattle.atomic_commit.specs.Draws.{OwnDraws}
@@ -20,6 +20,11 @@ pub record HasSaltAndDraws (keys : FileKeys) (file drawn : List ℕ) : Type 0 wh
   pub salt : salt_of file ≡ take 16 drawn
   pub pages : AreOwnDraws keys file 16 drawn
 
+-- where page 1 begins as it is stored, no salt was drawn
+abbrev pub HasDraws : Bool → FileKeys → List ℕ → List ℕ → Type 0
+HasDraws true keys file drawn = AreOwnDraws keys file 0 drawn
+HasDraws false keys file drawn = HasSaltAndDraws keys file drawn
+
 -- so it is of an encrypted file; a plain one takes no drawn bytes
 abbrev pub HasOwnDraws : FileKeys → List ℕ → List ℕ → Type 0
-HasOwnDraws keys file drawn = is_plain keys.profile ≡ false → HasSaltAndDraws keys file drawn
+HasOwnDraws keys file drawn = is_plain keys.profile ≡ false → HasDraws (is_clear keys.profile) keys file drawn

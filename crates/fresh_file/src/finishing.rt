@@ -41,6 +41,7 @@ impl FreshState {
     {
         let count = self.taken + 1;
         let _salt = self.codec.salt();
+        let _listed = self.codec.profile();
         let mut head = [0u8; 100];
         let sized = Header {
             size_field: count,

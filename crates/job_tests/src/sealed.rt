@@ -22,12 +22,12 @@ pub fn codec_of(rt: &impl Abort, word: &str, key: u8) -> Codec {
     codec_with(rt, word, &Secret::Raw([key; 32]), *SALT)
 }
 
-/// The codec of a profile that is not plain under a secret and a salt.
+/// The codec of a profile whose files hold a salt under a secret and a salt.
 pub fn codec_with(rt: &impl Abort, word: &str, secret: &Secret, salt: [u8; 16]) -> Codec {
     let Some(profile) = profile_of(word) else {
         panic!(rt; "no profile");
     };
-    assert!(rt; !profile.is_plain(), "a plain file has no salt");
+    assert!(rt; !profile.is_clear(), "the file holds no salt");
     Codec::new(profile, derive(secret, &profile, &salt), salt)
 }
 

@@ -1,6 +1,6 @@
 // A database is made where no file is.
 ghost use Rattle.std.specs.Prelude.{◌≡◌, ◌⊎◌, ◌≤◌, ◌<◌, ◌++◌, ℕ, true, false, is_some, None, Some, Err, IfOk, IfErr, OnOk, OnErr, IsTrue, drop, length};
-ghost use Rattle.cipher_profile.specs.Profile.{IsListed, is_plain, usable};
+ghost use Rattle.cipher_profile.specs.Profile.{IsListed, is_clear, usable};
 ghost use Rattle.edge_model.specs.Causes.{Rose};
 ghost use Rattle.edge_model.specs.Files.{file_at, main_of};
 ghost use Rattle.edge_model.specs.OnlyRead.{OnlyRead};
@@ -94,15 +94,16 @@ fn has_file<D: Disk>(disk: &mut D, role: Role) -> Result<bool, MakeError>
     }
 }
 
-// The 16 bytes of a new salt, which are drawn; those of a plain file are the magic.
+// The 16 bytes of a new salt, which are drawn; where the file holds none, they are the magic.
 fn new_salt<E: Entropy>(profile: &Profile, entropy: &mut E) -> Result<[u8; 16], MakeError>
-    ensures drawn { IfOk result (λ salt. is_plain profile.now ≡ false → IsTrue E.tells → E.drawn entropy.new ≡ E.drawn entropy.old ++ salt) }
-    ensures plain { IfOk result (λ salt. is_plain profile.now ≡ true → salt ≡ magic) }
+    ensures drawn { IfOk result (λ salt. is_clear profile.now ≡ false → IsTrue E.tells → E.drawn entropy.new ≡ E.drawn entropy.old ++ salt) }
+    ensures clear { IfOk result (λ salt. is_clear profile.now ≡ true → salt ≡ magic) }
+    ensures undrawn { IfOk result (λ salt. is_clear profile.now ≡ true → E.drawn entropy.new ≡ E.drawn entropy.old) }
     ensures error { IfErr result (λ e. e ≡ MakeError.EntropyFault) }
     ensures fault { OnErr result (Rose (E.faults entropy.old) (E.faults entropy.new)) }
     ensures later { E.faults entropy.old ≤ E.faults entropy.new }
 {
-    if profile.is_plain() {
+    if profile.is_clear() {
         return Ok(MAGIC);
     }
     let mut salt = [0u8; 16];

@@ -5,7 +5,7 @@ use Rattle.std.specs.Borrow.{MutBor}
 use Rattle.std.specs.Prelude.{IsTrue, OnOk, unwrap_or}
 use Rattle.btree_model.specs.Content.{content}
 use Rattle.btree_model.specs.Parts.{is_database}
-use Rattle.cipher_profile.specs.Profile.{is_plain, usable}
+use Rattle.cipher_profile.specs.Profile.{is_clear, usable}
 use Rattle.cipher_profile.specs.declared.keys.Secret.{Secret}
 use Rattle.cipher_profile.specs.declared.profile.Profile.{Profile}
 use Rattle.db_format.specs.Pages.{Pages}
@@ -77,12 +77,13 @@ written_salt keys is_new fresh file written is = subst (λ (l : List ℕ). salt_
 
 -- its pages were sealed with bytes of their own, behind the salt
 pub own_as : (profile : Profile) (secret : Secret) (salt : List ℕ) (keys : FileKeys) (file before mid after : List ℕ) → keys ≡ keys_with_salt profile secret salt
-    → (is_plain profile ≡ true → salt ≡ magic) → length salt ≡ 16 → salt_of file ≡ keys.salt → (is_plain profile ≡ false → mid ≡ before ++ salt) → StartsWith after mid → AreOwnDraws keys file (length mid) after
+    → (is_clear profile ≡ true → salt ≡ magic) → length salt ≡ 16 → salt_of file ≡ keys.salt → (is_clear profile ≡ false → mid ≡ before ++ salt)
+    → (is_clear profile ≡ true → mid ≡ before) → StartsWith after mid → AreOwnDraws keys file (length mid) after
     → HasOwnDraws (keys_of profile secret file) file (drop (length before) after)
-own_as profile secret salt keys file before mid after is plainly long begins drew grown own =
+own_as profile secret salt keys file before mid after is plainly long begins drew bare grown own =
     subst (λ (k : FileKeys). HasOwnDraws k file (drop (length before) after)) (keys_are profile secret salt file keys is plainly begins)
     (drawn_with keys file salt before mid after long (ap (λ (k : FileKeys). k.salt) is) begins
-    (λ ciphered. drew (sym (ap (λ (k : FileKeys). is_plain k.profile) is) ∙ ciphered)) grown own)
+    (λ hidden. drew (sym (ap (λ (k : FileKeys). is_clear k.profile) is) ∙ hidden)) (λ clear. bare (sym (ap (λ (k : FileKeys). is_clear k.profile) is) ∙ clear)) grown own)
 
 -- what follows from two facts of an Ok
 pub ok_both : {T E : Type 0} {A B C : Type 0} (r : Result T E) → (A → B → C) → OnOk r A → OnOk r B → OnOk r C

@@ -3,7 +3,7 @@ ghost use Rattle.std.specs.Prelude.{◌≡◌, ◌≤◌, ◌++◌, ◌*◌, ℕ
 ghost use Rattle.std.specs.List.{All};
 ghost use Rattle.btree_model.specs.Finding.{entries};
 ghost use Rattle.btree_model.specs.Parts.{is_database};
-ghost use Rattle.cipher_profile.specs.Profile.{IsListed, is_plain};
+ghost use Rattle.cipher_profile.specs.Profile.{IsListed, is_clear};
 ghost use Rattle.db_format.specs.Header.{IsPageSize, header_fields};
 ghost use Rattle.db_format.specs.Source.{no_pins};
 ghost use Rattle.fresh_disk.specs.OnlyFresh.{IsFreshSynced};
@@ -124,13 +124,14 @@ fn write_database<'d, D: Disk, E: Entropy>(
     }
 }
 
-// The 16 bytes of a new salt, which are drawn; those of a plain file are the magic.
+// The 16 bytes of a new salt, which are drawn; where the file holds none, they are the magic.
 fn new_salt<'d, D: Disk, E: Entropy>(
     profile: &Profile,
     pager: &mut Pager<'d, D, E>,
 ) -> Result<[u8; 16], MigrateError>
-    ensures drawn { IfOk result (λ salt. is_plain profile.now ≡ false → IsTrue E.tells → E.drawn pager.new.entropy.now ≡ E.drawn pager.old.entropy.now ++ salt) }
-    ensures plain { IfOk result (λ salt. is_plain profile.now ≡ true → salt ≡ magic) }
+    ensures drawn { IfOk result (λ salt. is_clear profile.now ≡ false → IsTrue E.tells → E.drawn pager.new.entropy.now ≡ E.drawn pager.old.entropy.now ++ salt) }
+    ensures clear { IfOk result (λ salt. is_clear profile.now ≡ true → salt ≡ magic) }
+    ensures undrawn { IfOk result (λ salt. is_clear profile.now ≡ true → E.drawn pager.new.entropy.now ≡ E.drawn pager.old.entropy.now) }
     ensures error { IfErr result (λ e. e ≡ MigrateError.EntropyFault) }
     ensures fault { OnErr result (Rose (E.faults pager.old.entropy.now) (E.faults pager.new.entropy.now)) }
     ensures beside { Beside D.tells E.tells D.reads D.images D.moment D.since E.drawn pager.old.disk pager.new.disk pager.old.entropy pager.new.entropy }
@@ -138,7 +139,7 @@ fn new_salt<'d, D: Disk, E: Entropy>(
     ensures disk_faults { D.faults pager.new.disk.now ≡ D.faults pager.old.disk.now }
     ensures entropy_later { E.faults pager.old.entropy.now ≤ E.faults pager.new.entropy.now }
 {
-    if profile.is_plain() {
+    if profile.is_clear() {
         return Ok(MAGIC);
     }
     let mut salt = [0u8; 16];

@@ -5,7 +5,7 @@ use Rattle.std.proofs.lemmas.Bool.{cases_lt}
 use Rattle.std.proofs.lemmas.Grind.{common_steps}
 use Rattle.std.proofs.lemmas.List.{length-append, length-drop, length-take-le}
 use Rattle.std.proofs.lemmas.Slice.{between-put_mid, drop-put_mid}
-use Rattle.std.specs.Prelude.{slice_index, slice_range}
+use Rattle.std.specs.Prelude.{◌==◌, slice_index, slice_range, if◌then◌else◌}
 use Rattle.cbc_mode.specs.Cbc.{IsRoundTrip, cbc_decrypted, cbc_encrypted}
 use Rattle.cbc_mode.specs.Records.{encrypted_record, cbc_text_at}
 use Rattle.cipher_profile.specs.declared.profile.Profile.{Profile}
@@ -142,8 +142,8 @@ length-page size i pages within = length-take-le size (drop (size * i) pages) (o
 
 -- ---- pages as records of blocks
 
-pub start_later : (n : ℕ) → 2 ≤ n → cipher_start n ≡ 0
-start_later n le = grind (arith, common_steps)
+pub start_later : (profile : Profile) (n : ℕ) → 2 ≤ n → cipher_start profile n ≡ 0
+start_later profile n le = grind (arith, common_steps)
 
 pub whole_blocks : (size stride count : ℕ) → 16 * stride ≡ size → size * count ≡ 16 * (stride * count)
 whole_blocks size stride count e = ap (λ (s : ℕ). s * count) (sym e) ∙ mul_assoc 16 stride count
@@ -163,7 +163,8 @@ encrypted_page file text n page e le =
     let key : List ℕ = file.keys.enc in
     let u : ℕ = usable file.profile in
     ap (λ (m : ℕ). cbc_encrypted key (take 16 (drop m page)) (take m page) ++ drop m page) e
-    ∙ ap (λ (s : ℕ). take s file.salt ++ cbc_encrypted key (take 16 (drop u page)) (drop s (take u page)) ++ drop u page) (sym (start_later n le))
+    ∙ ap (λ (s : ℕ). take s (if file.profile.plain_header == 0 then file.salt else take u page) ++ cbc_encrypted key (take 16 (drop u page)) (drop s (take u page)) ++ drop u page)
+    (sym (start_later file.profile n le))
 
 -- a page without its tag is decrypted to its content
 pub opened_untagged : (file : FileKeys) (n : ℕ) (plain draw : List ℕ) → 2 ≤ n → length plain ≡ usable file.profile
@@ -174,11 +175,11 @@ opened_untagged file n plain draw le size back =
     let u : ℕ = usable file.profile in
     let text : List ℕ = cbc_encrypted key (take 16 draw) plain in
     let page : List ℕ = text ++ draw in
-    let none : cipher_start n ≡ 0 = start_later n le in
+    let none : cipher_start file.profile n ≡ 0 = start_later file.profile n le in
     let long : length text ≡ u = back.encrypted_length ∙ size in
     let iv : stored_iv file.profile page ≡ take 16 draw = part_after text draw u (u + 16) 16 long refl in
     let body : slice_range page 0 u ≡ text = part_between [] text draw 0 u refl (omega (arith, long)) in
-    ap (deciphered file n) (ap (λ (s : ℕ). take s file.salt ++ cbc_encrypted key (take 16 draw) (drop s plain) ++ draw) none)
-    ∙ ap (λ (s : ℕ). take s magic ++ cbc_decrypted key (stored_iv file.profile page) (slice_range page s u)) none
+    ap (deciphered file n) (ap (λ (s : ℕ). take s (if file.profile.plain_header == 0 then file.salt else plain) ++ cbc_encrypted key (take 16 draw) (drop s plain) ++ draw) none)
+    ∙ ap (λ (s : ℕ). take s (if file.profile.plain_header == 0 then magic else page) ++ cbc_decrypted key (stored_iv file.profile page) (slice_range page s u)) none
     ∙ (λ k. cbc_decrypted key (iv k) (body k))
     ∙ back.decrypts_back

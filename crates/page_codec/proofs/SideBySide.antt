@@ -40,7 +40,7 @@ side_tag file pages ends mac n i later within short number is =
     let len : ℕ = file.profile.tag_len in
     let hash : List ℕ → List ℕ = digest file.profile.hash in
     let page : List ℕ = nth_page size pages i in
-    let start : cipher_start n ≡ 0 = start_later n later in
+    let start : cipher_start file.profile n ≡ 0 = start_later file.profile n later in
     let whole : at ≡ at - 0 = omega arith in
     let body : piece pages size at i ≡ covered file.profile n page =
     ap (λ (k : ℕ). take at (drop k pages)) (mul_comm i size)

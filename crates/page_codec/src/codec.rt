@@ -2,9 +2,9 @@
 ghost use Rattle.std.specs.Prelude.{◌≡◌, ◌<◌, ◌≤◌, ◌==◌, length, take, true, false, if◌then◌else◌};
 ghost use Rattle.std.specs.Int.{w16, to_be_bytes};
 ghost use Rattle.std.specs.Str.{bytes_eq};
-ghost use Rattle.cipher_profile.specs.Profile.{IsListed, is_plain};
+ghost use Rattle.cipher_profile.specs.Profile.{IsListed, is_clear, is_plain, usable};
 ghost use Rattle.page_codec.specs.MacKey.{mac_key};
-ghost use Rattle.page_codec.specs.Page.{FileKeys, accepts, bears_sign, cipher_start, deciphered, fits, keys_of, keys_with_salt, magic, tag};
+ghost use Rattle.page_codec.specs.Page.{FileKeys, accepts, bears_sign, begins_with_magic, cipher_start, deciphered, fits, keys_of, keys_with_salt, magic, tag};
 
 use crate::side_by_side::SideKey;
 use crate::tag::{MAX_TAG, TagKey};
@@ -47,15 +47,15 @@ impl Model for Codec {
       ciphers : c.cipher ≡ c.keys.enc;
       tags : c.tags ≡ mac_key c.profile.hash c.keys.mac;
       side : c.side ≡ mac_key c.profile.hash c.keys.mac;
-      plain : is_plain c.profile ≡ true → c.salt ≡ magic;
+      clear : is_clear c.profile ≡ true → c.salt ≡ magic;
     } };
 }
 
 impl Codec {
-    /// The codec of a file with these keys and this salt; of a plain file the salt is the magic.
+    /// The codec of a file with these keys and this salt; where the file holds none, it is the magic.
     pub fn new(profile: Profile, keys: PageKeys, salt: [u8; 16]) -> Codec
         requires listed { IsListed profile }
-        requires plain { is_plain profile ≡ true → salt ≡ magic }
+        requires clear { is_clear profile ≡ true → salt ≡ magic }
         ensures { result ≡ record { profile = profile; keys = keys; salt = salt } }
     {
         let cipher = Aes256::new(&keys.enc);
@@ -71,16 +71,16 @@ impl Codec {
         }
     }
 
-    /// The codec that the secret gives for a file with this salt; of a plain file the salt is the magic.
+    /// The codec that the secret gives for a file with this salt; where the file holds none, it is the magic.
     pub fn of_secret(profile: Profile, secret: &Secret, salt: [u8; 16]) -> Codec
         requires listed { IsListed profile }
-        requires plain { is_plain profile ≡ true → salt ≡ magic }
+        requires clear { is_clear profile ≡ true → salt ≡ magic }
         ensures { result ≡ keys_with_salt profile secret.now salt }
     {
         Codec::new(profile, derive(secret, &profile, &salt), salt)
     }
 
-    /// The codec that the secret gives for a file with this stored page 1, which begins with the salt where the file is encrypted.
+    /// The codec that the secret gives for a file with this stored page 1, which begins with the salt where the file holds one.
     pub fn of_file(profile: Profile, secret: &Secret, page_1: &[u8]) -> Codec
         requires listed { IsListed profile }
         requires size { length page_1.now ≡ profile.page_size }
@@ -88,7 +88,7 @@ impl Codec {
     {
         let _usable = profile.usable();
         let mut salt = MAGIC;
-        if !profile.is_plain() {
+        if !profile.is_clear() {
             salt.copy_from_slice(&page_1[..SALT_LEN]);
         }
         Codec::of_secret(profile, secret, salt)
@@ -109,10 +109,10 @@ impl Codec {
         &self.profile
     }
 
-    /// The file's salt, its first 16 bytes; of a plain file the magic.
+    /// The file's salt, its first 16 bytes; where the file holds none, the magic.
     pub fn salt(&self) -> [u8; 16]
         ensures value { result ≡ self.now.salt }
-        ensures plain { is_plain self.now.profile ≡ true → result ≡ magic }
+        ensures clear { is_clear self.now.profile ≡ true → result ≡ magic }
     {
         self.salt
     }
@@ -138,7 +138,7 @@ impl Codec {
         ensures { take self.now.profile.tag_len result ≡ tag self.now n stored.now }
     {
         let tag_at = self.profile.usable() + IV_LEN;
-        self.tags.tag(&stored[cipher_start(n)..tag_at], n)
+        self.tags.tag(&stored[self.cipher_start(n)..tag_at], n)
     }
 
     /// Whether the key fits a file whose page 1 is this stored page.
@@ -151,16 +151,18 @@ impl Codec {
             return self.begins_with_magic(stored);
         }
         if self.profile.tag_len == 0 {
-            self.opens_with_sign(stored)
-        } else {
-            self.tag_holds(1, stored)
+            return self.opens_with_sign(stored);
         }
+        if self.profile.plain_header > 0 {
+            return self.begins_with_magic(stored) && self.tag_holds(1, stored);
+        }
+        self.tag_holds(1, stored)
     }
 
-    // Whether page 1 of a plain file begins with the magic.
+    // Whether page 1 begins with the magic, as it is stored.
     fn begins_with_magic(&self, stored: &[u8]) -> bool
         requires { length stored.now ≡ self.now.profile.page_size }
-        ensures { result ≡ bytes_eq (take 16 stored.now) magic }
+        ensures { result ≡ begins_with_magic stored.now }
     {
         let _usable = self.profile.usable();
         stored[..SALT_LEN] == MAGIC[..]
@@ -194,9 +196,20 @@ fn stored_size(page_size: u32) -> [u8; 2]
     u16_bytes(size)
 }
 
-/// Where the ciphertext of page n begins: on page 1 after the salt.
-pub fn cipher_start(n: u32) -> usize
-    ensures { result ≡ cipher_start n }
-{
-    if n == 1 { SALT_LEN } else { 0 }
+impl Codec {
+    /// Where the ciphertext of page n begins: on page 1 after the salt or the plain header.
+    pub(crate) fn cipher_start(&self, n: u32) -> usize
+        ensures value { result ≡ cipher_start self.now.profile n }
+        ensures short { result ≤ usable self.now.profile }
+        ensures least { self.now.profile.plain_header ≡ 0 → result ≤ 16 }
+    {
+        let _usable = self.profile.usable();
+        if n != 1 {
+            return 0;
+        }
+        if self.profile.plain_header == 0 {
+            return SALT_LEN;
+        }
+        self.profile.plain_header as usize
+    }
 }

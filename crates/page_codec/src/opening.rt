@@ -2,10 +2,10 @@
 ghost use Rattle.std.specs.Prelude.{◌≡◌, ℕ, ◌+◌, ◌*◌, ◌^◌, ◌<◌, ◌≤◌, ◌↔◌, ◌++◌, true, false, length, slice_index_or, take, drop, IfErr, IfOk, IsOk, IsTrue};
 ghost use Rattle.cbc_mode.specs.Cbc.{cbc_decrypted};
 ghost use Rattle.cipher_profile.specs.Profile.{is_plain, usable};
-ghost use Rattle.page_codec.specs.Page.{accepts, cipher_start, deciphered, fits, magic, opened};
+ghost use Rattle.page_codec.specs.Page.{accepts, cipher_start, deciphered, fits, magic, plain_head, opened};
 ghost use Rattle.page_codec.specs.Pages.{IsOpenedIf};
 
-use crate::codec::{Codec, IV_LEN, MAGIC, cipher_start};
+use crate::codec::{Codec, IV_LEN, MAGIC};
 use cbc_mode::cbc_decrypt;
 
 /// The tag of a page was not right.
@@ -141,13 +141,15 @@ impl Codec {
     // The content of stored page n becomes the plain page, under this IV.
     fn decipher_content(&self, n: u32, iv: &[u8; IV_LEN], content: &mut [u8])
         requires { length content.old ≡ usable self.now.profile }
-        ensures { content.new ≡ take (cipher_start n) magic
-            ++ cbc_decrypted self.now.keys.enc iv.now (drop (cipher_start n) content.old) }
+        ensures { content.new ≡ plain_head self.now.profile n content.old
+            ++ cbc_decrypted self.now.keys.enc iv.now (drop (cipher_start self.now.profile n) content.old) }
     {
-        let start = cipher_start(n);
+        let start = self.cipher_start(n);
         let _usable = self.profile.usable();
         let (head, text) = content.split_at_mut(start);
-        head.copy_from_slice(&MAGIC[..start]);
+        if self.profile.plain_header == 0 {
+            head.copy_from_slice(&MAGIC[..start]);
+        }
         cbc_decrypt(&self.cipher, iv, text);
     }
 }

@@ -22,7 +22,7 @@ use Rattle.atomic_commit.specs.Batches.{HasBatches, HasMarked, IsBatchWritten}
 use Rattle.atomic_commit.specs.Commit.{AreChanges}
 use Rattle.atomic_commit.specs.Database.{Base, stored_page}
 use Rattle.atomic_commit.specs.Facts.{Facts, IsBase, IsCommitBegun}
-use Rattle.cipher_profile.specs.Profile.{is_plain}
+use Rattle.cipher_profile.specs.Profile.{is_clear}
 use Rattle.atomic_commit.specs.Marks.{is_marked, marked_count}
 use Rattle.atomic_commit.proofs.Batched.{none_or_some, batches_first, count_none}
 use Rattle.atomic_commit.proofs.Changed.{changed_none}
@@ -325,24 +325,24 @@ touched_again marks held n is m = (elim (m == n) as (λ b. (m == n) ≡ b → is
 pub put_same : (m n : ℕ) (w x y z : List ℕ) → w ≡ x → y ≡ z → (if m == n then w else y) ≡ (if m == n then x else z)
 put_same m n w x y z same other = ap (λ (l : List ℕ). if m == n then l else y) same ∙ ap (λ (l : List ℕ). if m == n then x else l) other
 
-opened_begins : (keys : FileKeys) (stored : List ℕ) → is_plain keys.profile ≡ false → take 16 (opened keys 1 stored) ≡ magic
+opened_begins : (keys : FileKeys) (stored : List ℕ) → is_clear keys.profile ≡ false → take 16 (opened keys 1 stored) ≡ magic
 opened_begins keys stored ciphered =
     ap (λ (l : List ℕ). take 16 l) (sym (magic_kept keys stored ciphered)) ∙ take-append_seam magic (drop 16 (opened keys 1 stored))
 
 -- page 1 of an encrypted file begins as each database does
-keys_ciphered : (read write : FileKeys) (marks : List Bool) (n : ℕ) → is_plain read.profile ≡ false → is_plain write.profile ≡ false
-    → is_plain (keys_at read write marks n).profile ≡ false
-keys_ciphered read write marks n old new = either (is_marked n marks)
+keys_hidden : (read write : FileKeys) (marks : List Bool) (n : ℕ) → is_clear read.profile ≡ false → is_clear write.profile ≡ false
+    → is_clear (keys_at read write marks n).profile ≡ false
+keys_hidden read write marks n old new = either (is_marked n marks)
   where
-    either : (b : Bool) → is_plain (if b then write else read).profile ≡ false
+    either : (b : Bool) → is_clear (if b then write else read).profile ≡ false
     either true = new
     either false = old
 
-pub seen_begins : (read write : FileKeys) (file : List ℕ) (count n : ℕ) (marks : List Bool) (held : List Page) → is_plain read.profile ≡ false → is_plain write.profile ≡ false → n ≡ 1 → is_page_number count n ≡ true → is_held n held ≡ false
+pub seen_begins : (read write : FileKeys) (file : List ℕ) (count n : ℕ) (marks : List Bool) (held : List Page) → is_clear read.profile ≡ false → is_clear write.profile ≡ false → n ≡ 1 → is_page_number count n ≡ true → is_held n held ≡ false
     → take 16 ((seen_pages read write file count marks held).page n) ≡ magic
 seen_begins read write file count n marks held old new is num free =
     ap (λ (l : List ℕ). take 16 l) (free_or n held _ free ∙ opened_at (keys_at read write marks n) file count n num)
-    ∙ subst (λ (k : ℕ). take 16 (opened (keys_at read write marks k) k (page_stored (keys_at read write marks k) file k)) ≡ magic) (sym is) (opened_begins (keys_at read write marks 1) (page_stored (keys_at read write marks 1) file 1) (keys_ciphered read write marks 1 old new))
+    ∙ subst (λ (k : ℕ). take 16 (opened (keys_at read write marks k) k (page_stored (keys_at read write marks k) file k)) ≡ magic) (sym is) (opened_begins (keys_at read write marks 1) (page_stored (keys_at read write marks 1) file 1) (keys_hidden read write marks 1 old new))
 
 magic_whole : (plain : List ℕ) → take 16 plain ≡ magic → with_bytes 0 magic plain ≡ plain
 magic_whole plain begins = ap (λ (l : List ℕ). l ++ drop 16 plain) (sym begins) ∙ take-append-drop 16 plain
@@ -362,6 +362,10 @@ first_put n plain old mid new is begins bring put m =
 pub ok_map : {T E : Type 0} {A B : Type 0} (r : Result T E) → OnOk r A → (A → B) → OnOk r B
 ok_map (Ok x) a f = f a
 ok_map (Err e) a f = a
+
+pub ok_map_two : {T E : Type 0} {A B C : Type 0} (r : Result T E) → OnOk r A → OnOk r B → (A → B → C) → OnOk r C
+ok_map_two (Ok x) a b f = f a b
+ok_map_two (Err e) a b f = a
 
 pub seen_held : (read write : FileKeys) (file : List ℕ) (count : ℕ) (marks : List Bool) (held : List Page) (n : ℕ) → is_held n held ≡ true → bytes_of_page n held ≡ (seen_pages read write file count marks held).page n
 seen_held read write file count marks held n is = sym (held_or n held ((opened_pages (keys_at read write marks n) file count).page n) is)

@@ -33,7 +33,7 @@ pub fn codec_of(rt: &impl Abort, key: u8) -> Codec {
     let Some(profile) = profile_of("3") else {
         panic!(rt; "no profile 3");
     };
-    assert!(rt; !profile.is_plain());
+    assert!(rt; !profile.is_clear());
     let keys = derive(&Secret::Raw([key; 32]), &profile, SALT);
     Codec::new(profile, keys, *SALT)
 }

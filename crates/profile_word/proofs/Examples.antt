@@ -1,11 +1,14 @@
 -- The words of the versions as they are by themselves, and of plain files: the grammar gives each what it has always named, and with `:wal`
--- the same read with its log. And what is no word.
-use Rattle.std.proofs.Common.{◌≡◌, Some, None, refl}
+-- the same read with its log. A plain header and a key line in hex. And what is no word.
+use Rattle.std.proofs.Common.{◌≡◌, true, false, Some, None, refl}
 use Rattle.std.specs.Prelude.{codes}
+use Rattle.std.specs.Fmt.{digits}
+use Rattle.cipher_profile.specs.declared.profile.HashKind.TheVariants.{Sha512}
 use Rattle.cipher_profile.specs.Profile.{plain_of, sqlcipher_1, sqlcipher_2, sqlcipher_3, sqlcipher_4, sqlcipher_4_of, with_log}
 use Rattle.profile_word.specs.Parts.{parts}
 use Rattle.profile_word.specs.Setting.{setting_named}
 use Rattle.profile_word.specs.Word.{profile_from, profile_named}
+use Rattle.profile_word.specs.Wording.{word_of}
 
 names_1 : profile_named (codes "1") ≡ Some sqlcipher_1
 unfolding profile_named profile_from parts setting_named
@@ -94,6 +97,23 @@ names_4_65536 = refl
 names_4_65536_wal : profile_named (codes "4:65536:wal") ≡ Some (with_log (sqlcipher_4_of 65536))
 unfolding profile_named profile_from parts setting_named
 names_4_65536_wal = refl
+
+names_4_header : profile_named (codes "4:plain-header=32") ≡ Some (record { version = 4; page_size = 4096; reserve = 80; hash = Sha512; kdf = Sha512; rounds = 256000; tag_len = 64; plain_header = 32; hex_key = false; reads_log = false })
+unfolding profile_named profile_from parts setting_named
+names_4_header = refl
+
+names_4_hex : profile_named (codes "4:key=hex") ≡ Some (record { version = 4; page_size = 4096; reserve = 80; hash = Sha512; kdf = Sha512; rounds = 256000; tag_len = 64; plain_header = 0; hex_key = true; reads_log = false })
+unfolding profile_named profile_from parts setting_named
+names_4_hex = refl
+
+names_4_header_hex_wal : profile_named (codes "4:wal:key=hex:plain-header=96") ≡ Some (record { version = 4; page_size = 4096; reserve = 80; hash = Sha512; kdf = Sha512; rounds = 256000; tag_len = 64; plain_header = 96; hex_key = true; reads_log = true })
+unfolding profile_named profile_from parts setting_named
+names_4_header_hex_wal = refl
+
+prints_4_header_hex_wal : word_of (record { version = 4; page_size = 4096; reserve = 80; hash = Sha512; kdf = Sha512; rounds = 256000; tag_len = 64; plain_header = 96; hex_key = true; reads_log = true })
+    ≡ codes "4:plain-header=96:key=hex:wal"
+unfolding digits
+prints_4_header_hex_wal = refl
 
 names_plain_512 : profile_named (codes "plain:512") ≡ Some (plain_of 512)
 unfolding profile_named profile_from parts setting_named
@@ -230,6 +250,58 @@ no_word_17 = refl
 no_word_18 : profile_named (codes "4: 1024") ≡ None
 unfolding profile_named profile_from parts setting_named
 no_word_18 = refl
+
+no_word_19 : profile_named (codes "4:plain-header=0") ≡ None
+unfolding profile_named profile_from parts setting_named
+no_word_19 = refl
+
+no_word_20 : profile_named (codes "4:plain-header=20") ≡ None
+unfolding profile_named profile_from parts setting_named
+no_word_20 = refl
+
+no_word_21 : profile_named (codes "4:plain-header=112") ≡ None
+unfolding profile_named profile_from parts setting_named
+no_word_21 = refl
+
+no_word_22 : profile_named (codes "4:plain-header=032") ≡ None
+unfolding profile_named profile_from parts setting_named
+no_word_22 = refl
+
+no_word_23 : profile_named (codes "4:plain-header=") ≡ None
+unfolding profile_named profile_from parts setting_named
+no_word_23 = refl
+
+no_word_24 : profile_named (codes "1:plain-header=32") ≡ None
+unfolding profile_named profile_from parts setting_named
+no_word_24 = refl
+
+no_word_25 : profile_named (codes "3:hmac=off:plain-header=32") ≡ None
+unfolding profile_named profile_from parts setting_named
+no_word_25 = refl
+
+no_word_26 : profile_named (codes "4:plain-header=32:plain-header=32") ≡ None
+unfolding profile_named profile_from parts setting_named
+no_word_26 = refl
+
+no_word_27 : profile_named (codes "4:key=") ≡ None
+unfolding profile_named profile_from parts setting_named
+no_word_27 = refl
+
+no_word_28 : profile_named (codes "4:key=text") ≡ None
+unfolding profile_named profile_from parts setting_named
+no_word_28 = refl
+
+no_word_29 : profile_named (codes "4:key=hex:key=hex") ≡ None
+unfolding profile_named profile_from parts setting_named
+no_word_29 = refl
+
+no_word_30 : profile_named (codes "plain:4096:plain-header=32") ≡ None
+unfolding profile_named profile_from parts setting_named
+no_word_30 = refl
+
+no_word_31 : profile_named (codes "plain:4096:key=hex") ≡ None
+unfolding profile_named profile_from parts setting_named
+no_word_31 = refl
 
 any_order : profile_named (codes "4:kdf=sha1:1024:wal:rounds=4000") ≡ profile_named (codes "4:rounds=4000:kdf=sha1:wal:1024")
 unfolding profile_named profile_from parts setting_named

@@ -1,6 +1,6 @@
 -- A word names a profile that is listed.
-use Rattle.std.proofs.Common.{◌≡◌, ◌⊎◌, ◌+◌, ◌*◌, ◌/◌, ◌≤◌, ℕ, Bool, true, false, List, [], ◌∷◌, length, Option, Some, None, IfSome, ap, refl, sym, inl, inr, lit≤, subst, arith}
-use Rattle.std.specs.Prelude.{◌==◌, ◌&&◌, ◌||◌, codes, if◌then◌else◌}
+use Rattle.std.proofs.Common.{◌≡◌, ◌⊎◌, ◌+◌, ◌*◌, ◌/◌, ◌≤◌, ◌<◌, ℕ, Bool, true, false, List, [], ◌∷◌, length, Option, Some, None, IfSome, ap, refl, sym, inl, inr, lit≤, subst, arith}
+use Rattle.std.specs.Prelude.{◌==◌, ◌&&◌, ◌||◌, not, nat_lt, codes, if◌then◌else◌}
 use Rattle.std.specs.Option.{is_none, option_and_then, unwrap_or}
 use Rattle.std.specs.Str.{bytes_eq}
 use Rattle.std.proofs.lemmas.Bool.{and_parts}
@@ -10,9 +10,9 @@ use Rattle.profile_word.specs.declared.word.Settings.{Settings}
 use Rattle.profile_word.specs.declared.setting.Tags.{Tags}
 use Rattle.profile_word.specs.declared.setting.Tags.TheVariants.{Off, With}
 use Rattle.cipher_profile.specs.Hashes.{digest_len}
-use Rattle.cipher_profile.specs.Profile.{IsListed, IsPlainSize, IsSize, plain_of, set_log, sqlcipher_1, sqlcipher_2, sqlcipher_3, sqlcipher_4}
+use Rattle.cipher_profile.specs.Profile.{IsListed, IsPlainHeader, IsPlainSize, IsSize, plain_of, set_log, sqlcipher_1, sqlcipher_2, sqlcipher_3, sqlcipher_4}
 use Rattle.profile_word.specs.Parts.{first_part, parts, parts_from}
-use Rattle.profile_word.specs.Word.{are_rounds, is_size, plain_sized, plain_with, profile_from, profile_named, profile_of_parts, settings_of, tags_hash, tags_len, version_named, version_with}
+use Rattle.profile_word.specs.Word.{are_rounds, is_header, is_size, plain_sized, plain_with, profile_from, profile_named, profile_of_parts, settings_of, tags_hash, tags_len, takes_header, version_named, version_with}
 use Rattle.profile_word.proofs.PartLaws.{named_by}
 
 -- none, or a profile that is listed
@@ -29,6 +29,23 @@ plain_size_listed size is = grind (arith, nat_tests)
 rounds_some : (n : ℕ) → are_rounds n ≡ true → 1 ≤ n
 rounds_some n is = grind (arith, nat_tests)
 
+-- a plain header is none, or fits beside the tags
+header_fits : (profile : Profile) (given : Option ℕ) → profile.plain_header ≡ unwrap_or given 0 → takes_header profile.tag_len given ≡ true
+    → (profile.plain_header ≡ 0) ⊎ IsPlainHeader profile
+header_fits profile None is fits = inl is
+header_fits profile (Some n) is fits =
+    let both = and_parts (nat_lt 0 profile.tag_len) (is_header n) fits in
+    let tagged : 0 < profile.tag_len = grind (arith, nat_tests, both.0) in
+    inr (header_of profile tagged (subst (λ (k : ℕ). is_header k ≡ true) (sym is) both.1))
+  where
+    header_of : (profile : Profile) → 0 < profile.tag_len → is_header profile.plain_header ≡ true → IsPlainHeader profile
+    header_of profile tagged one = record {
+      tagged = tagged;
+      blocks = grind (arith, nat_tests, one);
+      some = grind (arith, nat_tests, one);
+      most = grind (arith, nat_tests, one);
+    }
+
 -- the tags of a version with settings are none or whole
 tags_whole : (base : Profile) (tags : Option Tags) → (base.tag_len ≡ 0) ⊎ (base.tag_len ≡ digest_len base.hash)
     → (tags_len base tags ≡ 0) ⊎ (tags_len base tags ≡ digest_len (tags_hash base tags))
@@ -43,7 +60,7 @@ record IsVersion (base : Profile) : Type 0 where
 
 version_listed : (base : Profile) (s : Settings) → IsVersion base → MaybeListed (version_with base s)
 unfolding IsListed
-version_listed base s is = by_test (is_size size && are_rounds rounds) refl
+version_listed base s is = by_test (is_size size && are_rounds rounds && takes_header tag_len s.plain_header) refl
   where
     size : ℕ
     size = unwrap_or s.size base.page_size
@@ -51,19 +68,35 @@ version_listed base s is = by_test (is_size size && are_rounds rounds) refl
     rounds : ℕ
     rounds = unwrap_or s.rounds base.rounds
 
-    by_test : (b : Bool) → (is_size size && are_rounds rounds) ≡ b → MaybeListed (if b then Some (record {
+    tag_len : ℕ
+    tag_len = tags_len base s.tags
+
+    with_settings : Profile
+    with_settings = record {
       version = base.version;
       page_size = size;
-      reserve = (tags_len base s.tags + 31) / 16 * 16;
+      reserve = (tag_len + 31) / 16 * 16;
       hash = tags_hash base s.tags;
       kdf = unwrap_or s.kdf base.kdf;
       rounds = rounds;
-      tag_len = tags_len base s.tags;
+      tag_len = tag_len;
+      plain_header = unwrap_or s.plain_header 0;
+      hex_key = s.hex_key;
       reads_log = s.reads_log;
-    }) else None)
+    }
+
+    by_test : (b : Bool) → (is_size size && are_rounds rounds && takes_header tag_len s.plain_header) ≡ b → MaybeListed (if b then Some with_settings else None)
     by_test true fit =
-        let both = and_parts (is_size size) (are_rounds rounds) fit in
-        inl (record { version = is.version; size = size_listed size both.0; rounds = rounds_some rounds both.1; tags = tags_whole base s.tags is.tags; reserve = refl })
+        let all = and_parts (is_size size && are_rounds rounds) (takes_header tag_len s.plain_header) fit in
+        let both = and_parts (is_size size) (are_rounds rounds) all.0 in
+        inl (record {
+          version = is.version;
+          size = size_listed size both.0;
+          rounds = rounds_some rounds both.1;
+          tags = tags_whole base s.tags is.tags;
+          reserve = refl;
+          header = header_fits with_settings s.plain_header refl all.1;
+        })
     by_test false none = tt
 
 is_version_1 : IsVersion sqlcipher_1
@@ -83,7 +116,7 @@ unfolding IsListed
 plain_set reads size one = inr (one, refl)
 
 plain_listed : (s : Settings) → MaybeListed (plain_with s)
-plain_listed s = by_none (is_none s.rounds && is_none s.kdf && is_none s.tags)
+plain_listed s = by_none (is_none s.rounds && is_none s.kdf && is_none s.tags && is_none s.plain_header && not s.hex_key)
   where
     by_size : (size : ℕ) (b : Bool) → (size == 512 || is_size size) ≡ b → MaybeListed (if b then Some (set_log s.reads_log (plain_of size)) else None)
     by_size size true fits = plain_set s.reads_log size (plain_size_listed size fits)

@@ -20,7 +20,7 @@ module _ (P : Profile → Type 0) where
 
 listed_4 : IsListed sqlcipher_4
 unfolding IsListed
-listed_4 = inl (record { version = lit≤ tt; size = inr (inr (inl refl)); rounds = lit≤ tt; tags = inr refl; reserve = refl })
+listed_4 = inl (record { version = lit≤ tt; size = inr (inr (inl refl)); rounds = lit≤ tt; tags = inr refl; reserve = refl; header = inl refl })
 
 named_4 : IsNamedByItsWord sqlcipher_4
 unfolding profile_named profile_from parts setting_named digits
@@ -28,7 +28,7 @@ named_4 = refl
 
 listed_4_1024 : IsListed (sqlcipher_4_of 1024)
 unfolding IsListed
-listed_4_1024 = inl (record { version = lit≤ tt; size = inl refl; rounds = lit≤ tt; tags = inr refl; reserve = refl })
+listed_4_1024 = inl (record { version = lit≤ tt; size = inl refl; rounds = lit≤ tt; tags = inr refl; reserve = refl; header = inl refl })
 
 named_4_1024 : IsNamedByItsWord (sqlcipher_4_of 1024)
 unfolding profile_named profile_from parts setting_named digits
@@ -36,7 +36,7 @@ named_4_1024 = refl
 
 listed_4_2048 : IsListed (sqlcipher_4_of 2048)
 unfolding IsListed
-listed_4_2048 = inl (record { version = lit≤ tt; size = inr (inl refl); rounds = lit≤ tt; tags = inr refl; reserve = refl })
+listed_4_2048 = inl (record { version = lit≤ tt; size = inr (inl refl); rounds = lit≤ tt; tags = inr refl; reserve = refl; header = inl refl })
 
 named_4_2048 : IsNamedByItsWord (sqlcipher_4_of 2048)
 unfolding profile_named profile_from parts setting_named digits
@@ -44,7 +44,7 @@ named_4_2048 = refl
 
 listed_4_8192 : IsListed (sqlcipher_4_of 8192)
 unfolding IsListed
-listed_4_8192 = inl (record { version = lit≤ tt; size = inr (inr (inr (inl refl))); rounds = lit≤ tt; tags = inr refl; reserve = refl })
+listed_4_8192 = inl (record { version = lit≤ tt; size = inr (inr (inr (inl refl))); rounds = lit≤ tt; tags = inr refl; reserve = refl; header = inl refl })
 
 named_4_8192 : IsNamedByItsWord (sqlcipher_4_of 8192)
 unfolding profile_named profile_from parts setting_named digits
@@ -52,7 +52,7 @@ named_4_8192 = refl
 
 listed_4_16384 : IsListed (sqlcipher_4_of 16384)
 unfolding IsListed
-listed_4_16384 = inl (record { version = lit≤ tt; size = inr (inr (inr (inr (inl refl)))); rounds = lit≤ tt; tags = inr refl; reserve = refl })
+listed_4_16384 = inl (record { version = lit≤ tt; size = inr (inr (inr (inr (inl refl)))); rounds = lit≤ tt; tags = inr refl; reserve = refl; header = inl refl })
 
 named_4_16384 : IsNamedByItsWord (sqlcipher_4_of 16384)
 unfolding profile_named profile_from parts setting_named digits
@@ -60,7 +60,7 @@ named_4_16384 = refl
 
 listed_4_32768 : IsListed (sqlcipher_4_of 32768)
 unfolding IsListed
-listed_4_32768 = inl (record { version = lit≤ tt; size = inr (inr (inr (inr (inr (inl refl))))); rounds = lit≤ tt; tags = inr refl; reserve = refl })
+listed_4_32768 = inl (record { version = lit≤ tt; size = inr (inr (inr (inr (inr (inl refl))))); rounds = lit≤ tt; tags = inr refl; reserve = refl; header = inl refl })
 
 named_4_32768 : IsNamedByItsWord (sqlcipher_4_of 32768)
 unfolding profile_named profile_from parts setting_named digits
@@ -68,7 +68,7 @@ named_4_32768 = refl
 
 listed_4_65536 : IsListed (sqlcipher_4_of 65536)
 unfolding IsListed
-listed_4_65536 = inl (record { version = lit≤ tt; size = inr (inr (inr (inr (inr (inr refl))))); rounds = lit≤ tt; tags = inr refl; reserve = refl })
+listed_4_65536 = inl (record { version = lit≤ tt; size = inr (inr (inr (inr (inr (inr refl))))); rounds = lit≤ tt; tags = inr refl; reserve = refl; header = inl refl })
 
 named_4_65536 : IsNamedByItsWord (sqlcipher_4_of 65536)
 unfolding profile_named profile_from parts setting_named digits
@@ -76,7 +76,7 @@ named_4_65536 = refl
 
 listed_3 : IsListed sqlcipher_3
 unfolding IsListed
-listed_3 = inl (record { version = lit≤ tt; size = inl refl; rounds = lit≤ tt; tags = inr refl; reserve = refl })
+listed_3 = inl (record { version = lit≤ tt; size = inl refl; rounds = lit≤ tt; tags = inr refl; reserve = refl; header = inl refl })
 
 named_3 : IsNamedByItsWord sqlcipher_3
 unfolding profile_named profile_from parts setting_named digits
@@ -84,7 +84,7 @@ named_3 = refl
 
 listed_3_4096 : IsListed sqlcipher_3_at_4096
 unfolding IsListed
-listed_3_4096 = inl (record { version = lit≤ tt; size = inr (inr (inl refl)); rounds = lit≤ tt; tags = inr refl; reserve = refl })
+listed_3_4096 = inl (record { version = lit≤ tt; size = inr (inr (inl refl)); rounds = lit≤ tt; tags = inr refl; reserve = refl; header = inl refl })
 
 named_3_4096 : IsNamedByItsWord sqlcipher_3_at_4096
 unfolding profile_named profile_from parts setting_named digits
@@ -92,7 +92,7 @@ named_3_4096 = refl
 
 listed_2 : IsListed sqlcipher_2
 unfolding IsListed
-listed_2 = inl (record { version = lit≤ tt; size = inl refl; rounds = lit≤ tt; tags = inr refl; reserve = refl })
+listed_2 = inl (record { version = lit≤ tt; size = inl refl; rounds = lit≤ tt; tags = inr refl; reserve = refl; header = inl refl })
 
 named_2 : IsNamedByItsWord sqlcipher_2
 unfolding profile_named profile_from parts setting_named digits
@@ -100,7 +100,7 @@ named_2 = refl
 
 listed_2_4096 : IsListed sqlcipher_2_at_4096
 unfolding IsListed
-listed_2_4096 = inl (record { version = lit≤ tt; size = inr (inr (inl refl)); rounds = lit≤ tt; tags = inr refl; reserve = refl })
+listed_2_4096 = inl (record { version = lit≤ tt; size = inr (inr (inl refl)); rounds = lit≤ tt; tags = inr refl; reserve = refl; header = inl refl })
 
 named_2_4096 : IsNamedByItsWord sqlcipher_2_at_4096
 unfolding profile_named profile_from parts setting_named digits
@@ -108,7 +108,7 @@ named_2_4096 = refl
 
 listed_1 : IsListed sqlcipher_1
 unfolding IsListed
-listed_1 = inl (record { version = lit≤ tt; size = inl refl; rounds = lit≤ tt; tags = inl refl; reserve = refl })
+listed_1 = inl (record { version = lit≤ tt; size = inl refl; rounds = lit≤ tt; tags = inl refl; reserve = refl; header = inl refl })
 
 named_1 : IsNamedByItsWord sqlcipher_1
 unfolding profile_named profile_from parts setting_named digits
@@ -116,7 +116,7 @@ named_1 = refl
 
 listed_1_4096 : IsListed sqlcipher_1_at_4096
 unfolding IsListed
-listed_1_4096 = inl (record { version = lit≤ tt; size = inr (inr (inl refl)); rounds = lit≤ tt; tags = inl refl; reserve = refl })
+listed_1_4096 = inl (record { version = lit≤ tt; size = inr (inr (inl refl)); rounds = lit≤ tt; tags = inl refl; reserve = refl; header = inl refl })
 
 named_1_4096 : IsNamedByItsWord sqlcipher_1_at_4096
 unfolding profile_named profile_from parts setting_named digits
@@ -124,7 +124,7 @@ named_1_4096 = refl
 
 listed_one_round : IsListed one_round
 unfolding IsListed
-listed_one_round = inl (record { version = lit≤ tt; size = inr (inr (inl refl)); rounds = lit≤ tt; tags = inr refl; reserve = refl })
+listed_one_round = inl (record { version = lit≤ tt; size = inr (inr (inl refl)); rounds = lit≤ tt; tags = inr refl; reserve = refl; header = inl refl })
 
 named_one_round : IsNamedByItsWord one_round
 unfolding profile_named profile_from parts setting_named digits
@@ -132,7 +132,7 @@ named_one_round = refl
 
 listed_short_tags : IsListed short_tags
 unfolding IsListed
-listed_short_tags = inl (record { version = lit≤ tt; size = inr (inr (inl refl)); rounds = lit≤ tt; tags = inr refl; reserve = refl })
+listed_short_tags = inl (record { version = lit≤ tt; size = inr (inr (inl refl)); rounds = lit≤ tt; tags = inr refl; reserve = refl; header = inl refl })
 
 named_short_tags : IsNamedByItsWord short_tags
 unfolding profile_named profile_from parts setting_named digits

@@ -8,21 +8,21 @@ use Rattle.profile_word.specs.Wording.{word_of}
 
 -- version 1, 2 and 3 with pages of 4,096 bytes
 abbrev pub sqlcipher_1_at_4096 : Profile
-sqlcipher_1_at_4096 = record { version = 1; page_size = 4096; reserve = 16; hash = Sha1; kdf = Sha1; rounds = 4000; tag_len = 0; reads_log = false }
+sqlcipher_1_at_4096 = record { version = 1; page_size = 4096; reserve = 16; hash = Sha1; kdf = Sha1; rounds = 4000; tag_len = 0; plain_header = 0; hex_key = false; reads_log = false }
 
 abbrev pub sqlcipher_2_at_4096 : Profile
-sqlcipher_2_at_4096 = record { version = 2; page_size = 4096; reserve = 48; hash = Sha1; kdf = Sha1; rounds = 4000; tag_len = 20; reads_log = false }
+sqlcipher_2_at_4096 = record { version = 2; page_size = 4096; reserve = 48; hash = Sha1; kdf = Sha1; rounds = 4000; tag_len = 20; plain_header = 0; hex_key = false; reads_log = false }
 
 abbrev pub sqlcipher_3_at_4096 : Profile
-sqlcipher_3_at_4096 = record { version = 3; page_size = 4096; reserve = 48; hash = Sha1; kdf = Sha1; rounds = 64000; tag_len = 20; reads_log = false }
+sqlcipher_3_at_4096 = record { version = 3; page_size = 4096; reserve = 48; hash = Sha1; kdf = Sha1; rounds = 64000; tag_len = 20; plain_header = 0; hex_key = false; reads_log = false }
 
 -- `3:4096:rounds=1`, said to be that of Signal on Android
 abbrev pub one_round : Profile
-one_round = record { version = 3; page_size = 4096; reserve = 48; hash = Sha1; kdf = Sha1; rounds = 1; tag_len = 20; reads_log = false }
+one_round = record { version = 3; page_size = 4096; reserve = 48; hash = Sha1; kdf = Sha1; rounds = 1; tag_len = 20; plain_header = 0; hex_key = false; reads_log = false }
 
 -- `4:rounds=4000:hmac=sha1`, said to be that of QQ NT
 abbrev pub short_tags : Profile
-short_tags = record { version = 4; page_size = 4096; reserve = 48; hash = Sha1; kdf = Sha512; rounds = 4000; tag_len = 20; reads_log = false }
+short_tags = record { version = 4; page_size = 4096; reserve = 48; hash = Sha1; kdf = Sha512; rounds = 4000; tag_len = 20; plain_header = 0; hex_key = false; reads_log = false }
 
 -- in the order in which they are tried. Those that stretch a passphrase alike stand one behind another
 abbrev pub probed_profiles : List Profile

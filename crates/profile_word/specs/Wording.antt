@@ -43,13 +43,21 @@ tags_text base profile =
     if profile.tag_len == base.tag_len && same_hash profile.hash base.hash then []
     else (if profile.tag_len == 0 then codes ":hmac=off" else codes ":hmac=" ++ hash_word profile.hash)
 
+-- how much of page 1 stands in the clear, and how the key line has the passphrase
+abbrev pub header_text : Profile → List ℕ
+header_text profile = if profile.plain_header == 0 then [] else codes ":plain-header=" ++ decimal profile.plain_header
+
+abbrev pub key_text : Profile → List ℕ
+key_text profile = if profile.hex_key then codes ":key=hex" else []
+
 abbrev pub log_text : Profile → List ℕ
 log_text profile = if profile.reads_log then codes ":wal" else []
 
 abbrev pub version_text : Profile → List ℕ
 version_text profile =
     let base = version_base profile.version in
-    decimal profile.version ++ (size_text base profile ++ (rounds_text base profile ++ (kdf_text base profile ++ tags_text base profile)))
+    decimal profile.version ++ (size_text base profile ++ (rounds_text base profile ++ (kdf_text base profile
+    ++ (tags_text base profile ++ (header_text profile ++ key_text profile)))))
 
 -- the word of a profile: its version, and what is not as the version has it by itself; of a plain file the size
 abbrev pub word_of : Profile → List ℕ

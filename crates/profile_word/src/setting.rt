@@ -26,6 +26,10 @@ pub enum Setting {
     Kdf(HashKind),
     /// The tags.
     Hmac(Tags),
+    /// How many first bytes of page 1 stand in the clear.
+    PlainHeader(u32),
+    /// The key line has the passphrase in hex.
+    HexKey,
     /// The file is read with its log, and only read.
     Wal,
 }
@@ -38,6 +42,9 @@ pub fn setting_of(part: &[u8]) -> Option<Setting>
     if part == b"wal".as_slice() {
         return Some(Setting::Wal);
     }
+    if part == b"key=hex".as_slice() {
+        return Some(Setting::HexKey);
+    }
     if let Some(value) = value_behind(b"rounds=", part) {
         return Some(Setting::Rounds(number_of_setting(value)?));
     }
@@ -46,6 +53,9 @@ pub fn setting_of(part: &[u8]) -> Option<Setting>
     }
     if let Some(value) = value_behind(b"hmac=", part) {
         return Some(Setting::Hmac(tags_of(value)?));
+    }
+    if let Some(value) = value_behind(b"plain-header=", part) {
+        return Some(Setting::PlainHeader(number_of_setting(value)?));
     }
     Some(Setting::Size(number_of_setting(part)?))
 }

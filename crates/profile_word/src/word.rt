@@ -3,7 +3,7 @@ ghost use Rattle.std.specs.Prelude.{◌≡◌, ◌≤◌, ◌+◌, length, IfSom
 ghost use Rattle.cipher_profile.specs.Hashes.{digest_len};
 ghost use Rattle.cipher_profile.specs.Profile.{IsListed, with_log};
 ghost use Rattle.profile_word.specs.Parts.{parts_from};
-ghost use Rattle.profile_word.specs.Word.{are_rounds, is_size, named_without_log, plain_with, profile_from, profile_named, settings_of, version_named, version_with, with_kdf, with_rounds, with_setting, with_size, with_tags, with_wal};
+ghost use Rattle.profile_word.specs.Word.{are_rounds, is_header, is_size, named_without_log, plain_with, profile_from, profile_named, settings_of, takes_header, version_named, version_with, with_hex_key, with_kdf, with_plain_header, with_rounds, with_setting, with_size, with_tags, with_wal};
 
 use crate::part::part_end;
 use crate::setting::{Setting, Tags, setting_of};
@@ -20,6 +20,10 @@ pub struct Settings {
     pub kdf: Option<HashKind>,
     /// The tags.
     pub tags: Option<Tags>,
+    /// How many first bytes of page 1 stand in the clear.
+    pub plain_header: Option<u32>,
+    /// Whether the key line has the passphrase in hex.
+    pub hex_key: bool,
     /// Whether the file is read with its log, and only read.
     pub reads_log: bool,
 }
@@ -32,6 +36,8 @@ pub(crate) const SQLCIPHER_1: Profile = Profile {
     kdf: HashKind::Sha1,
     rounds: 4_000,
     tag_len: 0,
+    plain_header: 0,
+    hex_key: false,
     reads_log: false,
 };
 
@@ -43,6 +49,8 @@ pub(crate) const SQLCIPHER_2: Profile = Profile {
     kdf: HashKind::Sha1,
     rounds: 4_000,
     tag_len: 20,
+    plain_header: 0,
+    hex_key: false,
     reads_log: false,
 };
 
@@ -54,6 +62,8 @@ pub(crate) const SQLCIPHER_3: Profile = Profile {
     kdf: HashKind::Sha1,
     rounds: 64_000,
     tag_len: 20,
+    plain_header: 0,
+    hex_key: false,
     reads_log: false,
 };
 
@@ -65,6 +75,8 @@ pub(crate) const SQLCIPHER_4: Profile = Profile {
     kdf: HashKind::Sha512,
     rounds: 256_000,
     tag_len: 64,
+    plain_header: 0,
+    hex_key: false,
     reads_log: false,
 };
 
@@ -73,6 +85,8 @@ const NO_SETTINGS: Settings = Settings {
     rounds: None,
     kdf: None,
     tags: None,
+    plain_header: None,
+    hex_key: false,
     reads_log: false,
 };
 
@@ -139,6 +153,8 @@ fn with_setting(settings: &Settings, setting: Setting) -> Option<Settings>
         Setting::Rounds(rounds) => with_rounds(settings, rounds),
         Setting::Kdf(kdf) => with_kdf(settings, kdf),
         Setting::Hmac(tags) => with_tags(settings, tags),
+        Setting::PlainHeader(len) => with_plain_header(settings, len),
+        Setting::HexKey => with_hex_key(settings),
         Setting::Wal => with_wal(settings),
     }
 }
@@ -191,6 +207,30 @@ fn with_tags(settings: &Settings, tags: Tags) -> Option<Settings>
     })
 }
 
+fn with_plain_header(settings: &Settings, len: u32) -> Option<Settings>
+    ensures { result ≡ with_plain_header settings.now len }
+{
+    if settings.plain_header.is_some() {
+        return None;
+    }
+    Some(Settings {
+        plain_header: Some(len),
+        ..*settings
+    })
+}
+
+fn with_hex_key(settings: &Settings) -> Option<Settings>
+    ensures { result ≡ with_hex_key settings.now }
+{
+    if settings.hex_key {
+        return None;
+    }
+    Some(Settings {
+        hex_key: true,
+        ..*settings
+    })
+}
+
 fn with_wal(settings: &Settings) -> Option<Settings>
     ensures { result ≡ with_wal settings.now }
 {
@@ -238,6 +278,9 @@ fn plain_with(settings: &Settings) -> Option<Profile>
     if settings.rounds.is_some() || settings.kdf.is_some() || settings.tags.is_some() {
         return None;
     }
+    if settings.plain_header.is_some() || settings.hex_key {
+        return None;
+    }
     let size = settings.size?;
     if size == 512 || is_size(size) {
         Some(Profile {
@@ -248,6 +291,8 @@ fn plain_with(settings: &Settings) -> Option<Profile>
             kdf: HashKind::Sha1,
             rounds: 1,
             tag_len: 0,
+            plain_header: 0,
+            hex_key: false,
             reads_log: settings.reads_log,
         })
     } else {
@@ -270,6 +315,9 @@ fn version_with(base: &Profile, settings: &Settings) -> Option<Profile>
         Some(Tags::Off) => (base.hash, 0),
         Some(Tags::With(hash)) => (hash, digest_len(hash)),
     };
+    if !takes_header(tag_len, settings.plain_header) {
+        return None;
+    }
     Some(Profile {
         version: base.version,
         page_size,
@@ -278,6 +326,8 @@ fn version_with(base: &Profile, settings: &Settings) -> Option<Profile>
         kdf: settings.kdf.unwrap_or(base.kdf),
         rounds,
         tag_len,
+        plain_header: settings.plain_header.unwrap_or(0),
+        hex_key: settings.hex_key,
         reads_log: settings.reads_log,
     })
 }
@@ -300,6 +350,23 @@ fn are_rounds(rounds: u32) -> bool
     ensures { result ≡ are_rounds rounds }
 {
     rounds >= 1 && rounds <= 2_147_483_647
+}
+
+// Whether a word may give this plain header beside tags of this length.
+fn takes_header(tag_len: u32, plain_header: Option<u32>) -> bool
+    ensures { result ≡ takes_header tag_len plain_header }
+{
+    match plain_header {
+        None => true,
+        Some(len) => tag_len > 0 && is_header(len),
+    }
+}
+
+// Whether a plain header may have this length.
+fn is_header(len: u32) -> bool
+    ensures { result ≡ is_header len }
+{
+    len == 16 || len == 32 || len == 48 || len == 64 || len == 80 || len == 96
 }
 
 // The length of a digest, in bytes.

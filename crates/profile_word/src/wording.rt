@@ -1,6 +1,6 @@
 // The word of a profile, printed.
 ghost use Rattle.std.specs.Prelude.{◌≡◌, ◌≤◌, ◌+◌, ◌++◌, length};
-ghost use Rattle.profile_word.specs.Wording.{hash_word, kdf_text, log_text, rounds_text, same_hash, size_text, tags_text, version_base, version_text, word_of};
+ghost use Rattle.profile_word.specs.Wording.{hash_word, header_text, kdf_text, key_text, log_text, rounds_text, same_hash, size_text, tags_text, version_base, version_text, word_of};
 
 use crate::word::{SQLCIPHER_1, SQLCIPHER_2, SQLCIPHER_3, SQLCIPHER_4};
 use cipher_profile::{HashKind, Profile};
@@ -10,7 +10,7 @@ use text_lines::Text;
 pub fn push_word(text: &mut Text, profile: &Profile)
     requires { length text.old ≤ 800 }
     ensures word { text.new ≡ text.old ++ word_of profile.now }
-    ensures short { length text.new ≤ length text.old + 110 }
+    ensures short { length text.new ≤ length text.old + 138 }
 {
     if profile.version == 0 {
         text.push(b"plain:");
@@ -27,7 +27,7 @@ pub fn push_word(text: &mut Text, profile: &Profile)
 fn push_version(text: &mut Text, profile: &Profile)
     requires { length text.old ≤ 800 }
     ensures word { text.new ≡ text.old ++ version_text profile.now }
-    ensures short { length text.new ≤ length text.old + 106 }
+    ensures short { length text.new ≤ length text.old + 134 }
 {
     let base = version_base(profile.version);
     text.push_number(u64::from(profile.version));
@@ -35,6 +35,8 @@ fn push_version(text: &mut Text, profile: &Profile)
     push_rounds(text, &base, profile);
     push_kdf(text, &base, profile);
     push_tags(text, &base, profile);
+    push_header(text, profile);
+    push_key(text, profile);
 }
 
 fn version_base(version: u8) -> Profile
@@ -94,6 +96,28 @@ fn push_tags(text: &mut Text, base: &Profile, profile: &Profile)
     } else {
         text.push(b":hmac=");
         push_hash(text, profile.hash);
+    }
+}
+
+fn push_header(text: &mut Text, profile: &Profile)
+    requires { length text.old ≤ 892 }
+    ensures word { text.new ≡ text.old ++ header_text profile.now }
+    ensures short { length text.new ≤ length text.old + 34 }
+{
+    if profile.plain_header == 0 {
+        return;
+    }
+    text.push(b":plain-header=");
+    text.push_number(u64::from(profile.plain_header));
+}
+
+fn push_key(text: &mut Text, profile: &Profile)
+    requires { length text.old ≤ 926 }
+    ensures word { text.new ≡ text.old ++ key_text profile.now }
+    ensures short { length text.new ≤ length text.old + 8 }
+{
+    if profile.hex_key {
+        text.push(b":key=hex");
     }
 }
 

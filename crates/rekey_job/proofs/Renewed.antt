@@ -1,11 +1,11 @@
 -- A file that a transaction left whose pages are all sealed under other keys is a rekeyed file.
-use Rattle.std.proofs.Common.{◌≡◌, inl, inr, ℕ, ◌-◌, ◌*◌, ◌≤◌, ◌&&◌, Bool, true, false, IsTrue, List, length, take, drop, replicate, if◌then◌else◌, refl, sym, ap, subst, ◌∙◌, arith, rules, length-take}
+use Rattle.std.proofs.Common.{◌≡◌, inl, inr, ℕ, ◌*◌, ◌≤◌, ◌&&◌, Bool, true, false, IsTrue, List, length, take, drop, replicate, if◌then◌else◌, refl, sym, ap, subst, ◌∙◌, arith, rules, length-take}
 use Rattle.std.proofs.Math.Seq.{drop-append_seam}
 use Rattle.std.proofs.lemmas.List.{take-take}
 use Rattle.edge_model.specs.Files.{Files}
 use Rattle.edge_model.specs.Images.{LeavesOnly}
 use Rattle.btree_model.specs.Plain.{is_leaf, with_zeros}
-use Rattle.cipher_profile.specs.Profile.{is_plain}
+use Rattle.cipher_profile.specs.Profile.{IsLaidOut}
 use Rattle.page_codec.specs.Page.{FileKeys, accepts, opened, salt_of, sealed}
 use Rattle.pager.specs.Base.{base_of}
 use Rattle.pager.specs.Changed.{same_layout}
@@ -42,7 +42,7 @@ IsResealed keys write count old tells drawn file = IsRekeyed keys write count ol
 module _ (keys write : FileKeys) (count : ℕ) (old : List ℕ) (tells : Bool) (before after : List ℕ) (layout : same_layout keys write ≡ true) (some : 1 ≤ count) (room : 100 ≤ keys.profile.page_size)
     (salt : keys.salt ≡ salt_of old) (clean : AreClean (opened_pages keys old count))
     (base : IsBase (base_of keys old count)) (was : (base_of keys old count).counts (length old) ≡ true)
-    (alike : is_plain write.profile ≡ true → is_plain keys.profile ≡ true) where
+    (laid_out : IsLaidOut write.profile × IsLaidOut keys.profile) where
   abbrev plain : ℕ → List ℕ
   plain = (with_zeros (opened_pages keys old count)).page
 
@@ -84,13 +84,13 @@ module _ (keys write : FileKeys) (count : ℕ) (old : List ℕ) (tells : Bool) (
     all_touched is = cc
 
     main_long : count * keys.profile.page_size ≤ length main
-    main_long = whole_main keys write count old (λ n. true) plain tells before after main layout some room long (λ ciphered. new_salt) alike (λ is. first_kept) all_touched has
+    main_long = whole_main keys write count old (λ n. true) plain tells before after main layout some room long (λ hidden. new_salt) laid_out (λ is. first_kept) all_touched has
 
     main_salt : take 16 main ≡ salt_of old
-    main_salt = kept_salt keys write count old (λ n. true) plain tells before after main layout some room long (λ ciphered. new_salt) alike (λ is. first_kept) all_touched has
+    main_salt = kept_salt keys write count old (λ n. true) plain tells before after main layout some room long (λ hidden. new_salt) laid_out (λ is. first_kept) all_touched has
 
     counts_same : (len : ℕ) → count_by write (page_stored write main 1) len ≡ count_by keys (page_stored keys old 1) len
-    counts_same = kept_counts keys write count old (λ n. true) plain tells before after main layout some room long (λ ciphered. new_salt) alike (λ is. first_kept) all_touched has
+    counts_same = kept_counts keys write count old (λ n. true) plain tells before after main layout some room long (λ hidden. new_salt) laid_out (λ is. first_kept) all_touched has
 
     -- a file with its pages, which counts them
     with_pages : (file : List ℕ) → ((n : ℕ) → is_page_number count n ≡ true → page_stored write file n ≡ page_stored write main n) → take 16 file ≡ take 16 main

@@ -8,7 +8,7 @@ use Rattle.edge_model.specs.Images.{Each, LeavesOnly}
 use Rattle.edge_model.specs.Moments.{goes_less, started}
 use Rattle.edge_model.specs.OnlyRead.{OnlyRead}
 use Rattle.cipher_profile.proofs.Layouts.{IsListed-laid_out}
-use Rattle.cipher_profile.specs.Profile.{IsListed, is_plain, usable}
+use Rattle.cipher_profile.specs.Profile.{IsLaidOut, IsListed, is_clear, usable}
 use Rattle.std.proofs.Common.{Result, Ok, Err}
 use Rattle.page_codec.specs.Page.{FileKeys, accepts, magic, opened, salt_of, sealed}
 use Rattle.pager.specs.Changed.{same_layout, with_bytes}
@@ -19,7 +19,7 @@ use Rattle.pager.specs.UnderWay.{HasNewPages}
 use Rattle.pager.proofs.Bases.{some_is}
 use Rattle.pager.proofs.BatchLemmas.{and_true, number_in, number_is}
 use Rattle.pager.proofs.Cutting.{committed_counts, cut_page, cut_pages, one_page}
-use Rattle.pager.proofs.Resealed.{counts_same as kept_counts, main_long as whole_main, main_salt as kept_salt, plain_alike}
+use Rattle.pager.proofs.Resealed.{counts_same as kept_counts, main_long as whole_main, main_salt as kept_salt}
 use Rattle.pager.proofs.TxnLemmas.{layout_same}
 use Rattle.pager.proofs.UnderWayLemmas.{opened_at}
 use Rattle.atomic_commit.specs.Commit.{IsCommitted, LeavesChanged}
@@ -43,9 +43,9 @@ use Rattle.session_hall.proofs.Standing.{alone_old, base_begins, stands_alone}
 
 -- ---- profiles
 
--- the salt of a codec of an encrypted file is that of the file
-ciphered_salt : (access : Access) (file : List ℕ) → is_plain access.profile ≡ false → (codec_of access file).salt ≡ salt_of file
-ciphered_salt access file ciphered = ap (λ (b : Bool). if b then magic else salt_of file) ciphered
+-- the salt of a codec of a file that begins with it is that of the file
+hidden_salt : (access : Access) (file : List ℕ) → is_clear access.profile ≡ false → (codec_of access file).salt ≡ salt_of file
+hidden_salt access file hidden = ap (λ (b : Bool). if b then magic else salt_of file) hidden
 
 -- ---- a session
 
@@ -99,14 +99,14 @@ module _ (x : Session) (file : List ℕ) (listed : IsListed x.access.profile) (w
   first : is_page_number count 1 ≡ true
   first = number_is count 1 (omega arith) some
 
-  alike : is_plain write.profile ≡ true → is_plain keys.profile ≡ true
-  alike = plain_alike keys.profile write.profile listed write_listed size_is
+  laid_out : IsLaidOut write.profile × IsLaidOut keys.profile
+  laid_out = (IsListed-laid_out write.profile write_listed, IsListed-laid_out keys.profile listed)
 
   header : 100 ≤ keys.profile.page_size
   header = omega (arith, large)
 
-  write_salt : is_plain write.profile ≡ false → write.salt ≡ salt_of file
-  write_salt ciphered = ciphered_salt (write_access x) file ciphered
+  write_salt : is_clear write.profile ≡ false → write.salt ≡ salt_of file
+  write_salt hidden = hidden_salt (write_access x) file hidden
 
   -- where page 1 stays as it is, the file keeps its key
   same_codec : is_sealed x 1 ≡ false → write ≡ keys
@@ -174,15 +174,15 @@ module _ (x : Session) (file : List ℕ) (listed : IsListed x.access.profile) (w
 
     -- all pages are there
     main_long : count * keys.profile.page_size ≤ length main
-    main_long = whole_main keys write count file (is_sealed x) plain tells before after main layout some header long write_salt alike (λ is. header_kept) same_codec has
+    main_long = whole_main keys write count file (is_sealed x) plain tells before after main layout some header long write_salt laid_out (λ is. header_kept) same_codec has
 
     -- the first bytes stay
     main_salt : take 16 main ≡ salt_of file
-    main_salt = kept_salt keys write count file (is_sealed x) plain tells before after main layout some header long write_salt alike (λ is. header_kept) same_codec has
+    main_salt = kept_salt keys write count file (is_sealed x) plain tells before after main layout some header long write_salt laid_out (λ is. header_kept) same_codec has
 
     -- a length counts as many pages as before
     counts_same : (len : ℕ) → count_by write (page_stored write main 1) len ≡ count_by keys (page_stored keys file 1) len
-    counts_same = kept_counts keys write count file (is_sealed x) plain tells before after main layout some header long write_salt alike (λ is. header_kept) same_codec has
+    counts_same = kept_counts keys write count file (is_sealed x) plain tells before after main layout some header long write_salt laid_out (λ is. header_kept) same_codec has
 
     -- ---- the new file
 

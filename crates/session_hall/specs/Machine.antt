@@ -18,7 +18,7 @@ use Rattle.std.specs.Bool.{beq}
 use Rattle.std.specs.BTreeMap.{insert_entry}
 use Rattle.std.specs.Ordering.{nat_cmp}
 use Rattle.edge_model.specs.Files.{Files, main_of}
-use Rattle.cipher_profile.specs.Profile.{IsListed, usable}
+use Rattle.cipher_profile.specs.Profile.{IsListed, is_clear, usable}
 use Rattle.cipher_profile.specs.declared.profile.Profile.{Profile}
 use Rattle.page_codec.specs.Page.{FileKeys, accepts, opened, salt_of}
 use Rattle.pager.specs.Database.{count_of}
@@ -52,12 +52,13 @@ state files layout sessions page = record { file = main_of files; layout = layou
 abbrev pub with_session : HallState → ℕ → Session → HallState
 with_session s i session = record s { sessions = slice_set s.sessions i session }
 
--- a profile with pages of the hall's layout, and with its setting
+-- a profile with pages of the hall's layout, the first of which begins alike, with a salt or as it is stored, and with its setting
 abbrev pub is_laid : Profile → Profile → Bool
 is_laid layout profile =
     (profile.page_size == layout.page_size) && (profile.reserve == layout.reserve) && beq profile.reads_log layout.reads_log
+    && beq (is_clear profile) (is_clear layout)
 
--- a session may be under this: a profile of the hall's layout, with a secret exactly where its files are encrypted
+-- a session may be under this: a profile of the hall's layout, with a secret for its files
 abbrev pub may_be_under : Profile → Access → Bool
 may_be_under layout access = is_laid layout access.profile && is_key_for access.profile access.secret
 

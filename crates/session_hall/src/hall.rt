@@ -37,7 +37,7 @@ pub struct Hall<'d, D: Disk, E: Entropy> {
     pub(crate) disk: &'d mut D,
     pub(crate) entropy: &'d mut E,
     pub(crate) alloc: Global,
-    // its page size, reserve and setting are those of every session
+    // its page size, reserve and setting are those of every session, and page 1 begins alike
     pub(crate) layout: Profile,
     pub(crate) sessions: Vec<Session>,
     // the page that was read last
@@ -54,6 +54,7 @@ fn may_be_under(layout: &Profile, profile: &Profile, secret: &Secret) -> bool
     profile.page_size == layout.page_size
         && profile.reserve == layout.reserve
         && profile.reads_log == layout.reads_log
+        && profile.is_clear() == layout.is_clear()
         && is_key_for(profile, secret)
 }
 

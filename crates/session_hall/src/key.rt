@@ -1,7 +1,7 @@
 // What a session opens the file with. Its codec is made once for a salt: to derive the keys of a passphrase takes long, and key schedules
 // for each page add up.
 ghost use Rattle.std.specs.Prelude.{◌≡◌, ◌≤◌, ◌↔◌, length, take, IfSome, IfOk, IsOk, IsTrue, true};
-ghost use Rattle.cipher_profile.specs.Profile.{IsListed, is_plain, usable};
+ghost use Rattle.cipher_profile.specs.Profile.{IsListed, is_clear, usable};
 ghost use Rattle.page_codec.specs.Page.{accepts, keys_with_salt, magic, opened};
 ghost use Rattle.session_hall.specs.Key.{Access, codec_at, is_key_for, salt_in};
 
@@ -9,22 +9,26 @@ use cipher_profile::{Profile, Secret};
 use page_codec::{Codec, MAGIC, TagRefused};
 use std::marker::Model;
 
-/// Whether the secret is one for files of the profile: a plain file has no key, and every other one has one.
+/// Whether the secret is one for files of the profile: a plain file has no key, every other one has one, and the salt comes with it where
+/// the file does not begin with it.
 pub fn is_key_for(profile: &Profile, secret: &Secret) -> bool
     ensures { result ≡ is_key_for profile.now secret.now }
 {
     match secret {
-        Secret::Raw(_) | Secret::Pass(_) => !profile.is_plain(),
+        Secret::Raw(_) | Secret::Pass(_) => !profile.is_clear(),
+        Secret::SaltedRaw(_, _) | Secret::SaltedPass(_, _) => {
+            profile.is_clear() && !profile.is_plain()
+        }
         Secret::NoKey => profile.is_plain(),
     }
 }
 
-// What stands for the salt of a file that begins with these bytes: of a plain file the magic.
+// What stands for the salt of a file that begins with these bytes: the magic, where page 1 begins as it is stored.
 fn salt_in(profile: &Profile, first: [u8; 16]) -> [u8; 16]
     ensures value { result ≡ salt_in profile.now first }
-    ensures plain { is_plain profile.now ≡ true → result ≡ magic }
+    ensures clear { is_clear profile.now ≡ true → result ≡ magic }
 {
-    if profile.is_plain() {
+    if profile.is_clear() {
         return MAGIC;
     }
     first

@@ -13,13 +13,13 @@
 --
 -- One space parts two words. S, N, AT and BYTE are one to ten digits, at most 4,294,967,295: S is below 16, AT is below the usable bytes of
 -- a page of the profile that the script is played for, and BYTE is below 256. P names a profile whose file is not read with its log. KEY is the rest of the line, as a key line
--- has it; a plain profile has no key, and neither KEY nor its space is there.
+-- of P has it; a plain profile has no key, and neither KEY nor its space is there.
 use Rattle.std.specs.Prelude.{ℕ, zero, suc, ◌+◌, ◌==◌, nat_lt, Bool, List, [], ◌∷◌, take, drop, Option, Some, None, Result, Ok, Err, codes, if◌then◌else◌}
 use Rattle.std.specs.List.{onto_first, position}
 use Rattle.std.specs.Option.{option_map, option_and_then}
 use Rattle.std.specs.Str.{bytes_eq}
 use Rattle.cipher_profile.specs.KeyLine.{key_line}
-use Rattle.cipher_profile.specs.Profile.{is_plain, usable}
+use Rattle.cipher_profile.specs.Profile.{form_of, is_plain, usable}
 use Rattle.profile_word.specs.Word.{named_without_log}
 use Rattle.cipher_profile.specs.declared.key_line.KeyError.{KeyError}
 use Rattle.cipher_profile.specs.declared.keys.Secret.{Secret}
@@ -89,9 +89,10 @@ secret_in (Err error) = None
 abbrev pub plain_form : List ℕ → Profile → Option Step
 plain_form name profile = if is_plain profile then secret_step name NoKey profile else None
 
--- and of another
+-- and of another, whose key line has the form of its profile
 abbrev pub key_form : List ℕ → List ℕ → Profile → Option Step
-key_form name key profile = if is_plain profile then None else option_and_then (λ secret. secret_step name secret profile) (secret_in (key_line key))
+key_form name key profile =
+    option_and_then (λ form. option_and_then (λ secret. secret_step name secret profile) (secret_in (key_line form key))) (form_of profile)
 
 abbrev pub read_form : Profile → ℕ → List ℕ → List ℕ → Option ScriptStep
 read_form layout session number at =

@@ -9,7 +9,7 @@ ghost use Rattle.session_hall.specs.Machine.{IsListedStep};
 ghost use Rattle.session_play.specs.Script.{change_form, step_form, is_space, key_form, secret_step, lock_step, number_below, plain_form, read_form, secret_in, session_named, step_by, step_of, line_words};
 
 use crate::rest::Rest;
-use cipher_profile::{Profile, Secret, read_key};
+use cipher_profile::{LineForm, Profile, Secret, read_key};
 use profile_word::profile_without_log;
 use session_hall::Step;
 use text_lines::number_of;
@@ -188,16 +188,14 @@ fn plain_form(name: &[u8], profile: Profile) -> Option<Step>
     key_step(name, Secret::NoKey, profile)
 }
 
-// `open` and `rekey` of another profile, with the key that this text is as a key line.
+// `open` and `rekey` of another profile, with the key that this text is as a key line of its form.
 fn key_form(name: &[u8], key: &[u8], profile: Profile) -> Option<Step>
     requires { IsListed profile }
     ensures value { result ≡ key_form name.now key.now profile }
     ensures listed { IfSome result IsListedStep }
 {
-    if profile.is_plain() {
-        return None;
-    }
-    let secret = secret_in(key)?;
+    let form = profile.line_form()?;
+    let secret = secret_in(form, key)?;
     key_step(name, secret, profile)
 }
 
@@ -260,11 +258,11 @@ fn session_of(word: &[u8]) -> Option<u8>
     Some(session as u8)
 }
 
-// The secret that a text is as a key line.
-fn secret_in(key: &[u8]) -> Option<Secret>
-    ensures { result ≡ secret_in (key_line key.now) }
+// The secret that a text is as a key line of this form.
+fn secret_in(form: LineForm, key: &[u8]) -> Option<Secret>
+    ensures { result ≡ secret_in (key_line form key.now) }
 {
-    match read_key(&mut Rest::new(key)) {
+    match read_key(form, &mut Rest::new(key)) {
         Ok(secret) => Some(secret),
         Err(_) => None,
     }

@@ -8,7 +8,7 @@ use std::process::Abort;
 use std::test::Fail;
 
 // Lines that are a step.
-const STEPS: [&[u8]; 22] = [
+const STEPS: [&[u8]; 24] = [
     b"open 0 4 secret",
     b"open 15 4:1024 two words",
     b"open 0 1  a space first",
@@ -31,10 +31,12 @@ const STEPS: [&[u8]; 22] = [
     b"share 10",
     b"open 1 2 x'0'",
     b"open 1 2 'x",
+    b"open 2 4:key=hex 00fF",
+    b"rekey 2 4:plain-header=32:key=hex 00fF,000102030405060708090a0b0c0d0e0f",
 ];
 
 // Lines that are none.
-const NO_STEPS: [&[u8]; 40] = [
+const NO_STEPS: [&[u8]; 45] = [
     b"",
     b" ",
     b"stop ",
@@ -75,6 +77,11 @@ const NO_STEPS: [&[u8]; 40] = [
     b"rekey 0",
     b"reopen 0 4 secret",
     b"commit 0 4 secret",
+    b"open 2 4:key=hex 00f",
+    b"open 2 4:key=hex 00fF,000102030405060708090a0b0c0d0e0f",
+    b"open 2 4:plain-header=32 secret",
+    b"open 2 4:plain-header=32:key=hex 00fF",
+    b"open 2 4:plain-header=32:key=hex 00fF,0001020304050607",
 ];
 
 fn version_4(rt: &impl Abort) -> Profile
@@ -98,14 +105,20 @@ fn each_form_is_a_step(rt: HostRuntime) -> Result<(), Fail> {
     Ok(())
 }
 
-// A key line of a raw key and a salt opens no file, and one of 1,025 bytes is too long.
+// A key line of a raw key and a salt is for a file that does not hold its salt, and one of 1,025 bytes is too long.
 #[test]
 fn a_key_is_a_key_line(rt: HostRuntime) -> Result<(), Fail> {
     let alloc = rt.alloc();
     let layout = version_4(&rt);
-    for (digits, is_key) in [(64usize, true), (96, false)] {
+    let keys: [(&[u8], usize, bool); 4] = [
+        (b"open 0 4 x'", 64, true),
+        (b"open 0 4 x'", 96, false),
+        (b"open 0 4:plain-header=32 x'", 64, false),
+        (b"open 0 4:plain-header=32 x'", 96, true),
+    ];
+    for (words, digits, is_key) in keys {
         let mut line = Vec::new(alloc);
-        line.extend_from_slice(b"open 0 4 x'")?;
+        line.extend_from_slice(words)?;
         line.resize(line.len().saturating_add(digits), b'7')?;
         line.push(b'\'')?;
         assert_eq!(rt; step_of(&layout, line.as_slice()).is_some(), is_key);

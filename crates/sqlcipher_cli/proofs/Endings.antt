@@ -1,6 +1,6 @@
 -- How a text and a command end.
 use Rattle.std.proofs.Common.{◌≡◌, ◌⊎◌, ⊎_elim, inl, inr, ℕ, ◌≤◌, ◌||◌, Bool, true, false, List, [], ◌∷◌, drop, Option, Some, None, if◌then◌else◌, refl, sym, ap, subst, ◌∙◌, arith}
-use Rattle.std.specs.Prelude.{is_some, not}
+use Rattle.std.specs.Prelude.{is_some, nat_lt, not}
 use Rattle.std.specs.Borrow.{Bor}
 use Rattle.cipher_profile.specs.Profile.{is_plain}
 use Rattle.cipher_profile.specs.declared.profile.Profile.{Profile}
@@ -174,7 +174,7 @@ ends_settle words profile status asked no_usage input entropy = record {
         no_profile profile (sym (ap (λ (o : Option Refusal). if is_some o then None else settled_profile command) is) ∙ (sym (ap settled_by formed) ∙ asked))
 
     takes : OfSettle (form words) profile → is_plain profile ≡ false → TakesInput words
-    takes of keyed = inl (ChangeFile profile (Settle of.frames), of.formed, ap (λ (plain : Bool). asks_some (not plain ∷ false ∷ [])) keyed)
+    takes of keyed = inl (ChangeFile profile (Settle of.frames), of.formed, ap (λ (plain : Bool). asks_some ((if plain then None else Some (record { hex = profile.hex_key; salted = nat_lt 0 profile.plain_header })) ∷ None ∷ [])) keyed)
 
     draws_some : OfSettle (form words) profile → is_plain profile ≡ false → DrawsBytes words
     draws_some of keyed = inl (ChangeFile profile (Settle of.frames), of.formed, ap not keyed)

@@ -52,7 +52,8 @@ commands
                   the stamped one
   rekey PROFILE PROFILE
                   seal every page under another key, of a profile whose pages have
-                  the same size and reserve (other rounds, or 2 and 3); prints
+                  the same size and reserve (other rounds, or 2 and 3), both with a
+                  plain header or neither; prints
                   `rekeyed: N pages`. A stop at any moment leaves the file under
                   the old key or under the new one
   migrate PROFILE PROFILE
@@ -111,6 +112,10 @@ profiles
     :rounds=N     rounds of PBKDF2 for a passphrase, 1 to 2147483647
     :kdf=HASH     the hash of PBKDF2: sha1, sha256 or sha512
     :hmac=HASH    the hash of the tags; :hmac=off where pages have none
+    :plain-header=N
+                  the first N bytes are in the clear, 16 to 96 in steps of 16, and
+                  hold no salt, so the key line has it. No tag covers them
+    :key=hex      the key line is the passphrase in hex digits
                   Under other settings than the file's the key is refused. `probe`
                   tries 4 with each size, 3, 2 and 1 with their own size and 4096,
                   3:4096:rounds=1 and 4:rounds=4000:hmac=sha1, and no others. To a
@@ -125,8 +130,10 @@ profiles
 
 standard input: a line for each version in the words, its key, the old one first;
 one for `probe`; none for `recover` and none for plain:SIZE; for `play` its script
-  x'HEX'          a raw key, 64 hex digits
+  x'HEX'          a raw key, 64 hex digits; with :plain-header=N 96, the salt last
   anything else   a passphrase, 1 to 1,024 bytes up to the line feed
+  with :key=hex   a passphrase in hex digits, at most 512 bytes; with
+                  :plain-header=N a comma and the salt's 32 digits behind it
 `rekey`, `migrate` and `make` say which of the two the new key was taken as, and
 look whether the input goes on after it
 sqlcipher-tool-ask takes the same words and asks for the keys unseen, a new one twice;

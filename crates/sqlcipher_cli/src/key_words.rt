@@ -1,6 +1,7 @@
 // What is said of key lines: which is asked for, what one may have been meant as, why a key was refused. No byte of a key is printed.
 use crate::advice::Ended;
 use crate::plain::{self, OLD_ROWS, decrypts, encrypts, is_plain_word};
+use cipher_profile::LineForm;
 use edge_files::{Folder, InputSource, KeyLine, Prompt, say};
 use profile_word::profile_of;
 
@@ -54,6 +55,10 @@ const SAME_KEY: &str =
 
 const VERSION_1: &str = "version 1 has no tags: a page that is changed later is not noticed";
 
+const PLAIN_HEADER: &str =
+    "the key, its salt or a setting is not the file's, or the file does not begin with `SQLite format 3`: then its first bytes are not in the \
+    clear, or they are damaged. The README's section \"When the key is refused\" lists what else it may be";
+
 const NO_TAGS: &str =
     "under hmac=off pages have no tags: a page that is changed later is not noticed";
 
@@ -85,6 +90,19 @@ pub fn missing_key(words: &[&str]) -> &'static str {
         ["migrate", ..] if decrypts(words) => OLD_KEY_MISSING,
         ["rekey" | "migrate", ..] => TWO_KEYS_MISSING,
         _ => KEY_MISSING,
+    }
+}
+
+// The form of the key line of a word's files.
+fn form_of(word: &str) -> Option<LineForm> {
+    profile_of(word)?.line_form()
+}
+
+// What is said of a line as it was taken under this word: in hex, or with its salt, it has one form alone.
+fn remark_under(word: &str, line: &KeyLine) -> Option<&'static str> {
+    match form_of(word) {
+        Some(form) if form.hex || form.salted => None,
+        _ => remark_on(line),
     }
 }
 
@@ -125,9 +143,9 @@ fn remark_on_blanks(line: &KeyLine) -> Option<&'static str> {
 /// file to nobody who does not know that.
 pub fn explain_new_key(rt: &HostRuntime, words: &[&str], input: &InputSource) {
     match words {
-        ["rekey", ..] => {
-            explain_line(rt, &input.second);
-            if input.line.is_same_key(&input.second) {
+        ["rekey", old, new] => {
+            explain_line(rt, new, &input.second);
+            if is_same_profile(old, new) && input.line.is_same_key(&input.second) {
                 say(rt, SAME_KEY);
             }
         }
@@ -138,7 +156,7 @@ pub fn explain_new_key(rt: &HostRuntime, words: &[&str], input: &InputSource) {
             } else {
                 &input.second
             };
-            explain_line(rt, line);
+            explain_line(rt, new, line);
             if encrypts(words) {
                 say(rt, OLD_ROWS);
             }
@@ -146,7 +164,7 @@ pub fn explain_new_key(rt: &HostRuntime, words: &[&str], input: &InputSource) {
                 say(rt, words);
             }
         }
-        ["make", new, ..] if !is_plain_word(new) => explain_line(rt, &input.line),
+        ["make", new, ..] if !is_plain_word(new) => explain_line(rt, new, &input.line),
         _ => return,
     }
     if input.goes_on() {
@@ -154,6 +172,14 @@ pub fn explain_new_key(rt: &HostRuntime, words: &[&str], input: &InputSource) {
             rt,
             "the input goes on after the last key line; what follows was not taken",
         );
+    }
+}
+
+// Whether both words are of files of one profile: under another one the same line may be another key.
+fn is_same_profile(old: &str, new: &str) -> bool {
+    match (profile_of(old), profile_of(new)) {
+        (Some(one), Some(other)) => one == other,
+        _ => false,
     }
 }
 
@@ -166,14 +192,20 @@ fn untagged(word: &str) -> Option<&'static str> {
     }
 }
 
-fn explain_line(rt: &HostRuntime, line: &KeyLine) {
-    let kind = if line.is_raw() {
-        "a raw key"
-    } else {
-        "a passphrase"
+fn explain_line(rt: &HostRuntime, version: &str, line: &KeyLine) {
+    let (is_hex, is_salted) = match form_of(version) {
+        Some(form) => (form.hex, form.salted),
+        None => (false, false),
+    };
+    let kind = match (is_hex, is_salted) {
+        (true, true) => "a passphrase in hex digits, with its salt",
+        (true, false) => "a passphrase in hex digits",
+        (false, true) => "a raw key with its salt",
+        (false, false) if line.is_raw() => "a raw key",
+        (false, false) => "a passphrase",
     };
     say(rt, format_args!("the new key was taken as {kind}"));
-    if let Some(words) = remark_on(line) {
+    if let Some(words) = remark_under(version, line) {
         say(rt, format_args!("of the new key: {words}"));
     }
 }
@@ -182,9 +214,11 @@ fn explain_line(rt: &HostRuntime, line: &KeyLine) {
 pub fn explain_key(rt: &HostRuntime, run: &Ended, input: &InputSource, folder: &mut Folder) {
     if is_plain_word(run.version()) {
         say(rt, plain::NO_MAGIC);
+    } else if has_plain_header(run.version()) {
+        say(rt, PLAIN_HEADER);
     } else if let Some(head) = folder.plain_head() {
         plain::explain_unencrypted(rt, run.version(), head);
-    } else if let Some(words) = remark_on(&input.line) {
+    } else if let Some(words) = remark_under(run.version(), &input.line) {
         say(rt, words);
     } else if run.words.first() == Some(&"probe") {
         say(
@@ -213,11 +247,29 @@ pub fn explain_key(rt: &HostRuntime, run: &Ended, input: &InputSource, folder: &
         say(
             rt,
             format_args!(
-                "the key does not fit under version {version}: `probe` finds the version and the size of its pages.{order} The README's \
-                section \"When the key is refused\" lists what else it may be. Where the first page is damaged, `salvage {version}` opens the \
-                others"
+                "the key does not fit under version {version}: {}.{order} The README's section \"When the key is refused\" lists what else it \
+                may be. Where the first page is damaged, `salvage {version}` opens the others",
+                whose_settings(version)
             ),
         );
+    }
+}
+
+// Who tells the settings of a file: `probe` finds none but those that it tries.
+fn whose_settings(version: &str) -> &'static str {
+    if version.contains(':') {
+        "its settings are those that the program that wrote it gives to the product; without them `probe` finds the version and the size of its \
+        pages"
+    } else {
+        "`probe` finds the version and the size of its pages"
+    }
+}
+
+// Whether a word names files whose first bytes are in the clear.
+fn has_plain_header(word: &str) -> bool {
+    match profile_of(word) {
+        Some(profile) => profile.plain_header > 0,
+        None => false,
     }
 }
 

@@ -206,7 +206,7 @@ fn serve_with_log<'a>(
             let salt = salt_of(&mut view);
             let mut disk = view.into_disk();
             let signs = LogSigns {
-                has_other_salt: !profile.is_plain() && differ(salt_of(&mut disk), salt),
+                has_other_salt: !profile.is_clear() && differ(salt_of(&mut disk), salt),
                 was_dead: false,
                 unlaid: 0,
                 was_cut: false,

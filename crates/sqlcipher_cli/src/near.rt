@@ -2,10 +2,10 @@
 ghost use Rattle.std.specs.Prelude.{IsTrue};
 ghost use Rattle.sqlcipher_tool.specs.Opening.{AreRecovered};
 
-use crate::plain::is_plain_word;
 use cipher_profile::{Secret, read_key};
 use edge_files::{DeviceEntropy, KeptLine, KeyLine, Shown, say};
 use edge_model::Disk;
+use profile_word::profile_of;
 use schema_names::{NearName, SchemaKind};
 use sqlcipher_tool::{Refusal, Status, near_names};
 use std::str;
@@ -30,10 +30,9 @@ pub fn names_near<D: Disk>(
         return None;
     }
     let version = words.get(1).copied().unwrap_or("");
-    let secret = if is_plain_word(version) {
-        Secret::NoKey
-    } else {
-        read_key(&mut KeptLine::new(line)).ok()?
+    let secret = match profile_of(version)?.line_form() {
+        Some(form) => read_key(form, &mut KeptLine::new(line)).ok()?,
+        None => Secret::NoKey,
     };
     near_names(rt.alloc(), words, &secret, entropy, disk).ok()
 }

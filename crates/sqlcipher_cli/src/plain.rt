@@ -40,8 +40,9 @@ pub const VACUUM: &str =
 pub const NO_TAGS: &str = "a plain file has no tags: `verify` checks its structure";
 
 const RESERVED: &str =
-    "where SQLite wrote it, `sqlite3 FILE .dump | sqlite3 NEW` gives a file without them (VACUUM keeps them, and the user version has to be \
-    set anew); where SQLCipher wrote it with its first bytes in the clear (`cipher_plaintext_header_size`), it is not served";
+    "where SQLCipher wrote it with its first bytes in the clear (`cipher_plaintext_header_size`), give 4:plain-header=32, and the key with its \
+    salt, x' and 96 hex digits and '; where SQLite wrote it, `sqlite3 FILE .dump | sqlite3 NEW` gives a file without them (VACUUM keeps them, \
+    and the user version has to be set anew)";
 
 /// Whether a word names plain files.
 pub fn is_plain_word(word: &str) -> bool
@@ -121,7 +122,8 @@ pub fn explain_unencrypted(rt: &HostRuntime, word: &str, head: PlainHead) {
         None => say(
             rt,
             format_args!(
-                "{begins}: it is not encrypted, but its header names no size of pages that SQLite has"
+                "{begins}, but names no size of pages that SQLite has: it is damaged, or SQLCipher wrote it with its first 16 bytes alone in the \
+                clear: then give 4:plain-header=16, and the key with its salt"
             ),
         ),
     }
@@ -133,7 +135,8 @@ pub fn explain_header(rt: &HostRuntime, word: &str, offset: u32, found: u32) {
         (16, Some(profile)) => explain_size(rt, word, profile.page_size),
         (16, None) => say(
             rt,
-            "its header names no size of pages that SQLite has: the file is damaged",
+            "its header names no size of pages that SQLite has: the file is damaged, or SQLCipher wrote it with its first 16 bytes alone in the \
+             clear: then give 4:plain-header=16, and the key with its salt",
         ),
         (20, _) => say(
             rt,

@@ -23,10 +23,19 @@ const KEY_EMPTY: &str = "a key line is empty";
 const KEY_TOO_LONG: &str = "a key line has at most 1,024 bytes";
 
 const KEY_WITH_SALT: &str =
-    "the key line has a raw key and 32 digits of salt; the file begins with its salt, so give the first 64 digits alone, as x'..'";
+    "the key line has a raw key and 32 digits of salt; the file begins with its salt, so give the first 64 digits alone, as x'..'; where its first \
+    bytes are in the clear, as under :plain-header=32, it does not, and the line is right";
+
+const KEY_WITHOUT_SALT: &str =
+    "a file whose first bytes are in the clear does not hold its salt: the key line is x' and 96 hex digits and ', the raw key and the salt \
+    behind it, or under :key=hex the passphrase in hex digits, a comma and the salt in 32 of them";
+
+const KEY_NOT_HEX: &str =
+    "under :key=hex the key line is the passphrase in hex digits, two a byte, and nothing else: 616263 is abc; with :plain-header=N a comma \
+    and the salt's 32 digits come behind it";
 
 const LAYOUT_DIFFERS: &str =
-    "the pages of these two versions differ: `migrate` writes the database anew";
+    "the pages of these two versions differ, or the file holds its salt under one of them alone: `migrate` writes the database anew";
 
 const FILE_THERE: &str = "there is such a file already: `make` takes a new name";
 
@@ -95,6 +104,8 @@ fn explain_briefly(rt: &HostRuntime, asked: &[&str], refusal: Refusal, is_played
         Refusal::KeyEmpty => KEY_EMPTY,
         Refusal::KeyTooLong => KEY_TOO_LONG,
         Refusal::KeyForm => KEY_WITH_SALT,
+        Refusal::KeyUnsalted => KEY_WITHOUT_SALT,
+        Refusal::KeyNotHex => KEY_NOT_HEX,
         Refusal::FileThere => FILE_THERE,
         Refusal::JournalThere => JOURNAL_THERE,
         Refusal::SuperJournal => SUPER_JOURNAL,

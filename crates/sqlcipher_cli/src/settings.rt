@@ -23,10 +23,14 @@ const HMAC: &str = "hmac=sha1, hmac=sha256, hmac=sha512 or hmac=off";
 const WAL: &str =
     "a file is read with its log under the setting `wal`, as 4:wal, 3:wal, 4:8192:wal or plain:4096:wal";
 
-const HEADER: &str = "a file whose first bytes are in the clear is served under no word";
+const HEADER: &str =
+    "plain-header=16, 32, 48, 64, 80 or 96, for pages with tags: version 1 and hmac=off have none";
+
+const KEY: &str = "key=hex, where the key line is the passphrase in hex digits";
 
 const SETTINGS: &str =
-    "a setting is the size of a page, rounds=N, kdf=HASH, hmac=HASH, hmac=off or wal, where HASH is sha1, sha256 or sha512";
+    "a setting is the size of a page, rounds=N, kdf=HASH, hmac=HASH, hmac=off, plain-header=N, key=hex or wal, where HASH is sha1, sha256 or \
+    sha512";
 
 const TWICE: &str = "it is given twice";
 
@@ -53,7 +57,10 @@ impl<'w> Display for Pragmas<'w> {
                     "PRAGMA cipher_hmac_algorithm = HMAC_{}; ",
                     name_of(hash)
                 )?,
-                Some(Setting::Wal) | None => {}
+                Some(Setting::PlainHeader(bytes)) => {
+                    write!(f, "PRAGMA cipher_plaintext_header_size = {bytes}; ")?
+                }
+                Some(Setting::HexKey | Setting::Wal) | None => {}
             }
         }
         Ok(())
@@ -123,7 +130,7 @@ fn means_log(text: &str) -> bool {
 
 // The first part that is not taken, and what it may be.
 fn first_refused(settings: &str, is_plain: bool) -> Option<(&str, &'static str)> {
-    let mut given = [false; 5];
+    let mut given = [false; 7];
     for part in settings.split(':') {
         let Some(setting) = setting_of(part.as_bytes()) else {
             return Some((part, allowed(part, is_plain)));
@@ -137,19 +144,27 @@ fn first_refused(settings: &str, is_plain: bool) -> Option<(&str, &'static str)>
         }
         given[place] = true;
     }
+    // Each part is taken by itself: there are no tags.
+    for part in settings.split(':') {
+        if part.starts_with("plain-header") {
+            return Some((part, HEADER));
+        }
+    }
     None
 }
 
 // Each name has a place.
 fn place_of(setting: Setting) -> usize
-    ensures { result < 5 }
+    ensures { result < 7 }
 {
     match setting {
         Setting::Size(_) => 0,
         Setting::Rounds(_) => 1,
         Setting::Kdf(_) => 2,
         Setting::Hmac(_) => 3,
-        Setting::Wal => 4,
+        Setting::PlainHeader(_) => 4,
+        Setting::HexKey => 5,
+        Setting::Wal => 6,
     }
 }
 
@@ -162,6 +177,7 @@ fn refused(setting: Setting, is_plain: bool) -> Option<&'static str> {
         Setting::Wal => None,
         _ if is_plain => Some(PLAIN_ALONE),
         Setting::Rounds(rounds) if rounds == 0 || rounds > 2_147_483_647 => Some(ROUNDS),
+        Setting::PlainHeader(bytes) if bytes == 0 || bytes > 96 || bytes % 16 != 0 => Some(HEADER),
         _ => None,
     }
 }
@@ -180,6 +196,8 @@ fn allowed(part: &str, is_plain: bool) -> &'static str {
         HMAC
     } else if part.starts_with("plain-header") {
         HEADER
+    } else if part.starts_with("key") {
+        KEY
     } else if means_log(part) {
         WAL
     } else if is_plain {

@@ -142,7 +142,7 @@ fn check_pair<'a>(
             let checked = check_to_settle(alloc, profile, secrets, out, &mut view);
             let seen = seen_salt(&checked, &mut view);
             let mut disk = view.into_disk();
-            let has_other_salt = !profile.is_plain() && differ(salt_of(&mut disk), seen);
+            let has_other_salt = !profile.is_clear() && differ(salt_of(&mut disk), seen);
             let taken = match checked {
                 Ok(salt) => refuse_other_log(profile, secrets, &salt, out, &mut disk),
                 Err(status) => Err(status),

@@ -1,5 +1,5 @@
 -- What a command answers, and which databases it keeps.
-use Rattle.std.proofs.Common.{◌≡◌, ◌≢◌, ◌⊎◌, ⊎_elim, inl, inr, ℕ, suc, Bool, IsTrue, List, [], ◌∷◌, length, ◌<◌, ◌*◌, Result, Ok, Err, refl, sym, ap, ◌∙◌, subst, arith}
+use Rattle.std.proofs.Common.{◌≡◌, ◌≢◌, ◌⊎◌, ⊎_elim, inl, inr, ℕ, suc, Bool, IsTrue, List, [], ◌∷◌, length, ◌<◌, ◌*◌, Option, Result, Ok, Err, refl, sym, ap, ◌∙◌, subst, arith}
 use Rattle.std.specs.List.{Contains}
 use Rattle.std.specs.Prelude.{IsErr}
 use Rattle.edge_model.specs.Files.{Files, main_of}
@@ -7,7 +7,8 @@ use Rattle.edge_model.specs.Images.{Each, From}
 use Rattle.rollback_journal.specs.Recovery.{Recovers, KeepsRecovered}
 use Rattle.cipher_profile.specs.declared.key_line.KeyError.{KeyError}
 use Rattle.cipher_profile.specs.declared.keys.Secret.{Secret}
-use Rattle.cipher_profile.specs.declared.key_line.KeyError.TheVariants.{KeyMissing, KeyEmpty, KeyTooLong, KeyForm, SourceFault}
+use Rattle.cipher_profile.specs.declared.profile.LineForm.{LineForm}
+use Rattle.cipher_profile.specs.declared.key_line.KeyError.TheVariants.{KeyMissing, KeyEmpty, KeyTooLong, KeyForm, KeyUnsalted, KeyNotHex, SourceFault}
 use Rattle.cipher_profile.specs.KeyCauses.{UnlessFault}
 use Rattle.text_lines.specs.Text.{PutsPart}
 use Rattle.sqlcipher_tool.specs.Answer.{Answer, IsAnswer, IsAnswered, IsFault, IsKeyStatus, Puts}
@@ -115,7 +116,7 @@ rest_same : (one other : Secret) (xs ys : List Secret) → keys_ok (one ∷ xs) 
 rest_same one other xs ys is = cc
 
 -- as many secrets are given as are asked for
-pub lines_many : (asked : List Bool) (left : List ℕ) (secrets : List Secret) → key_lines asked left ≡ Ok secrets → length secrets ≡ length asked
+pub lines_many : (asked : List (Option LineForm)) (left : List ℕ) (secrets : List Secret) → key_lines asked left ≡ Ok secrets → length secrets ≡ length asked
 lines_many [] left secrets is = by_list secrets is
   where
     by_list : (secrets : List Secret) → key_lines [] left ≡ Ok secrets → length secrets ≡ 0
@@ -159,14 +160,14 @@ first_due [] some = absurd (omega (arith, some))
 first_due (answer ∷ rest) some = (answer, (0, omega arith, refl))
 
 -- where the input failed, nothing is printed
-pub unread_one : (command : Command) (asked : List Bool) (left : List ℕ) (files last : Files) (tells : Bool) (before : List ℕ) → asked ≡ asked_keys command
+pub unread_one : (command : Command) (asked : List (Option LineForm)) (left : List ℕ) (files last : Files) (tells : Bool) (before : List ℕ) → asked ≡ asked_keys command
     → AnswersOne (keyed_answers command (key_lines asked left) files last) InputFault tells before before
 unread_one command asked left files last tells before is =
     let due = first_due (keyed_answers command (key_lines asked left) files last) (lines_due command (key_lines asked left) files last (λ secrets gave. lines_many asked left secrets gave ∙ ap length is)) in
     record { answer = due.0; is_due = due.1; answered = inr tt; puts = λ printed. no_part due.0.begun before before refl }
 
 -- a key line gave no secret, or the input failed
-pub key_one : (command : Command) (asked : List Bool) (left : List ℕ) (files last : Files) (error : KeyError) (status : Status) (tells : Bool) (before after : List ℕ) → asked ≡ asked_keys command
+pub key_one : (command : Command) (asked : List (Option LineForm)) (left : List ℕ) (files last : Files) (error : KeyError) (status : Status) (tells : Bool) (before after : List ℕ) → asked ≡ asked_keys command
     → (error ≢ SourceFault → key_lines asked left ≡ Err error)
     → (error ≢ SourceFault → (status ≡ (key_answer error).status) ⊎ (status ≡ OutputFault))
     → (error ≢ SourceFault → IsTrue tells → Puts status (key_answer error).text before after)
@@ -185,13 +186,15 @@ key_one command asked left files last error status tells before after many is an
     by_error KeyEmpty is answered text failed = let other : KeyEmpty ≢ SourceFault = λ e. cc in refused_one KeyEmpty tt (is other) (answered other) (text other)
     by_error KeyTooLong is answered text failed = let other : KeyTooLong ≢ SourceFault = λ e. cc in refused_one KeyTooLong tt (is other) (answered other) (text other)
     by_error KeyForm is answered text failed = let other : KeyForm ≢ SourceFault = λ e. cc in refused_one KeyForm tt (is other) (answered other) (text other)
+    by_error KeyUnsalted is answered text failed = let other : KeyUnsalted ≢ SourceFault = λ e. cc in refused_one KeyUnsalted tt (is other) (answered other) (text other)
+    by_error KeyNotHex is answered text failed = let other : KeyNotHex ≢ SourceFault = λ e. cc in refused_one KeyNotHex tt (is other) (answered other) (text other)
     by_error SourceFault is answered text failed =
         let both = failed refl in
         subst (λ (s : Status). AnswersOne (keyed_answers command (key_lines asked left) files last) s tells before after) (sym both.0)
         (subst (λ (l : List ℕ). AnswersOne (keyed_answers command (key_lines asked left) files last) InputFault tells before l) (sym both.1) (unread_one command asked left files last tells before many))
 
 -- so the answer came early
-pub key_early : (error : KeyError) (asked : List Bool) (left : List ℕ) (status : Status) → (error ≢ SourceFault → key_lines asked left ≡ Err error)
+pub key_early : (error : KeyError) (asked : List (Option LineForm)) (left : List ℕ) (status : Status) → (error ≢ SourceFault → key_lines asked left ≡ Err error)
     → (error ≢ SourceFault → (status ≡ (key_answer error).status) ⊎ (status ≡ OutputFault)) → (error ≡ SourceFault → status ≡ InputFault)
     → (other : KeyError) → key_lines asked left ≡ Err other → IsAnsweredEarly status (key_answer other)
 key_early error asked left status is answered failed other other_is = by_error error is answered failed
@@ -211,10 +214,12 @@ key_early error asked left status is answered failed other other_is = by_error e
     by_error KeyEmpty is answered failed = let no : KeyEmpty ≢ SourceFault = λ e. cc in refused_one KeyEmpty (is no) (answered no)
     by_error KeyTooLong is answered failed = let no : KeyTooLong ≢ SourceFault = λ e. cc in refused_one KeyTooLong (is no) (answered no)
     by_error KeyForm is answered failed = let no : KeyForm ≢ SourceFault = λ e. cc in refused_one KeyForm (is no) (answered no)
+    by_error KeyUnsalted is answered failed = let no : KeyUnsalted ≢ SourceFault = λ e. cc in refused_one KeyUnsalted (is no) (answered no)
+    by_error KeyNotHex is answered failed = let no : KeyNotHex ≢ SourceFault = λ e. cc in refused_one KeyNotHex (is no) (answered no)
     by_error SourceFault is answered failed = inr (inr (failed refl))
 
 -- and no line more was taken
-pub takes_key : (error : KeyError) (asked : List Bool) (status : Status) (before after : List ℕ) → IsKeyStatus status → (error ≡ SourceFault → status ≡ InputFault)
+pub takes_key : (error : KeyError) (asked : List (Option LineForm)) (status : Status) (before after : List ℕ) → IsKeyStatus status → (error ≡ SourceFault → status ≡ InputFault)
     → (error ≢ SourceFault → after ≡ after_lines asked before) → TakesAtMost (1025 * lines_read asked) before after → TakesLines status asked before after
 takes_key error asked Done before after is failed rest most = absurd is
 takes_key error asked Usage before after is failed rest most = absurd is
@@ -238,6 +243,8 @@ unless_fault T KeyMissing P holds other = holds
 unless_fault T KeyEmpty P holds other = holds
 unless_fault T KeyTooLong P holds other = holds
 unless_fault T KeyForm P holds other = holds
+unless_fault T KeyUnsalted P holds other = holds
+unless_fault T KeyNotHex P holds other = holds
 unless_fault T SourceFault P holds other = absurd (other refl)
 
 -- it was not carried out
@@ -254,7 +261,7 @@ pub not_refused : (P : Type 0) (lines : Result (List Secret) KeyError) (secrets 
 not_refused P lines secrets error is refused = let never : keys_ok secrets ≡ keys_err error = sym is ∙ refused in cc
 
 -- the lines that were read for them are taken
-pub takes_given : (asked : List Bool) (status : Status) (before after : List ℕ) → (status ≡ InputFault → ⊥) → after ≡ after_lines asked before → TakesLines status asked before after
+pub takes_given : (asked : List (Option LineForm)) (status : Status) (before after : List ℕ) → (status ≡ InputFault → ⊥) → after ≡ after_lines asked before → TakesLines status asked before after
 takes_given asked Done before after read rest = rest
 takes_given asked Usage before after read rest = rest
 takes_given asked (Refused refusal) before after read rest = rest

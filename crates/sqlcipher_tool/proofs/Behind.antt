@@ -2,7 +2,7 @@
 use Rattle.std.proofs.Common.{◌≡◌, ◌⊎◌, inl, inr, ⊎_elim, ℕ, Bool, true, false, List, Option, Some, None, Result, Ok, Err, if◌then◌else◌, refl, sym, ap, subst, ◌∙◌}
 use Rattle.std.specs.Prelude.{◌≢◌, IfErr, OnOk}
 use Rattle.cipher_profile.specs.declared.key_line.KeyError.{KeyError}
-use Rattle.cipher_profile.specs.declared.key_line.KeyError.TheVariants.{KeyMissing, KeyEmpty, KeyTooLong, KeyForm, SourceFault}
+use Rattle.cipher_profile.specs.declared.key_line.KeyError.TheVariants.{KeyMissing, KeyEmpty, KeyTooLong, KeyForm, KeyUnsalted, KeyNotHex, SourceFault}
 use Rattle.cipher_profile.specs.declared.profile.Profile.{Profile}
 use Rattle.fresh_disk.specs.OnlyFresh.{IsOld, OnlyFresh, only_fresh_stays}
 use Rattle.edge_model.specs.Files.{Files, bytes_of}
@@ -29,7 +29,7 @@ use Rattle.sqlcipher_tool.specs.declared.opening.ChangeError.TheVariants.{Stoppe
 use Rattle.sqlcipher_tool.specs.declared.opening.Stop.{Stop}
 use Rattle.sqlcipher_tool.specs.declared.opening.Stop.TheVariants.{Refused as StopRefused, KeyRefused as StopKey, DiskFault as StopDisk, OutOfMemory as StopMemory}
 use Rattle.sqlcipher_tool.specs.declared.status.Refusal.{Refusal}
-use Rattle.sqlcipher_tool.specs.declared.status.Refusal.TheVariants.{NoTags, LayoutDiffers, OnlyRead as ReadAlone, KeyMissing as NoLine, KeyEmpty as EmptyLine, KeyTooLong as LongLine, KeyForm as BadLine}
+use Rattle.sqlcipher_tool.specs.declared.status.Refusal.TheVariants.{NoTags, LayoutDiffers, OnlyRead as ReadAlone, KeyMissing as NoLine, KeyEmpty as EmptyLine, KeyTooLong as LongLine, KeyForm as BadLine, KeyUnsalted as BareLine, KeyNotHex as OtherLine}
 use Rattle.sqlcipher_tool.specs.declared.status.Status.{Status}
 use Rattle.sqlcipher_tool.specs.declared.status.Status.TheVariants.{Done, Refused, DiskFault, OutputFault, InputFault, OutOfMemory}
 use Rattle.sqlcipher_tool.proofs.Changed.{stop_last}
@@ -113,6 +113,8 @@ key_last drawing KeyMissing last refused failed has = early_last drawing NoLine 
 key_last drawing KeyEmpty last refused failed has = early_last drawing EmptyLine last refl (refused (λ is. cc)) has
 key_last drawing KeyTooLong last refused failed has = early_last drawing LongLine last refl (refused (λ is. cc)) has
 key_last drawing KeyForm last refused failed has = early_last drawing BadLine last refl (refused (λ is. cc)) has
+key_last drawing KeyUnsalted last refused failed has = early_last drawing BareLine last refl (refused (λ is. cc)) has
+key_last drawing KeyNotHex last refused failed has = early_last drawing OtherLine last refl (refused (λ is. cc)) has
 key_last drawing SourceFault last refused failed has = subst (λ (s : Status). HasOnlyRead drawing s) (failed refl) has
 
 pub word_last : (drawing : Bool) (command : Command) (refusal : Refusal) (last : Status) → word_refusal command ≡ Some refusal

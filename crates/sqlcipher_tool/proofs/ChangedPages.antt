@@ -3,14 +3,14 @@ use Rattle.std.proofs.Common.{◌≡◌, ◌⊎◌, ⊎_elim, inl, inr, ◌==◌
 use Rattle.std.proofs.lemmas.List.{take-take, length-take-le}
 use Rattle.std.specs.Cmp.Derive.{both_true}
 use Rattle.std.specs.Int.{w32, to_be_bytes}
-use Rattle.cipher_profile.specs.Profile.{is_plain, usable}
+use Rattle.cipher_profile.specs.Profile.{IsLaidOut, IsListed, is_clear, usable}
+use Rattle.cipher_profile.proofs.Layouts.{IsListed-laid_out}
 use Rattle.cipher_profile.specs.declared.profile.Profile.{Profile}
 use Rattle.db_format.specs.Bytes.{u32_at}
 use Rattle.db_format.specs.Count.{count_of_pages, largest_database}
 use Rattle.db_format.specs.Header.{header_fields, header_read_as}
 use Rattle.db_format.specs.declared.header.Header.{Header}
 use Rattle.db_format.specs.declared.header.HeaderRefusal.{HeaderRefusal}
-use Rattle.page_codec.proofs.Parts.{opened_plain_file}
 use Rattle.page_codec.specs.Page.{FileKeys, accepts, opened, salt_of, sealed}
 use Rattle.pager.specs.Changed.{with_bytes}
 use Rattle.pager.specs.Database.{count_by, counted, ok_count}
@@ -18,12 +18,13 @@ use Rattle.pager.specs.File.{page_stored}
 use Rattle.pager.specs.Pages.{is_page_number}
 use Rattle.pager.specs.UnderWay.{HasNewPages}
 use Rattle.pager.proofs.BatchLemmas.{number_is}
-use Rattle.page_codec.proofs.Salt.{salt_stands}
+use Rattle.pager.proofs.Cutting.{page_whole}
+use Rattle.page_codec.proofs.Salt.{opened_clear, salt_stands, sealed_clear}
 use Rattle.rekey_job.specs.Draws.{FileDraws}
 use Rattle.sqlcipher_tool.specs.FirstPage.{IsFirstChanged, IsHarmless, changed_page, next_change, with_field}
 use Rattle.sqlcipher_tool.proofs.Databases.{counted_pages, start_of}
 use Rattle.sqlcipher_tool.proofs.FileDraws.{file_draws}
-use Rattle.sqlcipher_tool.proofs.FirstBytes.{changed_first, first_of_page, sealed_plain_file}
+use Rattle.sqlcipher_tool.proofs.FirstBytes.{changed_first, first_of_page}
 use Rattle.sqlcipher_tool.proofs.OpenedParts.{IsOpen, header_size, open_count}
 use Rattle.sqlcipher_tool.proofs.ChangedFields.{bytes_length, changed_count, changed_read}
 
@@ -125,7 +126,7 @@ pub record StandsFor (profile : Profile) (plain base : List ℕ) : Type 0 where
 
 -- A file that opens, and what a transaction leaves of it that changed the pages of this test, page 1 to what `base` becomes.
 module _ (keys : FileKeys) (at : ℕ) (bytes : List ℕ) (harmless : IsHarmless keys.profile at bytes) (n : ℕ) (file : List ℕ) (header : Header) (is_open : IsOpen keys file header n) (some : 1 ≤ n)
-    (salt : keys.salt ≡ salt_of file) (room : 120 ≤ usable keys.profile)
+    (salt : keys.salt ≡ salt_of file) (room : 120 ≤ usable keys.profile) (listed : IsListed keys.profile)
     (base : List ℕ) (change : ℕ) (fits : change < 2 ^ 32) (stands : StandsFor keys.profile (opened keys 1 (page_stored keys file 1)) base) (mine : ℕ → Bool) (first_mine : mine 1 ≡ true)
     (touched : ℕ → Bool) (pages : ℕ → List ℕ) (tells : Bool) (before after main : List ℕ)
     (is_page : pages 1 ≡ with_field 92 change (with_field 28 n (with_field 24 change (with_bytes at bytes base))))
@@ -226,16 +227,23 @@ module _ (keys : FileKeys) (at : ℕ) (bytes : List ℕ) (harmless : IsHarmless 
       let one = new.own.is_sealed 1 (both_true numbered is_touched) in
       sym (take-take 16 keys.profile.page_size main (omega (arith, size_some)))
       ∙ (ap (λ (at : ℕ). take 16 (take keys.profile.page_size (drop at main))) {x = 0} {y = (1 - 1) * keys.profile.page_size} (omega arith)
-      ∙ (ap (λ (l : List ℕ). take 16 l) one ∙ by_plain (is_plain keys.profile) refl _))
+      ∙ (ap (λ (l : List ℕ). take 16 l) one ∙ by_clear (is_clear keys.profile) refl _))
     where
-      -- page 1 of a plain file is sealed as it is, and its first bytes were those of the file
-      by_plain : (b : Bool) → is_plain keys.profile ≡ b → (draw : List ℕ) → take 16 (sealed keys 1 (pages 1) draw) ≡ keys.salt
-      by_plain false ciphered draw = salt_stands keys (pages 1) draw ciphered salt_long
-      by_plain true is draw =
-          ap (λ (l : List ℕ). take 16 l) (sealed_plain_file keys 1 (pages 1) draw is ∙ is_page)
+      laid_out : IsLaidOut keys.profile
+      laid_out = IsListed-laid_out keys.profile listed
+
+      file_long : 16 ≤ length (page_stored keys file 1)
+      file_long = omega (arith, page_whole 1 keys.profile.page_size file (omega arith) (omega (arith, is_open.long)), size_some)
+
+      -- a page 1 that begins as it is stored is sealed so, and its first bytes were those of the file
+      by_clear : (b : Bool) → is_clear keys.profile ≡ b → (draw : List ℕ) → take 16 (sealed keys 1 (pages 1) draw) ≡ keys.salt
+      by_clear false hidden draw = salt_stands keys (pages 1) draw hidden salt_long
+      by_clear true clear draw =
+          sealed_clear keys (pages 1) draw laid_out clear (omega (arith, new.sizes 1 numbered is_touched, room))
+          ∙ ap (λ (l : List ℕ). take 16 l) is_page
           ∙ (changed_first at bytes n change base harmless.low harmless.high long_base
           ∙ (stands.begins long_plain
-          ∙ (ap (λ (l : List ℕ). take 16 l) (opened_plain_file keys 1 (page_stored keys file 1) is)
+          ∙ (opened_clear keys (page_stored keys file 1) laid_out clear file_long
           ∙ (first_of_page keys.profile.page_size file (omega (arith, size_some)) ∙ sym salt))))
 
   pub same_salt : salt_of main ≡ salt_of file
@@ -254,7 +262,7 @@ itself profile page = record { long = λ long. long; begins = λ long. refl; rea
 
 -- page 1 alone was changed
 module _ (keys : FileKeys) (at : ℕ) (bytes : List ℕ) (harmless : IsHarmless keys.profile at bytes) (n : ℕ) (file : List ℕ) (header : Header) (is_open : IsOpen keys file header n) (some : 1 ≤ n)
-    (salt : keys.salt ≡ salt_of file) (room : 120 ≤ usable keys.profile)
+    (salt : keys.salt ≡ salt_of file) (room : 120 ≤ usable keys.profile) (listed : IsListed keys.profile)
     (touched : ℕ → Bool) (pages : ℕ → List ℕ) (tells : Bool) (before after main : List ℕ)
     (is_page : pages 1 ≡ changed_page at bytes n (opened keys 1 (page_stored keys file 1)))
     (alone : (m : ℕ) → is_page_number n m ≡ true → touched m ≡ (m == 1))
@@ -273,22 +281,22 @@ module _ (keys : FileKeys) (at : ℕ) (bytes : List ℕ) (harmless : IsHarmless 
 
   pub new_count : (len : ℕ) → n * keys.profile.page_size ≤ len → count_by keys (page_stored keys main 1) len ≡ Some n
   new_count len there =
-      counts_all keys at bytes harmless n file header is_open some salt room stood change fits (itself keys.profile stood) is_first refl touched pages tells before after main is_page alone new len there
+      counts_all keys at bytes harmless n file header is_open some salt room listed stood change fits (itself keys.profile stood) is_first refl touched pages tells before after main is_page alone new len there
 
   pub new_long : n * keys.profile.page_size ≤ length main
-  new_long = all_there keys at bytes harmless n file header is_open some salt room stood change fits (itself keys.profile stood) is_first refl touched pages tells before after main is_page alone new
+  new_long = all_there keys at bytes harmless n file header is_open some salt room listed stood change fits (itself keys.profile stood) is_first refl touched pages tells before after main is_page alone new
 
   pub is_changed : IsFirstChanged keys at bytes file main
   is_changed = record {
     count = n;
     was = open_count keys file header n is_open;
-    header = long_plain keys at bytes harmless n file header is_open some salt room stood change fits (itself keys.profile stood) is_first refl touched pages tells before after main is_page alone new;
+    header = long_plain keys at bytes harmless n file header is_open some salt room listed stood change fits (itself keys.profile stood) is_first refl touched pages tells before after main is_page alone new;
     is = new_count (length main) new_long;
-    salt = same_salt keys at bytes harmless n file header is_open some salt room stood change fits (itself keys.profile stood) is_first refl touched pages tells before after main is_page alone new;
-    first = first_changed keys at bytes harmless n file header is_open some salt room stood change fits (itself keys.profile stood) is_first refl touched pages tells before after main is_page alone new;
-    accepted = all_accepted keys at bytes harmless n file header is_open some salt room stood change fits (itself keys.profile stood) is_first refl touched pages tells before after main is_page alone new 1 (number_is n 1 (omega arith) some) refl;
+    salt = same_salt keys at bytes harmless n file header is_open some salt room listed stood change fits (itself keys.profile stood) is_first refl touched pages tells before after main is_page alone new;
+    first = first_changed keys at bytes harmless n file header is_open some salt room listed stood change fits (itself keys.profile stood) is_first refl touched pages tells before after main is_page alone new;
+    accepted = all_accepted keys at bytes harmless n file header is_open some salt room listed stood change fits (itself keys.profile stood) is_first refl touched pages tells before after main is_page alone new 1 (number_is n 1 (omega arith) some) refl;
     others = λ m from to.
-        others_stay keys at bytes harmless n file header is_open some salt room stood change fits (itself keys.profile stood) is_first refl touched pages tells before after main is_page alone new m (omega (arith, from)) to (not_one m from);
+        others_stay keys at bytes harmless n file header is_open some salt room listed stood change fits (itself keys.profile stood) is_first refl touched pages tells before after main is_page alone new m (omega (arith, from)) to (not_one m from);
   }
     where
       not_one : (m : ℕ) → 2 ≤ m → (m == 1) ≡ false
@@ -297,7 +305,7 @@ module _ (keys : FileKeys) (at : ℕ) (bytes : List ℕ) (harmless : IsHarmless 
   -- its page 1 has bytes of its own of those that were drawn
   pub own_draws : IsTrue tells → FileDraws keys main is_first 0 (drop (length before) after)
   own_draws told =
-      draws_own keys at bytes harmless n file header is_open some salt room stood change fits (itself keys.profile stood) is_first refl touched pages tells before after main is_page alone new
+      draws_own keys at bytes harmless n file header is_open some salt room listed stood change fits (itself keys.profile stood) is_first refl touched pages tells before after main is_page alone new
       (λ m is. ap (is_page_number n) (is_one m is) ∙ number_is n 1 (omega arith) some) told
     where
       is_one : (m : ℕ) → (m == 1) ≡ true → m ≡ 1

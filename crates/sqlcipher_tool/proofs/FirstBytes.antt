@@ -3,33 +3,32 @@ use Rattle.std.proofs.Common.{◌≡◌, ◌≤◌, ◌+◌, ◌-◌, ◌*◌, �
 use Rattle.std.proofs.lemmas.List.{take-append-le, take-take}
 use Rattle.std.proofs.lemmas.Slice.Eq.{bytes_eq-Decides}
 use Rattle.std.specs.Int.{w32, to_be_bytes}
-use Rattle.std.specs.Str.{bytes_eq}
 use Rattle.cipher_profile.proofs.Layouts.{IsListed-laid_out}
 use Rattle.cipher_profile.specs.declared.keys.Secret.{Secret}
 use Rattle.cipher_profile.specs.declared.profile.Profile.{Profile}
-use Rattle.cipher_profile.specs.Profile.{IsListed, is_plain}
-use Rattle.page_codec.specs.Page.{FileKeys, codec_salt, enciphered, fits, keys_of, magic, salt_of, sealed}
+use Rattle.cipher_profile.specs.Profile.{IsListed, is_clear}
+use Rattle.page_codec.specs.Page.{FileKeys, codec_salt, fits, keys_of, magic, salt_of}
 use Rattle.pager.specs.Changed.{with_bytes}
 use Rattle.pager.specs.File.{first_page}
 use Rattle.sqlcipher_tool.specs.FirstPage.{with_field}
-use Rattle.sqlcipher_tool.proofs.OpenedParts.{plain_fits}
+use Rattle.sqlcipher_tool.proofs.OpenedParts.{clear_begins}
 use Rattle.sqlcipher_tool.proofs.ChangedFields.{bytes_length, field_length}
 
 -- ---- the salt
 
--- of an encrypted file
-pub ciphered_salt : (profile : Profile) (file : List ℕ) → is_plain profile ≡ false → salt_of file ≡ codec_salt profile file
-ciphered_salt profile file ciphered = sym (ap (λ (b : Bool). if b then magic else salt_of file) ciphered)
+-- of a file that begins with it
+pub hidden_salt : (profile : Profile) (file : List ℕ) → is_clear profile ≡ false → salt_of file ≡ codec_salt profile file
+hidden_salt profile file hidden = sym (ap (λ (b : Bool). if b then magic else salt_of file) hidden)
 
 -- page 1 begins as the file
 pub first_of_page : (size : ℕ) (file : List ℕ) → 16 ≤ size → take 16 (take size (drop ((1 - 1) * size) file)) ≡ take 16 file
 first_of_page size file large =
     ap (λ (at : ℕ). take 16 (take size (drop at file))) {x = (1 - 1) * size} {y = 0} (omega arith) ∙ take-take 16 size file large
 
--- a file whose key fits begins with the salt of its codec, also where it is plain
+-- a file whose key fits begins with the salt of its codec, also where that is the magic
 pub fitting_salt : (profile : Profile) (secret : Secret) (file : List ℕ) → IsListed profile → fits (keys_of profile secret file) (first_page profile file) ≡ true
     → codec_salt profile file ≡ salt_of file
-fitting_salt profile secret file listed fit = by_plain (is_plain profile) refl
+fitting_salt profile secret file listed fit = by_clear (is_clear profile) refl
   where
     keys : FileKeys
     keys = keys_of profile secret file
@@ -40,19 +39,12 @@ fitting_salt profile secret file listed fit = by_plain (is_plain profile) refl
     large : 16 ≤ profile.page_size
     large = let least = (IsListed-laid_out profile listed).least in omega (arith, least)
 
-    by_plain : (b : Bool) → is_plain profile ≡ b → codec_salt profile file ≡ salt_of file
-    by_plain false ciphered = sym (ciphered_salt profile file ciphered)
-    by_plain true plain =
-        let begins : bytes_eq (take 16 first) magic ≡ true = sym (plain_fits keys first plain) ∙ fit in
-        ap (λ (b : Bool). if b then magic else salt_of file) plain
-        ∙ sym ((bytes_eq-Decides (take 16 first) magic).0 begins)
+    by_clear : (b : Bool) → is_clear profile ≡ b → codec_salt profile file ≡ salt_of file
+    by_clear false hidden = sym (hidden_salt profile file hidden)
+    by_clear true clear =
+        ap (λ (b : Bool). if b then magic else salt_of file) clear
+        ∙ sym ((bytes_eq-Decides (take 16 first) magic).0 (clear_begins keys first listed clear fit))
         ∙ first_of_page profile.page_size file large
-
--- ---- a sealed page of a plain file
-
-pub sealed_plain_file : (keys : FileKeys) (n : ℕ) (plain draw : List ℕ) → is_plain keys.profile ≡ true → sealed keys n plain draw ≡ plain
-unfolding sealed
-sealed_plain_file keys n plain draw is = ap (λ (b : Bool). if b then plain else enciphered keys n plain draw) is
 
 -- ---- page 1 with other bytes
 

@@ -43,7 +43,8 @@ use Rattle.sqlcipher_tool.proofs.MapsPage.{freed_byte, freed_count, freed_length
 use Rattle.sqlcipher_tool.proofs.Numbers.{true_le}
 use Rattle.sqlcipher_tool.proofs.Rewritten.{rewritten_within, trunk_rewritten}
 use Rattle.sqlcipher_tool.proofs.Rekeying.{number_among}
-use Rattle.sqlcipher_tool.proofs.SettledClean.{fits_accepts, fits_too, page_field, page_kept, page_kind, page_node, page_sign, sign_same}
+use Rattle.sqlcipher_tool.proofs.OpenedParts.{fits_accepts}
+use Rattle.sqlcipher_tool.proofs.SettledClean.{fits_too, page_field, page_kept, page_kind, page_node, page_sign, sign_same}
 use Rattle.sqlcipher_tool.proofs.SettledFile.{first_page_of}
 use Rattle.sqlcipher_tool.proofs.Unmarked.{accepts_set, fits_set, opened_set}
 use Rattle.sqlcipher_tool.proofs.Verified.{none_where, some_is}

@@ -136,11 +136,11 @@ module _ {D : Type 0} (reads : D → Files) (images : D → Files → Type 0) (m
   sized = let least = (IsListed-laid_out keys.profile listed).least in omega (arith, least)
 
   counts_new : (main : List ℕ) → HasPages main → (len : ℕ) → n * keys.profile.page_size ≤ len → count_by keys (page_stored keys main 1) len ≡ Some n
-  counts_new main has = counts_all keys versions_at versions (versions_harmless keys.profile passes) n file header parts some salt room base change fits (freed_stands u n keys.profile plain passes)
+  counts_new main has = counts_all keys versions_at versions (versions_harmless keys.profile passes) n file header parts some salt room listed base change fits (freed_stands u n keys.profile plain passes)
       (is_rewritten u n) refl touched pages tells start.drawn after main written.first written.among has
 
   is_long : (main : List ℕ) → HasPages main → n * keys.profile.page_size ≤ length main
-  is_long main has = all_there keys versions_at versions (versions_harmless keys.profile passes) n file header parts some salt room base change fits (freed_stands u n keys.profile plain passes)
+  is_long main has = all_there keys versions_at versions (versions_harmless keys.profile passes) n file header parts some salt room listed base change fits (freed_stands u n keys.profile plain passes)
       (is_rewritten u n) refl touched pages tells start.drawn after main written.first written.among has
 
   trunk_page : (k : ℕ) → k < map_count u n → is_new_trunk u k ≡ true → is_page_number n (map_number u k) ≡ true
@@ -152,18 +152,18 @@ module _ {D : Type 0} (reads : D → Files) (images : D → Files → Type 0) (m
     was = open_count keys file header n parts;
     some = some;
     there = there;
-    header = long_plain keys versions_at versions (versions_harmless keys.profile passes) n file header parts some salt room base change fits (freed_stands u n keys.profile plain passes)
+    header = long_plain keys versions_at versions (versions_harmless keys.profile passes) n file header parts some salt room listed base change fits (freed_stands u n keys.profile plain passes)
         (is_rewritten u n) refl touched pages tells start.drawn after main written.first written.among has;
     is = counts_new main has (length main) (is_long main has);
-    salt = same_salt keys versions_at versions (versions_harmless keys.profile passes) n file header parts some salt room base change fits (freed_stands u n keys.profile plain passes)
+    salt = same_salt keys versions_at versions (versions_harmless keys.profile passes) n file header parts some salt room listed base change fits (freed_stands u n keys.profile plain passes)
         (is_rewritten u n) refl touched pages tells start.drawn after main written.first written.among has;
-    first = first_changed keys versions_at versions (versions_harmless keys.profile passes) n file header parts some salt room base change fits (freed_stands u n keys.profile plain passes)
+    first = first_changed keys versions_at versions (versions_harmless keys.profile passes) n file header parts some salt room listed base change fits (freed_stands u n keys.profile plain passes)
         (is_rewritten u n) refl touched pages tells start.drawn after main written.first written.among has;
-    trunk = λ k less is. all_opened keys versions_at versions (versions_harmless keys.profile passes) n file header parts some salt room base change fits (freed_stands u n keys.profile plain passes)
+    trunk = λ k less is. all_opened keys versions_at versions (versions_harmless keys.profile passes) n file header parts some salt room listed base change fits (freed_stands u n keys.profile plain passes)
         (is_rewritten u n) refl touched pages tells start.drawn after main written.first written.among has (map_number u k) (trunk_page k less is) (trunk_rewritten u n k less is) ∙ written.trunks k less is;
-    accepted = λ m from to is. all_accepted keys versions_at versions (versions_harmless keys.profile passes) n file header parts some salt room base change fits (freed_stands u n keys.profile plain passes)
+    accepted = λ m from to is. all_accepted keys versions_at versions (versions_harmless keys.profile passes) n file header parts some salt room listed base change fits (freed_stands u n keys.profile plain passes)
         (is_rewritten u n) refl touched pages tells start.drawn after main written.first written.among has m (number_is n m from to) is;
-    others = others_stay keys versions_at versions (versions_harmless keys.profile passes) n file header parts some salt room base change fits (freed_stands u n keys.profile plain passes)
+    others = others_stay keys versions_at versions (versions_harmless keys.profile passes) n file header parts some salt room listed base change fits (freed_stands u n keys.profile plain passes)
         (is_rewritten u n) refl touched pages tells start.drawn after main written.first written.among has;
   }
 
@@ -175,7 +175,7 @@ module _ {D : Type 0} (reads : D → Files) (images : D → Files → Type 0) (m
   is_new main has = (
     are_freed main has,
     λ told. subst (λ (count : ℕ). FileDraws keys main (is_rewritten u count) 0 (drop (length start.drawn) after)) (pages_now main has)
-        (draws_own keys versions_at versions (versions_harmless keys.profile passes) n file header parts some salt room base change fits (freed_stands u n keys.profile plain passes)
+        (draws_own keys versions_at versions (versions_harmless keys.profile passes) n file header parts some salt room listed base change fits (freed_stands u n keys.profile plain passes)
         (is_rewritten u n) refl touched pages tells start.drawn after main written.first written.among has (λ m is. rewritten_within u n m some is) told),
   )
 

@@ -1,9 +1,11 @@
 -- What is known of a file that opens.
-use Rattle.std.proofs.Common.{◌≡◌, ◌==◌, ◌≤◌, ◌<◌, ℕ, zero, suc, Bool, true, false, not, List, [], ◌∷◌, length, take, Option, Some, None, Result, Ok, Err, refl, sym, ap, ◌∙◌, arith, rules}
-use Rattle.std.specs.Prelude.{if◌then◌else◌, nat_lt, IsTrue}
-use Rattle.std.specs.Str.{bytes_eq}
+use Rattle.std.proofs.Common.{◌≡◌, ◌++◌, ◌==◌, ◌≤◌, ◌<◌, ℕ, zero, suc, Bool, true, false, not, List, [], ◌∷◌, length, take, Option, Some, None, Result, Ok, Err, refl, sym, ap, ◌∙◌, arith, rules}
+use Rattle.std.specs.Prelude.{◌&&◌, ◌||◌, if◌then◌else◌, nat_lt, IsTrue}
+use Rattle.std.proofs.Math.Seq.{take-append_seam}
+use Rattle.std.proofs.lemmas.Bool.Decides.{nat_tests}
+use Rattle.std.proofs.lemmas.Slice.Eq.{bytes_eq-Decides}
 use Rattle.cipher_profile.proofs.Layouts.{IsListed-laid_out}
-use Rattle.cipher_profile.specs.Profile.{IsListed, is_plain}
+use Rattle.cipher_profile.specs.Profile.{IsListed, is_clear, is_plain}
 use Rattle.db_format.specs.Bytes.{u16_at}
 use Rattle.db_format.specs.Count.{count_of_pages}
 use Rattle.db_format.specs.Header.{header_fields, header_read_as, header_rules_as, page_size_of}
@@ -12,7 +14,8 @@ use Rattle.db_format.specs.declared.count.CountRefusal.{CountRefusal}
 use Rattle.db_format.specs.declared.header.Header.{Header}
 use Rattle.db_format.specs.declared.header.HeaderRefusal.{HeaderRefusal}
 use Rattle.db_format.specs.declared.header.HeaderRefusal.TheVariants.{HeaderFault}
-use Rattle.page_codec.specs.Page.{FileKeys, accepts, bears_sign, fits, magic, opened}
+use Rattle.page_codec.specs.Page.{FileKeys, accepts, bears_sign, begins_with_magic, fits, magic, opened}
+use Rattle.page_codec.proofs.Salt.{opened_clear, opened_hidden}
 use Rattle.page_codec.proofs.TagPlace.{accepts-no_tag}
 use Rattle.pager.specs.Database.{count_of, counted, ok_count}
 use Rattle.pager.specs.File.{first_page, page_stored}
@@ -75,25 +78,85 @@ open_count keys file header n is_open =
     more : (a b : ℕ) → b ≤ a → nat_lt a b ≡ false
     more a b le = search (rules, le)
 
+-- by the tag of page 1, behind a plain header that begins with the magic
+abbrev pub keyed : FileKeys → List ℕ → Bool
+keyed keys first = if nat_lt 0 keys.profile.plain_header then begins_with_magic first && accepts keys 1 first else accepts keys 1 first
+
 -- of an encrypted file the key fits by the tag of page 1, or by its sign
 pub ciphered_fits : (keys : FileKeys) (first : List ℕ) → is_plain keys.profile ≡ false
-    → fits keys first ≡ (if keys.profile.tag_len == 0 then bears_sign keys.profile (opened keys 1 first) else accepts keys 1 first)
+    → fits keys first ≡ (if keys.profile.tag_len == 0 then bears_sign keys.profile (opened keys 1 first) else keyed keys first)
 ciphered_fits keys first ciphered =
-    ap (λ (b : Bool). if b then bytes_eq (take 16 first) magic else (if keys.profile.tag_len == 0 then bears_sign keys.profile (opened keys 1 first) else accepts keys 1 first)) ciphered
+    ap (λ (b : Bool). if b then begins_with_magic first else (if keys.profile.tag_len == 0 then bears_sign keys.profile (opened keys 1 first) else keyed keys first)) ciphered
 
 -- and of a plain one by the magic
-pub plain_fits : (keys : FileKeys) (first : List ℕ) → is_plain keys.profile ≡ true → fits keys first ≡ bytes_eq (take 16 first) magic
+pub plain_fits : (keys : FileKeys) (first : List ℕ) → is_plain keys.profile ≡ true → fits keys first ≡ begins_with_magic first
 plain_fits keys first plain =
-    ap (λ (b : Bool). if b then bytes_eq (take 16 first) magic else (if keys.profile.tag_len == 0 then bears_sign keys.profile (opened keys 1 first) else accepts keys 1 first)) plain
+    ap (λ (b : Bool). if b then begins_with_magic first else (if keys.profile.tag_len == 0 then bears_sign keys.profile (opened keys 1 first) else keyed keys first)) plain
 
--- and its page 1 is accepted
-pub open_accepts : (keys : FileKeys) (file : List ℕ) (header : Header) (n : ℕ) → IsListed keys.profile → IsOpen keys file header n
-    → IsTrue (accepts keys 1 (page_stored keys file 1))
-open_accepts keys file header n listed is_open = by_tag (keys.profile.tag_len == 0) refl
+-- the tag is right in either case, and a page with a plain header begins with the magic
+pub keyed_accepts : (keys : FileKeys) (first : List ℕ) → keyed keys first ≡ true → accepts keys 1 first ≡ true
+keyed_accepts keys first is = by_header (nat_lt 0 keys.profile.plain_header) (begins_with_magic first) (accepts keys 1 first) is
   where
-    first : List ℕ
-    first = page_stored keys file 1
+    by_header : (headed begins accepted : Bool) → (if headed then begins && accepted else accepted) ≡ true → accepted ≡ true
+    by_header true true accepted is = is
+    by_header true false accepted is = cc
+    by_header false begins accepted is = is
 
+pub keyed_of : (keys : FileKeys) (first : List ℕ) → (is_clear keys.profile ≡ true → begins_with_magic first ≡ true) → accepts keys 1 first ≡ true → keyed keys first ≡ true
+keyed_of keys first begins accepted = by_header (nat_lt 0 keys.profile.plain_header) refl
+  where
+    clear : (plain headed : Bool) → headed ≡ true → (plain || headed) ≡ true
+    clear true headed is = refl
+    clear false headed is = is
+
+    by_header : (headed : Bool) → nat_lt 0 keys.profile.plain_header ≡ headed → (if headed then begins_with_magic first && accepts keys 1 first else accepts keys 1 first) ≡ true
+    by_header true some =
+        let begun = begins (clear (is_plain keys.profile) (nat_lt 0 keys.profile.plain_header) some) in
+        ap (λ (b : Bool). b && accepts keys 1 first) begun ∙ accepted
+    by_header false none = accepted
+
+-- page 1 of a file that begins as it is stored begins with the magic where the key fits
+pub clear_begins : (keys : FileKeys) (first : List ℕ) → IsListed keys.profile → is_clear keys.profile ≡ true → fits keys first ≡ true → begins_with_magic first ≡ true
+clear_begins keys first listed clear fit = by_plain (is_plain keys.profile) refl
+  where
+    is_some : (a : ℕ) → 0 < a → (a == 0) ≡ false
+    is_some a some = grind (arith, nat_tests, some)
+
+    headed : (plain some : Bool) → plain ≡ false → (plain || some) ≡ true → some ≡ true
+    headed true some is clear = cc
+    headed false some is clear = clear
+
+    and_first : (a b some : Bool) → some ≡ true → (if some then a && b else b) ≡ true → a ≡ true
+    and_first true b some chosen is = refl
+    and_first false b true chosen is = is
+    and_first false b false chosen is = cc
+
+    by_plain : (b : Bool) → is_plain keys.profile ≡ b → begins_with_magic first ≡ true
+    by_plain true plain = sym (plain_fits keys first plain) ∙ fit
+    by_plain false ciphered =
+        let some = headed (is_plain keys.profile) (nat_lt 0 keys.profile.plain_header) ciphered clear in
+        let more : 0 < keys.profile.plain_header = grind (arith, nat_tests, some) in
+        let tagged = is_some keys.profile.tag_len ((IsListed-laid_out keys.profile listed).header_tagged more) in
+        let inner : keyed keys first ≡ true =
+        sym (ap (λ (b : Bool). if b then bears_sign keys.profile (opened keys 1 first) else keyed keys first) tagged) ∙ (sym (ciphered_fits keys first ciphered) ∙ fit) in
+        and_first (begins_with_magic first) (accepts keys 1 first) (nat_lt 0 keys.profile.plain_header) some inner
+
+begins_so : {rest : List ℕ} (l : List ℕ) → l ≡ magic ++ rest → take 16 l ≡ magic
+begins_so {rest} l is = ap (λ (page : List ℕ). take 16 page) is ∙ take-append_seam magic rest
+
+-- a page 1 that the key fits opens to the magic
+pub fitting_magic : (keys : FileKeys) (first : List ℕ) → IsListed keys.profile → 16 ≤ length first → fits keys first ≡ true → take 16 (opened keys 1 first) ≡ magic
+fitting_magic keys first listed long fit = by_clear (is_clear keys.profile) refl
+  where
+    by_clear : (b : Bool) → is_clear keys.profile ≡ b → take 16 (opened keys 1 first) ≡ magic
+    by_clear true clear =
+        opened_clear keys first (IsListed-laid_out keys.profile listed) clear long ∙ (bytes_eq-Decides (take 16 first) magic).0 (clear_begins keys first listed clear fit)
+    by_clear false hidden = begins_so (opened keys 1 first) (opened_hidden keys first hidden)
+
+-- page 1 of a file whose key fits is accepted
+pub fits_accepts : (keys : FileKeys) (first : List ℕ) → IsListed keys.profile → fits keys first ≡ true → accepts keys 1 first ≡ true
+fits_accepts keys first listed fit = by_tag (keys.profile.tag_len == 0) refl
+  where
     zero_is : (a : ℕ) → (a == 0) ≡ true → a ≡ 0
     zero_is a is = search rules
 
@@ -101,14 +164,18 @@ open_accepts keys file header n listed is_open = by_tag (keys.profile.tag_len ==
     some_is zero is = cc
     some_is (suc a) is = omega arith
 
-    by_tag : (b : Bool) → (keys.profile.tag_len == 0) ≡ b → IsTrue (accepts keys 1 first)
+    by_tag : (b : Bool) → (keys.profile.tag_len == 0) ≡ b → accepts keys 1 first ≡ true
     by_tag true none = accepts-no_tag keys 1 first (zero_is keys.profile.tag_len none)
     by_tag false some =
         let ciphered = (IsListed-laid_out keys.profile listed).tagged (some_is keys.profile.tag_len some) in
-        let inner : (if keys.profile.tag_len == 0 then bears_sign keys.profile (opened keys 1 first) else accepts keys 1 first) ≡ true =
-        sym (ciphered_fits keys first ciphered) ∙ is_open.fit in
-        let accepted : accepts keys 1 first ≡ true = ap (λ (b : Bool). if b then bears_sign keys.profile (opened keys 1 first) else accepts keys 1 first) (sym some) ∙ inner in
-        accepted
+        let inner : (if keys.profile.tag_len == 0 then bears_sign keys.profile (opened keys 1 first) else keyed keys first) ≡ true =
+        sym (ciphered_fits keys first ciphered) ∙ fit in
+        keyed_accepts keys first (ap (λ (b : Bool). if b then bears_sign keys.profile (opened keys 1 first) else keyed keys first) (sym some) ∙ inner)
+
+-- so is that of a file that opens
+pub open_accepts : (keys : FileKeys) (file : List ℕ) (header : Header) (n : ℕ) → IsListed keys.profile → IsOpen keys file header n
+    → IsTrue (accepts keys 1 (page_stored keys file 1))
+open_accepts keys file header n listed is_open = fits_accepts keys (page_stored keys file 1) listed is_open.fit
 
 -- the page size in a header that is read is the file's
 pub header_size : (passes : Bool) (plain : List ℕ) (size reserve : ℕ) (h : Header) → header_read_as passes plain size reserve ≡ Ok h → (header_fields plain ≡ h) × (h.page_size ≡ size)

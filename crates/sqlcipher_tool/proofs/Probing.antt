@@ -7,13 +7,13 @@ use Rattle.cipher_profile.specs.declared.keys.PageKeys.{PageKeys}
 use Rattle.cipher_profile.specs.declared.keys.Secret.{Secret}
 use Rattle.cipher_profile.specs.declared.profile.Profile.{Profile}
 use Rattle.cipher_profile.specs.Keys.{page_keys}
-use Rattle.cipher_profile.specs.Profile.{is_plain}
+use Rattle.cipher_profile.specs.Profile.{is_clear}
 use Rattle.profile_word.specs.Tried.{probed_profiles}
 use Rattle.page_codec.specs.Page.{FileKeys, fits, keys_of, salt_of}
 use Rattle.pager.specs.File.{first_page}
 use Rattle.btree_model.proofs.UnmarkedLemmas.{and_left, and_right}
 use Rattle.sqlcipher_tool.specs.Probe.{first_fitting, fits_file, is_fitting}
-use Rattle.sqlcipher_tool.proofs.FirstBytes.{ciphered_salt}
+use Rattle.sqlcipher_tool.proofs.FirstBytes.{hidden_salt}
 use Rattle.sqlcipher_tool.proofs.Numbers.{true_le}
 
 -- a file that is shorter than a page of any profile fits none
@@ -25,15 +25,15 @@ short_unfit secret file profile large short =
     ap (λ (b : Bool). b && fits (keys_of profile secret file) (first_page profile file)) (beyond profile.page_size (length file) (omega (arith, large, short)))
 
 -- keys that were derived for the file's salt are those that are asked of it
-pub fits_so : (profile : Profile) (secret : Secret) (salt file mid : List ℕ) (keys : PageKeys) (codec : FileKeys) (found : Bool) → is_plain profile ≡ false
+pub fits_so : (profile : Profile) (secret : Secret) (salt file mid : List ℕ) (keys : PageKeys) (codec : FileKeys) (found : Bool) → is_clear profile ≡ false
     → codec ≡ record { profile = profile; keys = keys; salt = salt } → keys ≡ page_keys profile secret salt → salt ≡ salt_of file → mid ≡ file
     → found ≡ fits_file codec mid → is_fitting secret file profile ≡ found
-fits_so profile secret salt file mid keys codec found ciphered made derived its stays is =
+fits_so profile secret salt file mid keys codec found hidden made derived its stays is =
     sym (is
     ∙ ap (λ (l : List ℕ). fits_file codec l) stays
     ∙ ap (λ (k : FileKeys). fits_file k file) made
     ∙ ap (λ (k : PageKeys). fits_file (record { profile = profile; keys = k; salt = salt }) file) derived
-    ∙ ap (λ (l : List ℕ). fits_file (record { profile = profile; keys = page_keys profile secret l; salt = l }) file) (its ∙ ciphered_salt profile file ciphered))
+    ∙ ap (λ (l : List ℕ). fits_file (record { profile = profile; keys = page_keys profile secret l; salt = l }) file) (its ∙ hidden_salt profile file hidden))
 
 module _ (test : Profile → Bool) where
   -- none of the first so many passes, and the next does not either
@@ -98,9 +98,9 @@ module _ (test : Profile → Bool) where
 pub large_each : (k : ℕ) (x : Profile) → slice_get probed_profiles k ≡ Some x → 1024 ≤ x.page_size
 large_each k x at = true_le 1024 x.page_size (all_hold (λ (p : Profile). nat_le 1024 p.page_size) probed_profiles refl k x at)
 
--- and none is plain
-pub ciphered_each : (k : ℕ) (x : Profile) → slice_get probed_profiles k ≡ Some x → is_plain x ≡ false
-ciphered_each k x at = by_plain (is_plain x) (all_hold (λ (p : Profile). not (is_plain p)) probed_profiles refl k x at)
+-- and their files begin with a salt
+pub hidden_each : (k : ℕ) (x : Profile) → slice_get probed_profiles k ≡ Some x → is_clear x ≡ false
+hidden_each k x at = by_plain (is_clear x) (all_hold (λ (p : Profile). not (is_clear p)) probed_profiles refl k x at)
   where
     by_plain : (b : Bool) → not b ≡ true → b ≡ false
     by_plain true is = cc

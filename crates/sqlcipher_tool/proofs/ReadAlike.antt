@@ -1,28 +1,25 @@
 -- Pages that read alike as a database: all but page 1 are the same, and that one is the same page of a tree with the same fields of the freelist.
 use Rattle.std.proofs.Common.{◌≡◌, ℕ, zero, suc, ℤ, pos, negsuc, Bool, true, false, List, [], ◌∷◌, ◌++◌, ◌==◌, ◌&&◌, ◌||◌, ◌-◌, ◌/◌, drop, take, map, length, Option, Some, None, Result, Ok, Err, if◌then◌else◌, refl, sym, ap, ◌∙◌}
-use Rattle.std.specs.Prelude.{nat_le, not, replicate}
+use Rattle.std.specs.Prelude.{nat_le, not}
 use Rattle.std.specs.List.{list_all}
 use Rattle.std.proofs.Math.Dec.{eqb-suc-zero}
 use Rattle.std.proofs.lemmas.Bool.{eqb-true}
 use Rattle.btree_page.specs.Cell.{StoredCell}
-use Rattle.btree_page.specs.Kind.{kind_at}
 use Rattle.btree_page.specs.Page.{Node, read_node}
 use Rattle.btree_page.specs.Step.{Step, child, divider, entry as cell, steps}
 use Rattle.btree_page.specs.declared.kind.Family.{Family}
 use Rattle.btree_page.specs.declared.kind.Family.TheVariants.{Table}
-use Rattle.btree_page.specs.declared.kind.Kind.{Kind}
 use Rattle.btree_page.specs.declared.page.PageFault.{PageFault}
 use Rattle.db_format.specs.Bytes.{u32_at}
 use Rattle.db_format.specs.Pages.{Pages, Test, also, nothing}
 use Rattle.db_format.specs.Record.{columns}
 use Rattle.db_format.specs.Value.{Datum}
-use Rattle.db_format.specs.declared.defect.Defect.TheVariants.{ChainShort, ChildOutOfRange, FreeCount, PageTwice, RootFault, TrunkFault}
+use Rattle.db_format.specs.declared.defect.Defect.TheVariants.{ChainShort, ChildOutOfRange, FreeCount, RootFault, TrunkFault}
 use Rattle.btree_model.proofs.UnmarkedLemmas.{and_left, and_right}
-use Rattle.btree_model.specs.Content.{Content, SchemaItem, content, entry_of, item_of, item_with, kept_fields, with_tree, without_fourth}
-use Rattle.btree_model.specs.Finding.{Finding, Row, entries, entry, fault, is_sound, leaves, place, places}
+use Rattle.btree_model.specs.Content.{SchemaItem, content, entry_of, item_of, item_with, kept_fields, with_tree, without_fourth}
+use Rattle.btree_model.specs.Finding.{Finding, Row, entries, entry, fault, is_sound, place, places}
 use Rattle.btree_model.specs.Freelist.{first_trunk, free_field, freelist_walk, is_trunk, leaf_numbers, leaves_of, lists_of, next_trunk, trunk_found, trunks, visit_trunk}
 use Rattle.btree_model.specs.Parts.{parts, trees_from, trees_of}
-use Rattle.btree_model.specs.Plain.{is_leaf, with_zeros}
 use Rattle.btree_model.specs.Range.{is_in_range}
 use Rattle.btree_model.specs.Records.{record_faults, tree_part}
 use Rattle.btree_model.specs.Schema.{Root, at_page, no_column, no_tree, root_fault, root_of, roots, rowid_or_0, schema_fault, schema_faults, schema_part}

@@ -1,9 +1,10 @@
 -- The old file of a rekeyed one was clean, and the new one opens under the new keys to its content.
 use Rattle.std.proofs.Common.{◌≡◌, ◌≤◌, ◌==◌, ◌&&◌, ◌-◌, ◌+◌, ◌*◌, ◌<◌, ◌/◌, ◌%◌, not, ℕ, zero, suc, Bool, true, false, List, [], ◌∷◌, length, map, take, Some, None, Result, Ok, Err, refl, sym, ap, subst, ◌∙◌, arith, rules, if◌then◌else◌}
-use Rattle.std.specs.Prelude.{nat_lt, replicate, slice_range}
+use Rattle.std.specs.Prelude.{◌||◌, nat_lt, replicate, slice_range}
 use Rattle.std.specs.Int.{w16, to_be_bytes}
 use Rattle.std.specs.List.{Contains, list_any, range_with_len}
 use Rattle.std.specs.Str.{bytes_eq}
+use Rattle.std.proofs.lemmas.Slice.Eq.{bytes_eq-Decides}
 use Rattle.std.proofs.Math.Nat.{div-add-mod, mod-lt}
 use Rattle.std.proofs.Math.Path.{fun_ext}
 use Rattle.btree_model.specs.Finding.{is_sound, leaves}
@@ -11,7 +12,7 @@ use Rattle.btree_model.specs.Freelist.{freelist_walk}
 use Rattle.btree_model.specs.Parts.{is_database}
 use Rattle.btree_model.specs.Plain.{is_leaf, with_zeros}
 use Rattle.btree_model.proofs.UnmarkedLemmas.{and_left}
-use Rattle.cipher_profile.specs.Profile.{IsListed, is_plain}
+use Rattle.cipher_profile.specs.Profile.{IsListed, is_clear, is_plain}
 use Rattle.cipher_profile.proofs.Layouts.{IsListed-laid_out, reserve_untagged, untagged_reserve}
 use Rattle.cipher_profile.specs.declared.profile.Profile.{Profile}
 use Rattle.db_format.specs.Count.{count_of_pages, size_counts}
@@ -20,18 +21,19 @@ use Rattle.db_format.specs.Pages.{Pages, nothing}
 use Rattle.db_format.specs.declared.count.CountRefusal.{CountRefusal}
 use Rattle.db_format.specs.declared.header.Header.{Header}
 use Rattle.db_format.specs.declared.header.HeaderRefusal.{HeaderRefusal}
-use Rattle.page_codec.proofs.Parts.{opened_plain_file}
-use Rattle.page_codec.specs.Page.{FileKeys, accepts, bears_sign, fits, magic, opened}
+use Rattle.page_codec.proofs.Salt.{opened_clear}
+use Rattle.page_codec.specs.Page.{FileKeys, accepts, bears_sign, begins_with_magic, fits, magic, opened}
 use Rattle.pager.specs.Database.{count_by, count_of, counted, ok_count}
 use Rattle.pager.specs.File.{page_stored}
 use Rattle.pager.specs.Pages.{is_page_number, opened_pages}
 use Rattle.pager.proofs.BatchLemmas.{number_is}
+use Rattle.pager.proofs.Cutting.{page_whole}
 use Rattle.rekey_job.specs.Rekeyed.{IsRekeyed}
 use Rattle.rekey_job.specs.Stops.{AreClean}
 use Rattle.sqlcipher_tool.specs.Plain.{HaveSamePages, IsClean, Opens, content_of, is_left, refused_in_use}
 use Rattle.sqlcipher_tool.specs.Renewal.{IsRekeyedSo}
 use Rattle.sqlcipher_tool.proofs.Databases.{counted_pages}
-use Rattle.sqlcipher_tool.proofs.OpenedParts.{ciphered_fits, header_size, plain_fits}
+use Rattle.sqlcipher_tool.proofs.OpenedParts.{ciphered_fits, fitting_magic, header_size, keyed, keyed_of, plain_fits}
 use Rattle.sqlcipher_tool.proofs.Rekeying.{clean_accepted, number_among}
 use Rattle.sqlcipher_tool.proofs.SamePages.{free_same, in_use_same, opens_same}
 use Rattle.sqlcipher_tool.proofs.Verified.{some_is}
@@ -223,36 +225,46 @@ module _ (old_keys new_keys : FileKeys) (count : ℕ) (old new : List ℕ) (old_
       zero_is : (a : ℕ) → a ≡ 0 → (a == 0) ≡ true
       zero_is a is = search (rules, is)
 
+      least : (p : Profile) → IsListed p → 16 ≤ p.page_size
+      least p listed = let least = (IsListed-laid_out p listed).least in omega (arith, least)
+
+      some_pages : 1 ≤ count
+      some_pages = count_some old_keys old count (omega (arith, least old_keys.profile old_listed)) rekeyed.was
+
       first : is_page_number count 1 ≡ true
-      first = number_is count 1 (omega arith) (count_some old_keys old count (omega (arith, size old_keys.profile old_listed)) rekeyed.was)
-        where
-          size : (p : Profile) → IsListed p → 1 ≤ p.page_size
-          size p listed = let least = (IsListed-laid_out p listed).least in omega (arith, least)
+      first = number_is count 1 (omega arith) some_pages
+
+      page_long : (keys : FileKeys) (file : List ℕ) → IsListed keys.profile → count_of keys file ≡ Some count → 16 ≤ length (page_stored keys file 1)
+      page_long keys file listed counts =
+          let has = has_header keys (page_stored keys file 1) (length file) count counts in
+          omega (arith, least keys.profile listed, page_whole 1 keys.profile.page_size file (omega arith) (omega (arith, has.long)))
+
+      -- page 1 begins with the magic where it begins as it is stored, since it opens to what the old one opened to
+      begins : is_clear new_keys.profile ≡ true → begins_with_magic (page_stored new_keys new 1) ≡ true
+      begins clear =
+          (bytes_eq-Decides (take 16 (page_stored new_keys new 1)) magic).1
+          (sym (opened_clear new_keys (page_stored new_keys new 1) (IsListed-laid_out new_keys.profile new_listed) clear (page_long new_keys new new_listed rekeyed.is))
+          ∙ ap (λ (l : List ℕ). take 16 l) rekeyed.first
+          ∙ fitting_magic old_keys (page_stored old_keys old 1) old_listed (page_long old_keys old old_listed rekeyed.was) clean.opens.fit)
 
       by_tag : (b : Bool) → (new_keys.profile.tag_len == 0) ≡ b → is_plain new_keys.profile ≡ false → is_plain old_keys.profile ≡ false → fits new_keys (page_stored new_keys new 1) ≡ true
       by_tag true none ciphered was_ciphered =
           let old_none = zero_is old_keys.profile.tag_len (same_tags (is_zero new_keys.profile.tag_len none)) in
           ciphered_fits new_keys (page_stored new_keys new 1) ciphered
-          ∙ ap (λ (b : Bool). if b then bears_sign new_keys.profile (opened new_keys 1 (page_stored new_keys new 1)) else accepts new_keys 1 (page_stored new_keys new 1)) none
+          ∙ ap (λ (b : Bool). if b then bears_sign new_keys.profile (opened new_keys 1 (page_stored new_keys new 1)) else keyed new_keys (page_stored new_keys new 1)) none
           ∙ same_sign (opened new_keys 1 (page_stored new_keys new 1))
           ∙ ap (bears_sign old_keys.profile) rekeyed.first
-          ∙ sym (ap (λ (b : Bool). if b then bears_sign old_keys.profile (opened old_keys 1 (page_stored old_keys old 1)) else accepts old_keys 1 (page_stored old_keys old 1)) old_none)
+          ∙ sym (ap (λ (b : Bool). if b then bears_sign old_keys.profile (opened old_keys 1 (page_stored old_keys old 1)) else keyed old_keys (page_stored old_keys old 1)) old_none)
           ∙ sym (ciphered_fits old_keys (page_stored old_keys old 1) was_ciphered)
           ∙ clean.opens.fit
       by_tag false some ciphered was_ciphered =
           ciphered_fits new_keys (page_stored new_keys new 1) ciphered
-          ∙ ap (λ (b : Bool). if b then bears_sign new_keys.profile (opened new_keys 1 (page_stored new_keys new 1)) else accepts new_keys 1 (page_stored new_keys new 1)) some
-          ∙ rekeyed.accepted 1 first
+          ∙ ap (λ (b : Bool). if b then bears_sign new_keys.profile (opened new_keys 1 (page_stored new_keys new 1)) else keyed new_keys (page_stored new_keys new 1)) some
+          ∙ keyed_of new_keys (page_stored new_keys new 1) begins (rekeyed.accepted 1 first)
 
       -- both files are plain, or none is
       by_plain : (b : Bool) → is_plain new_keys.profile ≡ b → fits new_keys (page_stored new_keys new 1) ≡ true
-      by_plain true plain =
-          let was_plain = same_plain_file new_keys.profile old_keys.profile new_listed old_listed (sym reserves) plain in
-          plain_fits new_keys (page_stored new_keys new 1) plain
-          ∙ ap (λ (page : List ℕ). bytes_eq (take 16 page) magic)
-          (sym (opened_plain_file new_keys 1 (page_stored new_keys new 1) plain) ∙ (rekeyed.first ∙ opened_plain_file old_keys 1 (page_stored old_keys old 1) was_plain))
-          ∙ sym (plain_fits old_keys (page_stored old_keys old 1) was_plain)
-          ∙ clean.opens.fit
+      by_plain true plain = plain_fits new_keys (page_stored new_keys new 1) plain ∙ begins (ap (λ (b : Bool). b || nat_lt 0 new_keys.profile.plain_header) plain)
       by_plain false ciphered = by_tag (new_keys.profile.tag_len == 0) refl ciphered (was (is_plain old_keys.profile) refl)
         where
           was : (b : Bool) → is_plain old_keys.profile ≡ b → is_plain old_keys.profile ≡ false

@@ -1,5 +1,5 @@
 -- A settled file is clean where the old one was, and holds the same.
-use Rattle.std.proofs.Common.{◌≡◌, inl, inr, ◌==◌, ◌≤◌, ◌<◌, ◌+◌, ◌-◌, ◌^◌, ◌&&◌, not, ℕ, zero, suc, Bool, true, false, List, [], ◌∷◌, length, take, drop, Option, Some, None, Result, Ok, Err, if◌then◌else◌, refl, sym, ap, subst, ◌∙◌, arith, rules, length-take, length-drop}
+use Rattle.std.proofs.Common.{◌≡◌, inl, inr, ◌==◌, ◌≤◌, ◌<◌, ◌+◌, ◌-◌, ◌^◌, ◌&&◌, not, ℕ, zero, suc, Bool, true, false, List, [], ◌∷◌, length, take, drop, Option, Some, None, Result, Ok, Err, if◌then◌else◌, refl, sym, ap, subst, ◌∙◌, arith, length-take, length-drop}
 use Rattle.std.proofs.Math.Path.{fun_ext}
 use Rattle.std.proofs.lemmas.List.{ext_get_or, get_or-drop, get_or-take}
 use Rattle.std.specs.List.{list_all, list_any}
@@ -24,8 +24,7 @@ use Rattle.db_format.specs.declared.count.CountRefusal.{CountRefusal}
 use Rattle.db_format.specs.declared.header.Header.{Header}
 use Rattle.db_format.specs.declared.header.HeaderRefusal.{HeaderRefusal}
 use Rattle.db_format.specs.Pages.{Pages, nothing}
-use Rattle.page_codec.proofs.TagPlace.{accepts-no_tag}
-use Rattle.page_codec.specs.Page.{FileKeys, accepts, bears_sign, deciphered, fits, magic, opened}
+use Rattle.page_codec.specs.Page.{FileKeys, accepts, bears_sign, begins_with_magic, deciphered, fits, magic, opened}
 use Rattle.pager.specs.Database.{count_of, counted, ok_count}
 use Rattle.pager.specs.File.{page_stored}
 use Rattle.pager.specs.Pages.{is_page_number, opened_pages}
@@ -41,7 +40,7 @@ use Rattle.sqlcipher_tool.proofs.Databases.{counted_pages}
 use Rattle.sqlcipher_tool.proofs.FirstBytes.{first_of_page}
 use Rattle.sqlcipher_tool.proofs.FirstNode.{first_kind_same, first_page_same}
 use Rattle.sqlcipher_tool.proofs.Numbers.{true_le}
-use Rattle.sqlcipher_tool.proofs.OpenedParts.{ciphered_fits, header_size, plain_fits}
+use Rattle.sqlcipher_tool.proofs.OpenedParts.{ciphered_fits, fits_accepts, header_size, keyed, plain_fits}
 use Rattle.sqlcipher_tool.proofs.ReadAlike.{content_same, freelist_same, parts_same}
 use Rattle.sqlcipher_tool.proofs.Unmarked.{accepts_set, field, fits_set, high, opened_set, unmarked, unmarked_length}
 use Rattle.sqlcipher_tool.proofs.Verified.{some_is}
@@ -117,23 +116,6 @@ clean_alike old_keys new_keys before after count alike was is fit clean =
       refl,
     )
 
--- page 1 of a file whose key fits is accepted
-pub fits_accepts : (keys : FileKeys) (first : List ℕ) → IsListed keys.profile → fits keys first ≡ true → accepts keys 1 first ≡ true
-fits_accepts keys first listed fit = by_tag (keys.profile.tag_len == 0) refl
-  where
-    zero_is : (a : ℕ) → (a == 0) ≡ true → a ≡ 0
-    zero_is a is = search rules
-
-    some_is_there : (a : ℕ) → (a == 0) ≡ false → 0 < a
-    some_is_there zero is = cc
-    some_is_there (suc a) is = omega arith
-
-    by_tag : (b : Bool) → (keys.profile.tag_len == 0) ≡ b → accepts keys 1 first ≡ true
-    by_tag true none = accepts-no_tag keys 1 first (zero_is keys.profile.tag_len none)
-    by_tag false some =
-        let ciphered = (IsListed-laid_out keys.profile listed).tagged (some_is_there keys.profile.tag_len some) in
-        ap (λ (b : Bool). if b then bears_sign keys.profile (opened keys 1 first) else accepts keys 1 first) (sym some) ∙ (sym (ciphered_fits keys first ciphered) ∙ fit)
-
 -- bytes between two offsets are the same where each is
 between_same : (a b : List ℕ) (i j : ℕ) → length a ≡ length b → ((k : ℕ) → i ≤ k → k < j → get_or a k 0 ≡ get_or b k 0) → slice_range a i j ≡ slice_range b i j
 between_same a b i j long same =
@@ -157,12 +139,20 @@ pub fits_too : (keys : FileKeys) (old new : List ℕ) → take 16 new ≡ take 1
     → fits keys old ≡ true → fits keys new ≡ true
 fits_too keys old new begins sign accepted fit = by_plain (is_plain keys.profile) refl
   where
-    by_tag : (b : Bool) → (if b then bears_sign keys.profile (opened keys 1 old) else accepts keys 1 old) ≡ true → (if b then bears_sign keys.profile (opened keys 1 new) else accepts keys 1 new) ≡ true
+    keyed_too : (headed a b d e : Bool) → d ≡ a → e ≡ true → (if headed then a && b else b) ≡ true → (if headed then d && e else e) ≡ true
+    keyed_too true true b d e begun accepted is = ap (λ (x : Bool). x && e) begun ∙ accepted
+    keyed_too true false b d e begun accepted is = cc
+    keyed_too false a b d e begun accepted is = accepted
+
+    begun : begins_with_magic new ≡ begins_with_magic old
+    begun = ap (λ (l : List ℕ). bytes_eq l magic) begins
+
+    by_tag : (b : Bool) → (if b then bears_sign keys.profile (opened keys 1 old) else keyed keys old) ≡ true → (if b then bears_sign keys.profile (opened keys 1 new) else keyed keys new) ≡ true
     by_tag true is = sign ∙ is
-    by_tag false is = accepted
+    by_tag false is = keyed_too (nat_lt 0 keys.profile.plain_header) (begins_with_magic old) (accepts keys 1 old) (begins_with_magic new) (accepts keys 1 new) begun accepted is
 
     by_plain : (b : Bool) → is_plain keys.profile ≡ b → fits keys new ≡ true
-    by_plain true plain = plain_fits keys new plain ∙ (ap (λ (l : List ℕ). bytes_eq l magic) begins ∙ (sym (plain_fits keys old plain) ∙ fit))
+    by_plain true plain = plain_fits keys new plain ∙ (begun ∙ (sym (plain_fits keys old plain) ∙ fit))
     by_plain false ciphered = ciphered_fits keys new ciphered ∙ by_tag (keys.profile.tag_len == 0) (sym (ciphered_fits keys old ciphered) ∙ fit)
 
 -- ---- page 1 of the settled file

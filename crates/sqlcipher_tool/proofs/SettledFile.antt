@@ -2,7 +2,7 @@
 use Rattle.std.proofs.Common.{◌≡◌, ◌⊎◌, ⊎_elim, inl, inr, ◌==◌, ◌≤◌, ◌<◌, ◌+◌, ◌^◌, ◌&&◌, ℕ, Bool, true, false, List, [], ◌∷◌, length, drop, Option, Some, Result, Ok, Err, IsTrue, refl, sym, ap, subst, ◌∙◌, arith, rules}
 use Rattle.std.specs.Prelude.{OnOk, if◌then◌else◌, not, unwrap_or}
 use Rattle.cipher_profile.proofs.Layouts.{IsListed-laid_out}
-use Rattle.cipher_profile.specs.Profile.{IsListed, set_log, usable, with_log}
+use Rattle.cipher_profile.specs.Profile.{IsListed, IsPlainHeader, set_log, usable, with_log}
 use Rattle.cipher_profile.specs.declared.keys.Secret.{Secret}
 use Rattle.cipher_profile.specs.declared.profile.Profile.{Profile}
 use Rattle.fresh_disk.specs.Published.{IsAlone}
@@ -127,7 +127,15 @@ module _ {D : Type 0} (reads : D → Files) (images : D → Files → Type 0) (m
 pub listed_set : (passes : Bool) (profile : Profile) → IsListed profile → IsListed (set_log passes profile)
 unfolding IsListed
 listed_set passes profile listed = ⊎_elim
-    (λ ciphered. inl (record { version = ciphered.version; size = ciphered.size; rounds = ciphered.rounds; tags = ciphered.tags; reserve = ciphered.reserve }))
+    (λ ciphered. inl (record {
+      version = ciphered.version;
+      size = ciphered.size;
+      rounds = ciphered.rounds;
+      tags = ciphered.tags;
+      reserve = ciphered.reserve;
+      header = ⊎_elim (λ none. inl none) (λ (header : IsPlainHeader profile).
+          inr (record { tagged = header.tagged; blocks = header.blocks; some = header.some; most = header.most })) ciphered.header;
+    }))
     (λ plain. inr plain) listed
 
 -- a page is sealed alike with the setting and without it

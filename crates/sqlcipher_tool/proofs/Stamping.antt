@@ -5,7 +5,7 @@ use Rattle.std.specs.Prelude.{OnOk, if◌then◌else◌, ◌&&◌, ◌==◌, tru
 use Rattle.std.specs.Str.{bytes_eq}
 use Rattle.std.proofs.lemmas.Slice.Eq.{bytes_eq-Decides}
 use Rattle.fresh_disk.specs.Published.{IsAlone}
-use Rattle.cipher_profile.specs.Profile.{IsListed, is_plain, usable}
+use Rattle.cipher_profile.specs.Profile.{IsListed, is_clear, usable}
 use Rattle.cipher_profile.specs.declared.profile.Profile.{Profile}
 use Rattle.cipher_profile.proofs.Layouts.{IsListed-laid_out}
 use Rattle.db_format.specs.declared.header.Header.{Header}
@@ -167,15 +167,16 @@ refused_later tells first now a b d e f h AllPinned same accepted disk entropy w
 -- a codec has the layout of itself
 pub layout_same : (keys : FileKeys) → same_layout keys keys ≡ true
 layout_same keys =
-    parts (keys.profile.page_size == keys.profile.page_size) (keys.profile.reserve == keys.profile.reserve) (beq keys.profile.reads_log keys.profile.reads_log) (bytes_eq keys.salt keys.salt)
-    (search rules) (search rules) (same_bool keys.profile.reads_log) ((bytes_eq-Decides keys.salt keys.salt).1 refl)
+    parts (keys.profile.page_size == keys.profile.page_size) (keys.profile.reserve == keys.profile.reserve) (beq keys.profile.reads_log keys.profile.reads_log)
+    (beq (is_clear keys.profile) (is_clear keys.profile)) (bytes_eq keys.salt keys.salt)
+    (search rules) (search rules) (same_bool keys.profile.reads_log) (same_bool (is_clear keys.profile)) ((bytes_eq-Decides keys.salt keys.salt).1 refl)
   where
     same_bool : (a : Bool) → beq a a ≡ true
     same_bool true = refl
     same_bool false = refl
 
-    parts : (a b d e : Bool) → a ≡ true → b ≡ true → d ≡ true → e ≡ true → (a && b && d && e) ≡ true
-    parts a b d e one two three four = search (rules, one, two, three, four)
+    parts : (a b d e f : Bool) → a ≡ true → b ≡ true → d ≡ true → e ≡ true → f ≡ true → (a && b && d && e && f) ≡ true
+    parts a b d e f one two three four five = search (rules, one, two, three, four, five)
 
 -- ---- a file that does not open
 
@@ -208,7 +209,7 @@ rose_from before mid now le rose = omega (arith, le, rose)
 
 -- files with the same salt have the same keys
 pub same_keys : (profile : Profile) (secret : Secret) (one two : List ℕ) → salt_of one ≡ salt_of two → keys_of profile secret one ≡ keys_of profile secret two
-same_keys profile secret one two same = ap (λ (salt : List ℕ). keys_with_salt profile secret (if is_plain profile then magic else salt)) same
+same_keys profile secret one two same = ap (λ (salt : List ℕ). keys_with_salt profile secret (if is_clear profile then magic else salt)) same
 
 -- ---- the disk
 
@@ -241,15 +242,15 @@ module _ {D : Type 0} (reads : D → Files) (images : D → Files → Type 0) (m
 
   is_new : (main : List ℕ) → HasPages main → IsNew main
   is_new main has = (
-    is_changed keys at bytes harmless n file header parts some salt room touched pages tells start.drawn after main is_page one has,
-    own_draws keys at bytes harmless n file header parts some salt room touched pages tells start.drawn after main is_page one has,
+    is_changed keys at bytes harmless n file header parts some salt room listed touched pages tells start.drawn after main is_page one has,
+    own_draws keys at bytes harmless n file header parts some salt room listed touched pages tells start.drawn after main is_page one has,
   )
 
   counts_new : (main : List ℕ) → HasPages main → (len : ℕ) → n * keys.profile.page_size ≤ len → count_by keys (page_stored keys main 1) len ≡ Some n
-  counts_new main has = new_count keys at bytes harmless n file header parts some salt room touched pages tells start.drawn after main is_page one has
+  counts_new main has = new_count keys at bytes harmless n file header parts some salt room listed touched pages tells start.drawn after main is_page one has
 
   is_long : (main : List ℕ) → HasPages main → n * keys.profile.page_size ≤ length main
-  is_long main has = new_long keys at bytes harmless n file header parts some salt room touched pages tells start.drawn after main is_page one has
+  is_long main has = new_long keys at bytes harmless n file header parts some salt room listed touched pages tells start.drawn after main is_page one has
 
   -- the commit was done
   pub done : HasNew (main_of (reads new)) → Each (images new) (IsCommitted start.base (main_of (reads new)))

@@ -1,11 +1,11 @@
 -- A page 1 without the marks of WAL mode and of auto-vacuum is read whether marks pass or not, and keys with the setting and without it are
 -- otherwise the same.
-use Rattle.std.proofs.Common.{◌≡◌, inl, inr, ◌==◌, ◌≤◌, ◌<◌, ◌+◌, ◌&&◌, not, ℕ, suc, zero, Bool, true, false, List, [], ◌∷◌, length, map, Option, Some, None, Result, Ok, refl, sym, ap, subst, ◌∙◌, arith, rules}
+use Rattle.std.proofs.Common.{◌≡◌, inl, inr, ◌==◌, ◌≤◌, ◌<◌, ◌+◌, ◌&&◌, not, ℕ, suc, zero, Bool, true, false, List, [], ◌∷◌, length, map, Option, Some, None, Result, Ok, refl, sym, ap, subst, ◌∙◌, arith}
 use Rattle.std.specs.List.{range_with_len, slice_index_or}
 use Rattle.std.specs.Prelude.{if◌then◌else◌, nat_lt, slice_get, slice_index, unwrap_or}
 use Rattle.cipher_profile.specs.Profile.{set_log}
 use Rattle.cipher_profile.specs.declared.keys.Secret.{Secret}
-use Rattle.cipher_profile.specs.declared.keys.Secret.TheVariants.{Raw, Pass, NoKey}
+use Rattle.cipher_profile.specs.declared.keys.Secret.TheVariants.{Raw, Pass, SaltedRaw, SaltedPass, NoKey}
 use Rattle.cipher_profile.specs.declared.profile.Profile.{Profile}
 use Rattle.db_format.proofs.HeaderLemmas.{header_read-as}
 use Rattle.db_format.specs.Bytes.{u8_at, u16_at, u32_at}
@@ -122,6 +122,8 @@ pub keys_set_of : (passes other : Bool) (profile : Profile) (secret : Secret) (f
     → keys_set passes (keys_of (set_log other profile) secret file) ≡ keys_of (set_log passes profile) secret file
 keys_set_of passes other profile (Raw key) file = refl
 keys_set_of passes other profile (Pass passphrase) file = refl
+keys_set_of passes other profile (SaltedRaw key salt) file = refl
+keys_set_of passes other profile (SaltedPass passphrase salt) file = refl
 keys_set_of passes other profile NoKey file = refl
 
 pub opened_set : (passes : Bool) (keys : FileKeys) (n : ℕ) (stored : List ℕ) → opened (keys_set passes keys) n stored ≡ opened keys n stored

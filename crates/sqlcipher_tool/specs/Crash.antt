@@ -7,6 +7,7 @@ use Rattle.fresh_file.specs.Draws.{HasOwnDraws as AreOwn}
 use Rattle.make_job.specs.Free.{HasNeither}
 use Rattle.make_job.specs.Made.{IsMade}
 use Rattle.cipher_profile.specs.declared.keys.Secret.{Secret}
+use Rattle.cipher_profile.specs.declared.profile.LineForm.{LineForm}
 use Rattle.cipher_profile.specs.declared.profile.Profile.{Profile}
 use Rattle.rollback_journal.specs.Recovery.{KeepsRecovered}
 use Rattle.sqlcipher_tool.specs.declared.command.Command.{Command}
@@ -122,7 +123,7 @@ MakesWith status profile rows tells drawn run (secret ∷ rest) = Makes status p
 -- ---- by command
 
 -- these secrets are given for those that are asked for, by an input that tells its bytes, where a key line is taken of it
-abbrev pub GaveKeys : Bool → List Bool → List ℕ → List Secret → Type 0
+abbrev pub GaveKeys : Bool → List (Option LineForm) → List ℕ → List Secret → Type 0
 GaveKeys tells asked left secrets = (asks_some asked ≡ true → IsTrue tells) × (key_lines asked left ≡ Ok secrets)
 
 -- what a command keeps, whatever its status

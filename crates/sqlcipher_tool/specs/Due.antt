@@ -3,17 +3,18 @@
 use Rattle.std.specs.Prelude.{ℕ, Bool, true, false, List, [], ◌∷◌, Option, Some, None, Result, Ok, Err, if◌then◌else◌}
 use Rattle.edge_model.specs.Files.{Files, main_of}
 use Rattle.cipher_profile.specs.declared.key_line.KeyError.{KeyError}
-use Rattle.cipher_profile.specs.declared.key_line.KeyError.TheVariants.{KeyMissing, KeyEmpty, KeyTooLong, KeyForm, SourceFault}
+use Rattle.cipher_profile.specs.declared.key_line.KeyError.TheVariants.{KeyMissing, KeyEmpty, KeyTooLong, KeyForm, KeyUnsalted, KeyNotHex, SourceFault}
 use Rattle.cipher_profile.specs.declared.keys.Secret.{Secret}
 use Rattle.cipher_profile.specs.declared.keys.Secret.TheVariants.{NoKey}
 use Rattle.cipher_profile.specs.KeyLine.{after_line, key_line}
+use Rattle.cipher_profile.specs.declared.profile.LineForm.{LineForm}
 use Rattle.sqlcipher_tool.specs.Answer.{Answer, refused, usage}
 use Rattle.sqlcipher_tool.specs.declared.change.Change.{Change}
 use Rattle.sqlcipher_tool.specs.declared.change.Change.TheVariants.{Stamp, Settle, Rekey, Migrate}
 use Rattle.sqlcipher_tool.specs.declared.command.Command.{Command}
 use Rattle.sqlcipher_tool.specs.declared.command.Command.TheVariants.{Probe, Recover, Read, Change as ChangeFile, Make}
 use Rattle.sqlcipher_tool.specs.declared.status.Refusal.{Refusal}
-use Rattle.sqlcipher_tool.specs.declared.status.Refusal.TheVariants.{OnlyRead, NoTags, LayoutDiffers, KeyMissing as RefusedMissing, KeyEmpty as RefusedEmpty, KeyTooLong as RefusedLong, KeyForm as RefusedForm}
+use Rattle.sqlcipher_tool.specs.declared.status.Refusal.TheVariants.{OnlyRead, NoTags, LayoutDiffers, KeyMissing as RefusedMissing, KeyEmpty as RefusedEmpty, KeyTooLong as RefusedLong, KeyForm as RefusedForm, KeyUnsalted as RefusedUnsalted, KeyNotHex as RefusedNotHex}
 use Rattle.sqlcipher_tool.specs.declared.status.Status.TheVariants.{InputFault}
 use Rattle.sqlcipher_tool.specs.Reading.{reading_answers}
 use Rattle.sqlcipher_tool.specs.Make.{make_answers}
@@ -32,25 +33,25 @@ word_refusal command =
     if is_only_read command then Some OnlyRead
     else (if lacks_tags command then Some NoTags else (if layouts_differ command then Some LayoutDiffers else None))
 
--- the next secret: that of a key line, where one is read for it, and else that of a plain file
-abbrev pub secret_line : Bool → List ℕ → Result Secret KeyError
-secret_line true left = key_line left
-secret_line false left = Ok NoKey
+-- the next secret: that of a key line of this form, where one is read for it, and else that of a plain file
+abbrev pub secret_line : Option LineForm → List ℕ → Result Secret KeyError
+secret_line (Some form) left = key_line form left
+secret_line None left = Ok NoKey
 
 -- the input behind it
-abbrev pub rest_line : Bool → List ℕ → List ℕ
-rest_line true left = after_line left
-rest_line false left = left
+abbrev pub rest_line : Option LineForm → List ℕ → List ℕ
+rest_line (Some form) left = after_line left
+rest_line None left = left
 
--- the secrets, for each of which a key line is read or not, or the error of the first line that gives none
+-- the secrets, for each of which a key line of a form is read or none, or the error of the first line that gives none
 abbrev pub and_secrets : Result Secret KeyError → Result (List Secret) KeyError → Result (List Secret) KeyError
 and_secrets (Err error) rest = Err error
 and_secrets (Ok secret) (Err error) = Err error
 and_secrets (Ok secret) (Ok rest) = Ok (secret ∷ rest)
 
-abbrev pub key_lines : List Bool → List ℕ → Result (List Secret) KeyError
+abbrev pub key_lines : List (Option LineForm) → List ℕ → Result (List Secret) KeyError
 key_lines [] left = Ok []
-key_lines (asks ∷ more) left = and_secrets (secret_line asks left) (key_lines more (rest_line asks left))
+key_lines (form ∷ more) left = and_secrets (secret_line form left) (key_lines more (rest_line form left))
 
 -- the answer to a key line that gives no secret; the last is never due to a line
 abbrev pub key_answer : KeyError → Answer
@@ -58,6 +59,8 @@ key_answer KeyMissing = refused RefusedMissing
 key_answer KeyEmpty = refused RefusedEmpty
 key_answer KeyTooLong = refused RefusedLong
 key_answer KeyForm = refused RefusedForm
+key_answer KeyUnsalted = refused RefusedUnsalted
+key_answer KeyNotHex = refused RefusedNotHex
 key_answer SourceFault = record { status = InputFault; text = []; begun = [] }
 
 -- a command with one secret

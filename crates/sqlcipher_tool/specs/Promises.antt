@@ -1,8 +1,9 @@
 -- The words of the top call's clauses.
-use Rattle.std.specs.Prelude.{◌≡◌, ◌⊎◌, ◌≤◌, ◌+◌, ◌*◌, ◌==◌, ℕ, not, Bool, true, false, IsTrue, List, [], ◌∷◌, ◌++◌, drop, Some, None, Result, Ok, Err}
+use Rattle.std.specs.Prelude.{◌≡◌, ◌⊎◌, ◌≤◌, ◌+◌, ◌*◌, ◌==◌, ℕ, not, Bool, true, false, IsTrue, List, [], ◌∷◌, ◌++◌, drop, Option, Some, None, Result, Ok, Err}
 use Rattle.std.specs.List.{Contains}
 use Rattle.cipher_profile.specs.declared.keys.Secret.{Secret}
 use Rattle.cipher_profile.specs.declared.key_line.KeyError.{KeyError}
+use Rattle.cipher_profile.specs.declared.profile.LineForm.{LineForm}
 use Rattle.text_lines.specs.Text.{PutsPart}
 use Rattle.sqlcipher_tool.specs.Answer.{Answer, IsAnswered}
 use Rattle.edge_model.specs.Files.{Files}
@@ -19,12 +20,12 @@ use Rattle.sqlcipher_tool.specs.Words.{form, asked_keys, takes_memory}
 -- ---- what was asked
 
 -- how many key lines are read
-abbrev pub lines_read : List Bool → ℕ
+abbrev pub lines_read : List (Option LineForm) → ℕ
 lines_read [] = 0
-lines_read (true ∷ rest) = 1 + lines_read rest
-lines_read (false ∷ rest) = lines_read rest
+lines_read (Some form ∷ rest) = 1 + lines_read rest
+lines_read (None ∷ rest) = lines_read rest
 
-abbrev pub asks_some : List Bool → Bool
+abbrev pub asks_some : List (Option LineForm) → Bool
 asks_some asked = not (lines_read asked == 0)
 
 -- a key line is read for it
@@ -56,9 +57,9 @@ abbrev pub left_after : Result Secret KeyError → List ℕ → List ℕ → Lis
 left_after (Ok secret) rest left = rest
 left_after (Err error) rest left = left
 
-abbrev pub after_lines : List Bool → List ℕ → List ℕ
+abbrev pub after_lines : List (Option LineForm) → List ℕ → List ℕ
 after_lines [] left = left
-after_lines (asks ∷ more) left = left_after (secret_line asks left) (after_lines more (rest_line asks left)) (rest_line asks left)
+after_lines (form ∷ more) left = left_after (secret_line form left) (after_lines more (rest_line form left)) (rest_line form left)
 
 -- the two secrets of a command, as a list
 abbrev pub secrets_of : Secrets → List Secret
@@ -77,7 +78,7 @@ pub record TakesAtMost (most : ℕ) (before after : List ℕ) : Type 0 where
 
 -- The key lines that are read for the secrets are taken, up to the first that gives none, and no byte more. After a fault of the input it may be
 -- fewer, a line of at most 1,025 bytes each.
-abbrev pub TakesLines : Status → List Bool → List ℕ → List ℕ → Type 0
+abbrev pub TakesLines : Status → List (Option LineForm) → List ℕ → List ℕ → Type 0
 TakesLines Done asked before after = after ≡ after_lines asked before
 TakesLines Usage asked before after = after ≡ after_lines asked before
 TakesLines (Refused refusal) asked before after = after ≡ after_lines asked before

@@ -8,7 +8,7 @@
 -- In runs 0 and 2 FILE-wal is no file of the disk: in run 0 it stays as it is, in run 2 there is none. In run 1 there is no FILE-journal. Each run begins
 -- with what the one before it leaves (`Joins`).
 use Rattle.std.specs.Prelude.{◌≡◌, ℕ, Bool, IsTrue, List, Option, Some, None}
-use Rattle.edge_model.specs.Files.{File, Files, bytes_of}
+use Rattle.edge_model.specs.Files.{Files, bytes_of}
 use Rattle.edge_model.specs.Images.{Each, From}
 use Rattle.log_recovery.specs.Opened.{KeepsOpened, OpensTo}
 use Rattle.pager.specs.Database.{database}

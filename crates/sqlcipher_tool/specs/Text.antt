@@ -1,5 +1,5 @@
 -- What is printed. Each line ends with a line feed, and numbers are decimal.
-use Rattle.std.specs.Prelude.{ℕ, List, [], ◌++◌, codes, decimal}
+use Rattle.std.specs.Prelude.{ℕ, List, ◌++◌, codes, decimal}
 use Rattle.std.specs.Fmt.{signed_decimal}
 use Rattle.std.specs.List.{flat_map}
 use Rattle.btree_model.specs.Parts.{Counts}
@@ -12,7 +12,7 @@ use Rattle.rollback_journal.specs.declared.recovery.Recovery.TheVariants.{Nothin
 use Rattle.profile_word.specs.Wording.{word_of}
 use Rattle.text_lines.specs.Text.{line, field_line}
 use Rattle.sqlcipher_tool.specs.declared.status.Refusal.{Refusal}
-use Rattle.sqlcipher_tool.specs.declared.status.Refusal.TheVariants.{NoTags, LayoutDiffers, OnlyRead, LogVersion, LogPageSize, LogShort, LogTooLarge, LogOfOther, KeyMissing, KeyEmpty, KeyTooLong, KeyForm, FileThere, JournalThere, Empty, Short, HeaderFault, WalMode, AutoVacuum, Ragged, TooLarge, PageTag, JournalPageSize, SuperJournal, Defect as RefusedDefect, TooManyPages, NoTable, IndexesDiffer, ScriptLine, LineTooLong, TooManyLines}
+use Rattle.sqlcipher_tool.specs.declared.status.Refusal.TheVariants.{NoTags, LayoutDiffers, OnlyRead, LogVersion, LogPageSize, LogShort, LogTooLarge, LogOfOther, KeyMissing, KeyEmpty, KeyTooLong, KeyForm, KeyUnsalted, KeyNotHex, FileThere, JournalThere, Empty, Short, HeaderFault, WalMode, AutoVacuum, Ragged, TooLarge, PageTag, JournalPageSize, SuperJournal, Defect as RefusedDefect, TooManyPages, NoTable, IndexesDiffer, ScriptLine, LineTooLong, TooManyLines}
 
 -- what is said of a page
 abbrev pub of_page : ℕ → List ℕ → List ℕ
@@ -43,6 +43,8 @@ refusal_text KeyMissing = codes "key missing"
 refusal_text KeyEmpty = codes "key empty"
 refusal_text KeyTooLong = codes "key too long"
 refusal_text KeyForm = codes "key with salt"
+refusal_text KeyUnsalted = codes "key without salt"
+refusal_text KeyNotHex = codes "key is not hex"
 refusal_text FileThere = codes "file is there"
 refusal_text JournalThere = codes "journal is there"
 refusal_text Empty = codes "file is empty"

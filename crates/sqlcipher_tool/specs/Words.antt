@@ -27,8 +27,9 @@ use Rattle.std.specs.List.{list_all}
 use Rattle.std.specs.Option.{option_map, option_and_then}
 use Rattle.std.specs.Str.{bytes_eq}
 use Rattle.std.specs.Str.Parse.{digits_value, starts_with_minus}
-use Rattle.cipher_profile.specs.Profile.{IsListed, is_plain, set_log}
+use Rattle.cipher_profile.specs.Profile.{IsListed, form_of, is_clear, is_plain, set_log}
 use Rattle.profile_word.specs.Word.{named_without_log, profile_named}
+use Rattle.cipher_profile.specs.declared.profile.LineForm.{LineForm}
 use Rattle.cipher_profile.specs.declared.profile.Profile.{Profile}
 use Rattle.text_lines.specs.Numbers.{number_named}
 use Rattle.sqlcipher_tool.specs.declared.command.Command.{Command}
@@ -148,12 +149,12 @@ profile_after profile (Settle frames) = profile
 profile_after profile (Rekey new) = new
 profile_after profile (Migrate new) = new
 
--- a key line is read for the new file alone, which is not that of a plain file
-abbrev pub asks_again : Change → Bool
-asks_again (Stamp field value) = false
-asks_again (Settle frames) = false
-asks_again (Rekey new) = not (is_plain new)
-asks_again (Migrate new) = not (is_plain new)
+-- the form of a key line that is read for the new file alone, where one is
+abbrev pub second_form : Change → Option LineForm
+second_form (Stamp field value) = None
+second_form (Settle frames) = None
+second_form (Rekey new) = form_of new
+second_form (Migrate new) = form_of new
 
 -- it goes by a journal, and leaves Fresh as it is
 abbrev pub is_in_place : Change → Bool
@@ -163,11 +164,12 @@ is_in_place (Rekey new) = true
 is_in_place (Migrate new) = false
 
 -- it asks for new keys in place, of a profile whose pages have another size or reserve, or which has another setting, or of a plain
--- file, which has no key
+-- file, which has no key; or one of both files begins with its salt and the other does not
 abbrev pub changes_layout : Profile → Change → Bool
 changes_layout old (Stamp field value) = false
 changes_layout old (Settle frames) = false
-changes_layout old (Rekey new) = is_plain old || not (old.page_size == new.page_size && old.reserve == new.reserve && beq old.reads_log new.reads_log)
+changes_layout old (Rekey new) =
+    is_plain old || not (old.page_size == new.page_size && old.reserve == new.reserve && beq old.reads_log new.reads_log && beq (is_clear old) (is_clear new))
 changes_layout old (Migrate new) = false
 
 -- it asks for tags that the profile has not
@@ -191,8 +193,9 @@ shows_rows Salvage = false
 shows_rows (OnPages job) = prints_rows job
 
 pub record Traits : Type 0 where
-  -- for each of two secrets, whether a key line is read for it: that of a plain file is none, and so is one that the command does not take
-  pub asked : List Bool
+  -- for each of two secrets, the form of the key line that is read for it: that of a plain file is none, and so is one that the command does
+  -- not take
+  pub asked : List (Option LineForm)
   -- the profile by which it recovers Main
   pub recovers : Option Profile
   -- it takes memory
@@ -212,9 +215,13 @@ pub record Traits : Type 0 where
   -- it asks for new keys in place where the layouts differ
   pub mismatched : Bool
 
+-- the key line of `probe`: of a file that begins with its salt, and not in hex
+abbrev pub probed_form : LineForm
+probed_form = record { hex = false; salted = false }
+
 abbrev pub traits : Command → Traits
 traits Probe = record {
-  asked = true ∷ false ∷ [];
+  asked = Some probed_form ∷ None ∷ [];
   recovers = None;
   memory = false;
   altering = false;
@@ -226,7 +233,7 @@ traits Probe = record {
   mismatched = false;
 }
 traits (Recover profile) = record {
-  asked = false ∷ false ∷ [];
+  asked = None ∷ None ∷ [];
   recovers = Some profile;
   memory = true;
   altering = false;
@@ -238,7 +245,7 @@ traits (Recover profile) = record {
   mismatched = false;
 }
 traits (Read profile reading) = record {
-  asked = not (is_plain profile) ∷ false ∷ [];
+  asked = form_of profile ∷ None ∷ [];
   recovers = Some profile;
   memory = true;
   altering = false;
@@ -250,7 +257,7 @@ traits (Read profile reading) = record {
   mismatched = false;
 }
 traits (ChangeFile profile change) = record {
-  asked = not (is_plain profile) ∷ asks_again change ∷ [];
+  asked = form_of profile ∷ second_form change ∷ [];
   recovers = Some profile;
   memory = true;
   altering = true;
@@ -262,7 +269,7 @@ traits (ChangeFile profile change) = record {
   mismatched = changes_layout profile change;
 }
 traits (Make profile rows) = record {
-  asked = not (is_plain profile) ∷ false ∷ [];
+  asked = form_of profile ∷ None ∷ [];
   recovers = None;
   memory = true;
   altering = true;
@@ -274,7 +281,7 @@ traits (Make profile rows) = record {
   mismatched = false;
 }
 
-abbrev pub asked_keys : Command → List Bool
+abbrev pub asked_keys : Command → List (Option LineForm)
 asked_keys command = (traits command).asked
 
 abbrev pub recovers_by : Command → Option Profile

@@ -20,7 +20,7 @@ ghost use Rattle.sqlcipher_tool.specs.Promises.{AnswersOne, IsUnrecovered};
 ghost use Rattle.sqlcipher_tool.specs.Recovered.{recovered_answers};
 ghost use Rattle.sqlcipher_tool.specs.Renewal.{AreDrawnBy, IsNewDrawn, renewed, secret_after};
 ghost use Rattle.sqlcipher_tool.specs.Untouched.{HasNoFile, IsUnwritten};
-ghost use Rattle.sqlcipher_tool.specs.Words.{IsServed, asks_again, changes_layout, is_in_place, profile_after, profile_before};
+ghost use Rattle.sqlcipher_tool.specs.Words.{IsServed, second_form, changes_layout, is_in_place, profile_after, profile_before};
 ghost use Rattle.sqlcipher_tool.specs.declared.command.Command.TheVariants.{Change as ChangeFile};
 
 use crate::command::Field;
@@ -33,7 +33,7 @@ use crate::secrets::Secrets;
 use crate::settle::settle_file;
 use crate::stamp::stamp_file;
 use crate::status::Status;
-use cipher_profile::Profile;
+use cipher_profile::{LineForm, Profile};
 use edge_model::{Disk, Entropy, Sink};
 use std::alloc::Global;
 use text_lines::Text;
@@ -84,18 +84,18 @@ impl Change {
         }
     }
 
-    /// Whether a key line is read for the new file alone.
-    pub fn asks_again(&self) -> bool
-        ensures { result ≡ asks_again self.now }
+    /// The form of a key line that is read for the new file alone, where one is.
+    pub fn second_form(&self) -> Option<LineForm>
+        ensures { result ≡ second_form self.now }
     {
         match self {
-            Change::Stamp { .. } | Change::Settle { .. } => false,
-            Change::Rekey(new) | Change::Migrate(new) => !new.is_plain(),
+            Change::Stamp { .. } | Change::Settle { .. } => None,
+            Change::Rekey(new) | Change::Migrate(new) => new.line_form(),
         }
     }
 
     /// Whether it asks for new keys in place, of a profile whose pages have another size or reserve, or which has another setting,
-    /// or of a plain file.
+    /// or of a plain file; or one of both files begins with its salt and the other does not.
     pub fn changes_layout(&self, old: &Profile) -> bool
         ensures { result ≡ changes_layout old.now self.now }
     {
@@ -104,7 +104,8 @@ impl Change {
                 old.is_plain()
                     || !(old.page_size == new.page_size
                         && old.reserve == new.reserve
-                        && old.reads_log == new.reads_log)
+                        && old.reads_log == new.reads_log
+                        && old.is_clear() == new.is_clear())
             }
             Change::Stamp { .. } | Change::Settle { .. } | Change::Migrate(_) => false,
         }

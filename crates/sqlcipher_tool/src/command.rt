@@ -8,7 +8,7 @@ ghost use Rattle.sqlcipher_tool.specs.Words.{form, play_form, find_form, stamp_f
 use crate::change::Change;
 use crate::reading::{Job, Reading};
 use crate::status::Refusal;
-use cipher_profile::Profile;
+use cipher_profile::{LineForm, Profile};
 use profile_word::{profile_of, profile_without_log};
 use std::marker::Model;
 use text_lines::number_of;
@@ -71,6 +71,12 @@ pub enum Command<'w> {
     },
 }
 
+// The key line of `probe`: of a file that begins with its salt, and not in hex.
+const PROBED_FORM: LineForm = LineForm {
+    hex: false,
+    salted: false,
+};
+
 impl<'w> Command<'w> {
     /// Why it is refused by its words alone, if it is.
     pub fn refusal(&self) -> Option<Refusal>
@@ -88,16 +94,16 @@ impl<'w> Command<'w> {
         None
     }
 
-    /// For each of two secrets, that of the file and that of the new file, whether a key line is read for it.
-    pub fn asked_keys(&self) -> (bool, bool)
+    /// For each of two secrets, that of the file and that of the new file, the form of the key line that is read for it, where one is.
+    pub fn asked_keys(&self) -> (Option<LineForm>, Option<LineForm>)
         ensures { asked_keys self.now ≡ result.0 ∷ result.1 ∷ [] }
     {
         match self {
-            Command::Probe => (true, false),
-            Command::Recover(_) => (false, false),
-            Command::Read(profile, _) => (!profile.is_plain(), false),
-            Command::Change(profile, change) => (!profile.is_plain(), change.asks_again()),
-            Command::Make { profile, .. } => (!profile.is_plain(), false),
+            Command::Probe => (Some(PROBED_FORM), None),
+            Command::Recover(_) => (None, None),
+            Command::Read(profile, _) => (profile.line_form(), None),
+            Command::Change(profile, change) => (profile.line_form(), change.second_form()),
+            Command::Make { profile, .. } => (profile.line_form(), None),
         }
     }
 

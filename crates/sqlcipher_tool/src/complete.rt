@@ -1,6 +1,7 @@
 // That nothing but what stands in its way, a fault outside and want of memory keep a command from being done.
-ghost use Rattle.std.specs.Prelude.{◌≡◌, ◌∷◌, [], ℕ, Bool, List, Ok, Option, codes, length};
+ghost use Rattle.std.specs.Prelude.{◌≡◌, ◌∷◌, [], ℕ, List, Ok, Option, codes, length};
 ghost use Rattle.cipher_profile.specs.declared.keys.Secret.{Secret};
+ghost use Rattle.cipher_profile.specs.declared.profile.LineForm.{LineForm};
 ghost use Rattle.cipher_profile.specs.declared.profile.Profile.{Profile};
 ghost use Rattle.cipher_profile.specs.Profile.{IsListed};
 ghost use Rattle.edge_model.specs.Files.{File, Files, no_files};
@@ -13,7 +14,7 @@ ghost use Rattle.sqlcipher_tool.specs.declared.change.Change.TheVariants.{Migrat
 
 /// Each secret that is asked for is given, by a key line or without one.
 pub fn key_lines_law()
-    ensures { (asked : List Bool) (left : List ℕ) (secrets : List Secret) → key_lines asked left ≡ Ok secrets → length secrets ≡ length asked }
+    ensures { (asked : List (Option LineForm)) (left : List ℕ) (secrets : List Secret) → key_lines asked left ≡ Ok secrets → length secrets ≡ length asked }
 {}
 
 /// Where nothing stands in the way of the command that the words make, Done alone is due.

@@ -68,6 +68,8 @@ pub fn conclude_key<S: Sink>(out: &mut S, error: KeyError) -> Status
         KeyError::KeyEmpty => conclude_refusal(out, Refusal::KeyEmpty),
         KeyError::KeyTooLong => conclude_refusal(out, Refusal::KeyTooLong),
         KeyError::KeyForm => conclude_refusal(out, Refusal::KeyForm),
+        KeyError::KeyUnsalted => conclude_refusal(out, Refusal::KeyUnsalted),
+        KeyError::KeyNotHex => conclude_refusal(out, Refusal::KeyNotHex),
         KeyError::SourceFault => Status::InputFault,
     }
 }

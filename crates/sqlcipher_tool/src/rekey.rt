@@ -6,7 +6,7 @@ ghost use Rattle.fresh_disk.specs.Published.{IsAlone};
 ghost use Rattle.edge_model.specs.Causes.{Rose};
 ghost use Rattle.edge_model.specs.Images.{Each, From, LeavesOnly};
 ghost use Rattle.edge_model.specs.OnlyRead.{OnlyRead};
-ghost use Rattle.cipher_profile.specs.Profile.{IsListed};
+ghost use Rattle.cipher_profile.specs.Profile.{IsListed, is_clear};
 ghost use Rattle.db_format.specs.Source.{no_pins};
 ghost use Rattle.page_codec.specs.Page.{keys_of, salt_of};
 ghost use Rattle.edge_model.specs.Files.{main_of};
@@ -46,7 +46,7 @@ pub fn rekey_file<E: Entropy, D: Disk>(
     disk: &mut D,
 ) -> Result<Text, ChangeError>
     requires listed { IsListed old × IsListed new }
-    requires layout { (new.page_size ≡ old.page_size) × (new.reserve ≡ old.reserve) × (new.reads_log ≡ old.reads_log) }
+    requires layout { (new.page_size ≡ old.page_size) × (new.reserve ≡ old.reserve) × (new.reads_log ≡ old.reads_log) × (is_clear new ≡ is_clear old) }
     requires recovered { IsTrue D.tells → AreRecovered (D.reads disk.old) (D.images disk.old) }
     requires alone { IsTrue D.tells → old.page_size ≤ length (main_of (D.reads disk.old)) → Each (D.images disk.old) (IsAlone (main_of (D.reads disk.old))) }
     ensures told { IsTrue D.tells → (answer : Answer) → change_answer result ≡ Some answer → Contains (rekey_answers old first.now (main_of (D.reads disk.old))) answer }
@@ -88,7 +88,7 @@ fn rekey_pages<'d, D: Disk, E: Entropy>(
     write: Codec,
 ) -> (&'d mut D, &'d mut E, Result<Text, ChangeError>)
     requires layout { (write.profile.page_size ≡ pager.codec.profile.page_size) × (write.profile.reserve ≡ pager.codec.profile.reserve)
-        × (write.profile.reads_log ≡ pager.codec.profile.reads_log) × (write.salt ≡ pager.codec.salt) }
+        × (write.profile.reads_log ≡ pager.codec.profile.reads_log) × (is_clear write.profile ≡ is_clear pager.codec.profile) × (write.salt ≡ pager.codec.salt) }
     requires unpinned { pins_of pager.cache.held ≡ no_pins }
     requires salt { IsTrue D.tells → pager.codec.salt ≡ salt_of (main_of (D.reads pager.disk.now)) }
     requires opened { IsTrue D.tells → file_opened pager.codec (main_of (D.reads pager.disk.now)) ≡ Ok (record { header = pager.header; count = pager.count }) }

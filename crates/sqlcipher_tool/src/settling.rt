@@ -1,7 +1,7 @@
 // `settle` of a file with its log: the steps of it, each over a disk of the same folder. `specs/Seams.antt` says how they join.
-ghost use Rattle.std.specs.Prelude.{◌≡◌, ◌⊎◌, ◌≢◌, ◌≤◌, ◌<◌, ◌∷◌, [], length, drop, true, false, not, None, Some, Ok, Err, IfErr, IfOk, IfSome, IsTrue, OnOk};
+ghost use Rattle.std.specs.Prelude.{◌≡◌, ◌⊎◌, ◌≢◌, ◌≤◌, ◌<◌, ◌∷◌, [], length, drop, true, false, None, Some, Ok, Err, IfErr, IfOk, IfSome, IsTrue, OnOk};
 ghost use Rattle.btree_walk.specs.Causes.{is_failure};
-ghost use Rattle.cipher_profile.specs.Profile.{IsListed, is_plain};
+ghost use Rattle.cipher_profile.specs.Profile.{IsListed, form_of, is_plain};
 ghost use Rattle.db_format.specs.Header.{header_fields};
 ghost use Rattle.db_format.specs.Source.{no_pins};
 ghost use Rattle.edge_model.specs.Causes.{HasCause, Rose};
@@ -75,7 +75,7 @@ pub fn key_to_settle<K: Source, S: Sink>(
     out: &mut S,
 ) -> Result<Secrets, Status>
     ensures told { IfOk result (λ secrets. (is_plain profile ≡ false → IsTrue K.tells)
-        → key_lines (not (is_plain profile) ∷ false ∷ []) (K.left input.old) ≡ Ok (secrets_of secrets)) }
+        → key_lines (form_of profile ∷ None ∷ []) (K.left input.old) ≡ Ok (secrets_of secrets)) }
     ensures ends { IfErr result IsKeyStatus }
     ensures input_fault { result ≡ Err Status.InputFault → Rose (K.faults input.old) (K.faults input.new) }
     ensures asked { IfErr result (λ status. is_plain profile ≡ false) }
@@ -83,7 +83,7 @@ pub fn key_to_settle<K: Source, S: Sink>(
     ensures line { IfErr result (λ status. IsTrue S.tells → PutsLine status (S.taken out.old) (S.taken out.new)) }
     ensures quiet { OnOk result (out.new ≡ out.old) }
 {
-    match read_secrets((!profile.is_plain(), false), input) {
+    match read_secrets((profile.line_form(), None), input) {
         Ok(secrets) => Ok(secrets),
         Err(error) => Err(conclude_key(out, error)),
     }
@@ -323,14 +323,14 @@ fn has_other_salt<D: Disk>(
     Ok(fits && codec.salt().as_slice() != salt.as_slice())
 }
 
-// Whether this is the salt with which an encrypted Main begins: then no key has to be derived.
+// Whether this is the salt with which Main begins, where it begins with one: then no key has to be derived.
 fn begins_with<D: Disk>(profile: Profile, salt: &[u8; 16], disk: &mut D) -> Result<bool, Failed>
     requires long { IsTrue D.tells → 16 ≤ length (main_of (D.reads disk.old)) }
     ensures told { IfOk result (λ same. IsTrue D.tells → same ≡ true → codec_salt profile (main_of (D.reads disk.old)) ≡ salt.now) }
     ensures cause { HasCause (D.faults disk.old) (D.faults disk.new) result }
     ensures only_read { IsTrue D.tells → OnlyRead D.reads D.images D.moment D.since disk.old disk.new }
 {
-    if profile.is_plain() {
+    if profile.is_clear() {
         return Ok(false);
     }
     let mut own = [0u8; 16];

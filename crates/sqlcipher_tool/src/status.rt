@@ -19,8 +19,12 @@ pub enum Refusal {
     KeyEmpty,
     /// 1,025 bytes came without a line feed.
     KeyTooLong,
-    /// The key line holds a raw key and a salt.
+    /// The key line holds a raw key and a salt, and the file begins with its salt.
     KeyForm,
+    /// The key line holds no salt, and the file does not either.
+    KeyUnsalted,
+    /// The key line is no passphrase in hex digits.
+    KeyNotHex,
     /// There is a file already.
     FileThere,
     /// A journal stands beside the file, or where the file would be.

@@ -66,6 +66,8 @@ fn refusal_text(refusal: &Refusal) -> Text
         Refusal::KeyEmpty => text.push(b"key empty"),
         Refusal::KeyTooLong => text.push(b"key too long"),
         Refusal::KeyForm => text.push(b"key with salt"),
+        Refusal::KeyUnsalted => text.push(b"key without salt"),
+        Refusal::KeyNotHex => text.push(b"key is not hex"),
         Refusal::FileThere => text.push(b"file is there"),
         Refusal::JournalThere => text.push(b"journal is there"),
         Refusal::Empty => text.push(b"file is empty"),

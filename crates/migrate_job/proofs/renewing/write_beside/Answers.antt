@@ -58,7 +58,7 @@ returns-clause-written g c =
     let same : now ≡ pages = pages_beside p.codec q.codec (d.reads p.disk.now) (d.reads q.disk.now) p.count q.count drew.file.0 (drew.beside.only_fresh told).main drew.file.2 in
     beside_as d.reads d.images (IsSalted keys (IsMigratedUnder keys q.header now)) (IsMigrated profile secret p.header pages) r.disk.now
     (λ file salted. migrated_as profile secret p.header q.header pages now drew.file.1 same file
-    (told_as profile secret c.in-Ok.salt (λ k l. IsMigratedUnder k q.header now l) keys c.of_secret-codec.ensures c.in-Ok.ensures.plain file salted))
+    (told_as profile secret c.in-Ok.salt (λ k l. IsMigratedUnder k q.header now l) keys c.of_secret-codec.ensures c.in-Ok.ensures.clear file salted))
     (beside d.reads d.images (IsSalted keys (IsMigratedUnder keys q.header now)) r.disk.now r.disk.now refl (written told) (synced told)))
     c.write_database.ensures.written c.write_database.ensures.synced
 
@@ -76,9 +76,9 @@ returns-clause-own_draws g c =
     let now = opened_pages q.codec (main_of (d.reads q.disk.now)) q.count in
     ok_both c.write_database.result
     (λ written own told tell file is.
-    own_as c.args.profile c.args.secret.now c.in-Ok.salt keys file (drawn c.args.pager.now.entropy.now) (drawn q.entropy.now) (drawn r.entropy.now) c.of_secret-codec.ensures c.in-Ok.ensures.plain (search rules)
+    own_as c.args.profile c.args.secret.now c.in-Ok.salt keys file (drawn c.args.pager.now.entropy.now) (drawn q.entropy.now) (drawn r.entropy.now) c.of_secret-codec.ensures c.in-Ok.ensures.clear (search rules)
     (written_salt keys (IsMigratedUnder keys q.header now) (bytes_of (d.reads r.disk.now).fresh) file (written told) is)
-    (λ ciphered. c.in-Ok.ensures.drawn ciphered tell) (c.write_database.ensures.beside.drawn_on tell) (own told tell file is))
+    (λ hidden. c.in-Ok.ensures.drawn hidden tell) (λ clear. c.in-Ok.ensures.undrawn clear) (c.write_database.ensures.beside.drawn_on tell) (own told tell file is))
     c.write_database.ensures.written c.write_database.ensures.own_draws
 
 pub returns-clause-shown : goal.returns-clause-shown

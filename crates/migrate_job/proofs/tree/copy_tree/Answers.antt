@@ -161,3 +161,9 @@ returns-in-Ok-clause-asked g c limit is told =
     (subst (λ p. to + 1 ≤ start + load_pages c.in-Ok.family size (map entry_of (entries (tree_walk p c.in-Ok.family nothing root)))) same
     (if_err_at c.copy_family.result (TooManyPages limit)
     (λ error. IsTrue d.tells → to + asked_by error ≤ start + load_pages c.in-Ok.family size (map entry_of (entries (tree_walk now c.in-Ok.family nothing root)))) is c.copy_family.ensures.asked told))
+
+pub returns-in-Err-clause-keeps : goal.returns-in-Err-clause-keeps
+returns-in-Err-clause-keeps g c =
+    let e = g.E.Entropy in
+    let read = c.in-Err.ensures.reads in
+    (follows_read e.tells e.drawn read.0 read.1 e.faults c.args.state.now).keeps

@@ -1,4 +1,4 @@
-use Rattle.std.proofs.Common.{◌≡◌, ◌≤◌, ◌+◌, ◌∙◌, ap, arith, subst, sym, IsTrue}
+use Rattle.std.proofs.Common.{◌≡◌, ◌+◌, ◌∙◌, ap, arith, subst, sym}
 use Rattle.db_format.specs.Pages.{Pages}
 use Rattle.db_format.specs.Seen.{marked}
 use Rattle.edge_model.specs.Files.{main_of}

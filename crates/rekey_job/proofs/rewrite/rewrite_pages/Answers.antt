@@ -1,4 +1,4 @@
-use Rattle.std.proofs.Common.{◌≡◌, ◌∙◌, inl, ℕ, true, List, refl, sym, ap, subst}
+use Rattle.std.proofs.Common.{◌≡◌, ◌∙◌, inl, ℕ, true, false, IfErr, IsTrue, List, refl, sym, ap, subst}
 use Rattle.std.proofs.lemmas.Result.{on_ok_weaker}
 use Rattle.edge_model.specs.Images.{From, LeavesOnly}
 use Rattle.edge_model.specs.Moments.{started, started_from}
@@ -11,6 +11,7 @@ use Rattle.edge_model.specs.Files.{main_of}
 use Rattle.atomic_commit.specs.Database.{HoldsEither, HoldsOld, stored_pages}
 use Rattle.atomic_commit.specs.Facts.{SameFresh}
 use Rattle.atomic_commit.proofs.Behind.{changed_weaker}
+use Rattle.rekey_job.specs.Stops.{is_unwritten}
 use Rattle.rekey_job.proofs.Rewriting.{all_accepted, from_begun}
 use Rattle.rekey_job.proofs.rewrite.rewrite_pages.Goals as goal
 
@@ -90,3 +91,8 @@ returns-in-Err-clause-fresh g c = λ told.
     let run : LeavesOnly d.moment d.since p.disk.now c.into_parts-disk.result.0.now (From SameFresh (d.images p.disk.now)) =
     rw same (started_from g.met.D.Disk.only_now p.disk.now SameFresh (λ files. refl)) in
     run
+
+pub returns-in-Ok-clause-unwritten : goal.returns-in-Ok-clause-unwritten
+returns-in-Ok-clause-unwritten g c = λ is told.
+    let no : true ≡ false = subst (λ (r : _). IfErr r (λ e. IsTrue g.D.Disk.tells → is_unwritten e ≡ false)) is c.rewrite.ensures.failed told in
+    cc

@@ -1,4 +1,4 @@
-use Rattle.std.proofs.Common.{◌≡◌, ◌∙◌, inl, inr, ⊎_elim, ℕ, true, sym, ap, subst}
+use Rattle.std.proofs.Common.{◌≡◌, ◌∙◌, inl, inr, ⊎_elim, IsTrue, ℕ, true, false, sym, ap, subst}
 use Rattle.std.proofs.lemmas.Result.{on_ok_weaker}
 use Rattle.cipher_profile.specs.Profile.{usable}
 use Rattle.edge_model.specs.Files.{main_of}
@@ -12,7 +12,10 @@ use Rattle.pager.specs.Pages.{is_page_number}
 use Rattle.pager.specs.UnderWay.{IsUnderWay}
 use Rattle.atomic_commit.specs.Database.{HoldsOld}
 use Rattle.atomic_commit.proofs.Behind.{changed_weaker}
-use Rattle.session_hall.proofs.Written.{begun_layout, from_begun, usable_same}
+use Rattle.session_hall.specs.Writing.{is_unwritten_answer}
+use Rattle.session_hall.specs.declared.step.Answer.{Answer}
+use Rattle.session_hall.specs.declared.step.Answer.TheVariants.{OutOfMemory}
+use Rattle.session_hall.proofs.Written.{begun_layout, err_at, from_begun, usable_same}
 use Rattle.session_hall.proofs.Fresh.{still_fresh}
 use Rattle.session_hall.proofs.writing.write_changes.Goals as goal
 
@@ -95,3 +98,8 @@ returns-in-Err-clause-fresh g c = λ told.
     let d = g.D.Disk in
     still_fresh d.images d.moment d.since g.met.D.Disk.counts_now g.met.D.Disk.only_now c.args.pager.disk.now c.into_parts-disk.result.0.now
     (c.into_parts-disk.ensures.disk.1 ∙ c.in-Err.ensures.back.1)
+
+pub returns-in-Ok-clause-unwritten : goal.returns-in-Ok-clause-unwritten
+returns-in-Ok-clause-unwritten g c = λ is told.
+    let written : true ≡ false = err_at (λ (e : Answer). IsTrue g.D.Disk.tells → is_unwritten_answer e ≡ false) c.write_all.result.2 OutOfMemory is c.write_all.ensures.failed told in
+    cc

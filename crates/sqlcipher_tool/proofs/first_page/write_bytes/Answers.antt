@@ -4,10 +4,9 @@ use Rattle.atomic_commit.specs.Marks.{is_marked}
 use Rattle.edge_model.specs.Files.{main_of}
 use Rattle.page_cache.specs.Pages.{is_held}
 use Rattle.page_codec.specs.Page.{FileKeys, accepts}
-use Rattle.pager.specs.Changed.{with_bytes}
 use Rattle.pager.specs.File.{page_stored}
 use Rattle.pager.specs.Pages.{is_page_number, opened_pages}
-use Rattle.pager.specs.UnderWay.{keys_at, seen_pages}
+use Rattle.pager.specs.UnderWay.{keys_at}
 use Rattle.pager.specs.declared.fill.PageError.{PageError}
 use Rattle.pager.specs.declared.fill.PageError.TheVariants.{OutOfRange}
 use Rattle.sqlcipher_tool.proofs.first_page.write_bytes.Goals as goal

@@ -26,10 +26,11 @@ use Rattle.sqlcipher_tool.specs.Behind.{IsRefusedChange}
 use Rattle.sqlcipher_tool.proofs.Behind.{after_read, read_stays}
 use Rattle.sqlcipher_tool.proofs.Changing.{after_old, read_fresh, read_only, said_so, stop_not_done}
 use Rattle.sqlcipher_tool.proofs.OpenedParts.{open_parts}
-use Rattle.sqlcipher_tool.proofs.RekeyedFile.{rekeyed_so, same_plain_file}
+use Rattle.sqlcipher_tool.proofs.RekeyedFile.{rekeyed_so}
 use Rattle.sqlcipher_tool.proofs.FirstBytes.{fitting_salt}
-use Rattle.cipher_profile.specs.Profile.{is_plain}
+use Rattle.cipher_profile.specs.Profile.{is_clear}
 use Rattle.sqlcipher_tool.proofs.Rekeying.{rekeyed_draws}
+use Rattle.sqlcipher_tool.proofs.Stamping.{rose_from}
 use Rattle.sqlcipher_tool.proofs.VerifiedFile.{unopened_due}
 use Rattle.sqlcipher_tool.proofs.LeftAlone.{is_opened}
 use Rattle.sqlcipher_tool.proofs.rekey.rekey_file.Goals as goal
@@ -59,15 +60,15 @@ rekey_pages-disk-requires-clause-layout g c =
       ap (λ (k : FileKeys). k.profile.page_size) write ∙ (c.requires.layout.0 ∙ sym (ap (λ (p : Profile). p.page_size) profile)),
       ap (λ (k : FileKeys). k.profile.reserve) write ∙ (c.requires.layout.1 ∙ sym (ap (λ (p : Profile). p.reserve) profile)),
       ap (λ (k : FileKeys). k.profile.reads_log) write ∙ (c.requires.layout.2 ∙ sym (ap (λ (p : Profile). p.reads_log) profile)),
+      ap (λ (k : FileKeys). is_clear k.profile) write ∙ (c.requires.layout.3 ∙ sym (ap (λ (p : Profile). is_clear p) profile)),
       ap (λ (k : FileKeys). k.salt) write ∙ (c.salt.ensures.value ∙ ap (λ (k : FileKeys). k.salt) c.codec.ensures),
     )
 
--- a plain file has the salt of a plain file
-pub of_secret-write-requires-clause-plain : goal.of_secret-write-requires-clause-plain
-of_secret-write-requires-clause-plain g c = λ plain.
+-- where the new file begins as it is stored, the old one did
+pub of_secret-write-requires-clause-clear : goal.of_secret-write-requires-clause-clear
+of_secret-write-requires-clause-clear g c = λ clear.
     let profile = ap (λ (k : FileKeys). k.profile) (c.codec.ensures ∙ c.into_pager-pager.ensures.file.0) ∙ c.in-Ok.ensures.profile in
-    let was = same_plain_file c.args.new c.args.old c.requires.listed.1 c.requires.listed.0 (sym c.requires.layout.1) plain in
-    c.salt.ensures.plain (ap is_plain profile ∙ was)
+    c.salt.ensures.clear (ap (λ (p : Profile). is_clear p) profile ∙ sym c.requires.layout.3 ∙ clear)
 
 -- and an opened one begins with its salt
 pub rekey_pages-disk-requires-clause-salt : goal.rekey_pages-disk-requires-clause-salt
@@ -133,8 +134,8 @@ returns-clause-safely g c = λ told start.
     (HoldsOnly (held_by keys l)) (λ m. HoldsOnly (held_by write m)) p.disk.now end) same one in
     let salt = c.salt.ensures.value ∙ (ap (λ (k : FileKeys). k.salt) (c.codec.ensures ∙ codec) ∙ fitting_salt c.args.old c.args.first.now file c.requires.listed.0 opened.fit) in
     let profile = ap (λ (k : FileKeys). k.profile) (c.codec.ensures ∙ c.into_pager-pager.ensures.file.0) ∙ c.in-Ok.ensures.profile in
-    let plainly : is_plain c.args.new ≡ true → c.salt.result ≡ magic = λ plain. c.salt.ensures.plain
-    (ap is_plain profile ∙ same_plain_file c.args.new c.args.old c.requires.listed.1 c.requires.listed.0 (sym c.requires.layout.1) plain) in
+    let plainly : is_clear c.args.new ≡ true → c.salt.result ≡ magic = λ clear. c.salt.ensures.clear
+    (ap (λ (p : Profile). is_clear p) profile ∙ sym c.requires.layout.3 ∙ clear) in
     let is_key : (m : List ℕ) → salt_of m ≡ salt_of file → write ≡ keys_of c.args.new c.args.second.now m = λ m same_salt.
     keys_are c.args.new c.args.second.now _ m write c.of_secret-write.ensures plainly (same_salt ∙ sym salt ∙ sym (ap (λ (k : FileKeys). k.salt) c.of_secret-write.ensures)) in
     let three = said_so d.reads d.images d.moment d.since g.met.D.Disk.counts_now g.met.D.Disk.only_now {R = λ m. HoldsOnly (held_by (keys_of c.args.new c.args.second.now m) m)}
@@ -189,8 +190,8 @@ returns-clause-own_draws g c =
     let opened = open_parts keys file _ _ (c.in-Ok.ensures.opens told) in
     let salt = c.salt.ensures.value ∙ (ap (λ (k : FileKeys). k.salt) (c.codec.ensures ∙ codec) ∙ fitting_salt c.args.old c.args.first.now file c.requires.listed.0 opened.fit) in
     let profile = ap (λ (k : FileKeys). k.profile) (c.codec.ensures ∙ c.into_pager-pager.ensures.file.0) ∙ c.in-Ok.ensures.profile in
-    let plainly : is_plain c.args.new ≡ true → c.salt.result ≡ magic = λ plain. c.salt.ensures.plain
-    (ap is_plain profile ∙ same_plain_file c.args.new c.args.old c.requires.listed.1 c.requires.listed.0 (sym c.requires.layout.1) plain) in
+    let plainly : is_clear c.args.new ≡ true → c.salt.result ≡ magic = λ clear. c.salt.ensures.clear
+    (ap (λ (p : Profile). is_clear p) profile ∙ sym c.requires.layout.3 ∙ clear) in
     let is = rekeyed told in
     let same_salt : salt_of main ≡ salt_of file = is.salt ∙ ap salt_of same in
     rekeyed_draws p.codec write p.count (main_of (d.reads p.disk.now)) main (drop (length (g.E.Entropy.drawn c.args.entropy.now)) (g.E.Entropy.drawn after)) c.args.new c.args.second.now is
@@ -206,6 +207,14 @@ pub returns-clause-entropy_later : goal.returns-clause-entropy_later
 returns-clause-entropy_later g c =
     let last : c.entropy-1.given.0 ≡ c.rekey_pages-disk.result.1.now = search rules in
     rw last (omega (arith, ap g.E.Entropy.faults c.into_pager-pager.ensures.entropy.1, c.rekey_pages-disk.ensures.entropy_later))
+
+pub returns-clause-disk_fault : goal.returns-clause-disk_fault
+returns-clause-disk_fault g c = λ is.
+    let faults = g.D.Disk.faults in
+    let after = c.rekey_pages-disk.result.0.now in
+    let last : c.disk-1.given.0 ≡ after = search rules in
+    rw last (rose_from (faults c.args.disk.now) (faults c.into_pager-pager.result.disk.now) (faults after)
+    (omega (arith, c.open_main.ensures.later, ap faults c.into_pager-pager.ensures.disk.1)) (c.rekey_pages-disk.ensures.disk_fault is))
 
 pub returns-clause-entropy_fault : goal.returns-clause-entropy_fault
 returns-clause-entropy_fault g c = λ is.

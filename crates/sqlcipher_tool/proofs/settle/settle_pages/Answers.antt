@@ -1,4 +1,4 @@
-use Rattle.std.proofs.Common.{◌≡◌, ◌==◌, ⊎_elim, inl, inr, ℕ, List, [], drop, length, Ok, Err, IsTrue, sym, ap, subst, ◌∙◌}
+use Rattle.std.proofs.Common.{◌≡◌, ◌==◌, ⊎_elim, inl, inr, ℕ, List, [], drop, length, IsTrue, sym, ap, subst, ◌∙◌}
 use Rattle.cipher_profile.specs.Profile.{IsListed, usable}
 use Rattle.map_pages.specs.Maps.{map_count}
 use Rattle.cipher_profile.specs.declared.profile.Profile.{Profile}

@@ -1,4 +1,4 @@
-use Rattle.std.proofs.Common.{◌≡◌, ◌≤◌, ◌+◌, ℕ, Bool, true, false, Option, Some, None, List, length, not, unwrap_or, refl, sym, ap, subst, ◌∙◌, arith}
+use Rattle.std.proofs.Common.{◌≡◌, ◌≤◌, ℕ, Bool, true, false, Option, Some, None, length, not, unwrap_or, refl, sym, ap, subst, ◌∙◌, arith}
 use lib.Pointwise.{bytes_decides, pointwise}
 use lib.Dec.{eqb}
 use Rattle.edge_model.specs.Files.{File, Files, contents, length_of, main_of}

@@ -1,4 +1,4 @@
-use Rattle.std.proofs.Common.{◌≡◌, ℕ, List, Bool, [], drop, length, not, ap, sym, ◌∙◌}
+use Rattle.std.proofs.Common.{Bool, [], drop, length, not, ap, sym, ◌∙◌}
 use Rattle.sqlcipher_tool.specs.Holding.{disk_run}
 use Rattle.sqlcipher_tool.specs.declared.change.Change.TheVariants.{Settle}
 use Rattle.sqlcipher_tool.proofs.PlainDraws.{plain_safely}

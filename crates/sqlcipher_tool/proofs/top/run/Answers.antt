@@ -1,4 +1,4 @@
-use Rattle.std.proofs.Common.{◌≡◌, ◌⊎◌, ⊎_elim, inl, inr, Bool, true, false, List, ℕ, Option, Some, None, refl, sym, ◌∙◌, subst}
+use Rattle.std.proofs.Common.{◌≡◌, ◌⊎◌, ⊎_elim, inl, inr, Bool, true, false, Option, Some, None, refl, sym, ◌∙◌, subst}
 use Rattle.cipher_profile.specs.declared.profile.Profile.{Profile}
 use Rattle.sqlcipher_tool.specs.Answer.{IsAnswer, IsEarly}
 use Rattle.sqlcipher_tool.specs.Due.{asked_answers, command_answers, word_refusal, wordless}

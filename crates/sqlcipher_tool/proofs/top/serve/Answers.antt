@@ -1,5 +1,6 @@
-use Rattle.std.proofs.Common.{◌≡◌, ◌≢◌, drop, length, ◌∷◌, [], Bool, true, Option, None, Some, Result, Ok, Err, IsTrue, List, ◌*◌, ℕ, rules, refl, sym, ap, subst, ◌∙◌}
+use Rattle.std.proofs.Common.{◌≡◌, ◌≢◌, drop, length, ◌∷◌, [], true, Option, None, Some, Result, Ok, Err, IsTrue, List, ◌*◌, ℕ, rules, refl, sym, ap, subst, ◌∙◌}
 use Rattle.cipher_profile.specs.declared.key_line.KeyError.{KeyError}
+use Rattle.cipher_profile.specs.declared.profile.LineForm.{LineForm}
 use Rattle.cipher_profile.specs.declared.key_line.KeyError.TheVariants.{SourceFault}
 use Rattle.cipher_profile.specs.declared.keys.Secret.{Secret}
 use Rattle.edge_model.specs.Files.{main_of}
@@ -18,11 +19,11 @@ use Rattle.sqlcipher_tool.proofs.LeftAlone.{left_alone, unmoved}
 use Rattle.sqlcipher_tool.proofs.top.serve.Goals as goal
 
 -- what was read by these is read by those
-same_lines : (asked these : List Bool) (left : List ℕ) (lines : Result (List Secret) KeyError) → asked ≡ these → lines ≡ key_lines these left → key_lines asked left ≡ lines
-same_lines asked these left lines is gave = ap (λ (l : List Bool). key_lines l left) is ∙ sym gave
+same_lines : (asked these : List (Option LineForm)) (left : List ℕ) (lines : Result (List Secret) KeyError) → asked ≡ these → lines ≡ key_lines these left → key_lines asked left ≡ lines
+same_lines asked these left lines is gave = ap (λ (l : List (Option LineForm)). key_lines l left) is ∙ sym gave
 
 -- the input tells, if a line is read of it
-tells_if : {T : Type 0} (asked these : List Bool) → asked ≡ these → (asks_some asked ≡ true → T) → asks_some these ≡ true → T
+tells_if : {T : Type 0} (asked these : List (Option LineForm)) → asked ≡ these → (asks_some asked ≡ true → T) → asks_some these ≡ true → T
 tells_if asked these is tells some = tells (ap asks_some is ∙ some)
 
 -- ---- the words refuse the command
@@ -106,7 +107,7 @@ pub returns-in-Ok-clause-takes : goal.returns-in-Ok-clause-takes
 returns-in-Ok-clause-takes g c = λ keyed none.
     let left = g.K.Source.left c.args.input.now in
     takes_given (asked_keys c.args.command) c.serve_with_secrets.result left (g.K.Source.left c.read_secrets.new.input) c.serve_with_secrets.ensures.causes.input
-    (c.in-Ok.ensures.rest (λ some. keyed) ∙ sym (ap (λ (l : List Bool). after_lines l left) c.asked_keys-asks.ensures))
+    (c.in-Ok.ensures.rest (λ some. keyed) ∙ sym (ap (λ (l : List (Option LineForm)). after_lines l left) c.asked_keys-asks.ensures))
 
 pub returns-in-Ok-clause-changes : goal.returns-in-Ok-clause-changes
 returns-in-Ok-clause-changes g c = λ told.
@@ -167,8 +168,8 @@ returns-in-Err-clause-takes g c = λ keyed none.
     let these = c.asked_keys-asks.result.0 ∷ c.asked_keys-asks.result.1 ∷ [] in
     takes_key c.in-Err.error (asked_keys c.args.command) c.conclude_key.result left after c.conclude_key.ensures.others (λ failed. (c.conclude_key.ensures.failed failed).0)
     (λ other. unless_fault Secrets c.in-Err.error (λ e. (asks_some these ≡ true → IsTrue g.K.Source.tells) → after ≡ after_lines these left) c.in-Err.ensures.rest other (λ some. keyed)
-    ∙ sym (ap (λ (l : List Bool). after_lines l left) is))
-    (subst (λ (l : List Bool). TakesAtMost (1025 * lines_read l) left after) (sym is) (c.read_secrets.ensures.at_most keyed))
+    ∙ sym (ap (λ (l : List (Option LineForm)). after_lines l left) is))
+    (subst (λ (l : List (Option LineForm)). TakesAtMost (1025 * lines_read l) left after) (sym is) (c.read_secrets.ensures.at_most keyed))
 
 pub returns-in-Err-clause-keeps : goal.returns-in-Err-clause-keeps
 returns-in-Err-clause-keeps g c = λ told. unchanged_keeps g.D.Disk.reads g.D.Disk.images g.D.Disk.moment g.D.Disk.since g.met.D.Disk.only_now c.args.command c.args.disk.now

@@ -1,5 +1,7 @@
 use Rattle.std.proofs.Common.{◌≡◌, ◌∙◌, ◌+◌, ◌≤◌, ℕ, true, List, [], ◌∷◌, length, Ok, ap, arith, rules, subst, sym}
-use Rattle.cipher_profile.specs.Profile.{is_plain, usable}
+use Rattle.cipher_profile.specs.Profile.{IsLaidOut, is_clear, usable}
+use Rattle.cipher_profile.specs.declared.profile.Profile.{Profile}
+use Rattle.cipher_profile.proofs.Layouts.{IsListed-laid_out}
 use Rattle.db_format.specs.Header.{header_read}
 use Rattle.db_format.specs.Seen.{marked}
 use Rattle.db_format.specs.Pages.{also}
@@ -43,8 +45,10 @@ returns-clause-file g c start was =
     all
     (subst (λ (keys : FileKeys). length keys.salt ≡ 16) (sym same.codec) (search rules))
     (subst (λ (keys : FileKeys). 16 ≤ keys.profile.page_size) (sym same.codec) (search arith))
-    (subst (λ (keys : FileKeys). is_plain keys.profile ≡ true → keys.salt ≡ magic) (sym same.codec)
-    (λ plain. sym c.salt-salt.ensures.value ∙ c.salt-salt.ensures.plain plain))
+    (subst (λ (keys : FileKeys). is_clear keys.profile ≡ true → keys.salt ≡ magic) (sym same.codec)
+    (λ clear. sym c.salt-salt.ensures.value ∙ c.salt-salt.ensures.clear clear))
+    (subst (λ (keys : FileKeys). IsLaidOut keys.profile) (sym same.codec)
+    (subst (λ (profile : Profile). IsLaidOut profile) c.profile-listed.ensures.value (IsListed-laid_out c.profile-listed.result.now c.profile-listed.ensures.listed)))
     (c.sync_side.ensures.same was.told)
     c.sync_side.ensures.drawn)
 

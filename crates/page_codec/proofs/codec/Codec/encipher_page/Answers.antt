@@ -1,5 +1,5 @@
-use Rattle.std.proofs.Common.{◌≡◌, ◌++◌, List, ℕ, take, drop, ap, ◌∙◌}
-use Rattle.page_codec.specs.Page.{cipher_start, enciphered, magic, tag, with_tag}
+use Rattle.std.proofs.Common.{◌≡◌, ◌++◌, List, ℕ, drop, ap, ◌∙◌}
+use Rattle.page_codec.specs.Page.{cipher_start, enciphered, plain_head, tag, with_tag}
 use Rattle.page_codec.proofs.Parts.{magic_first}
 use Rattle.page_codec.proofs.codec.Codec.encipher_page.Goals as goal
 
@@ -12,7 +12,7 @@ returns-clause-value c =
 
 pub returns-clause-opens_to : goal.returns-clause-opens_to
 returns-clause-opens_to c =
-    let start = cipher_start c.args.n in
+    let profile = c.args.self.now.profile in
     let plain : List ℕ = c.args.plain.now in
-    let whole : take start magic ++ drop start plain ≡ plain = magic_first c.args.n plain c.requires.magic in
+    let whole : plain_head profile c.args.n plain ++ drop (cipher_start profile c.args.n) plain ≡ plain = magic_first profile c.args.n plain c.requires.magic in
     c.put_tag.ensures.opens_as_before ∙ c.encipher.ensures.opens_to ∙ whole

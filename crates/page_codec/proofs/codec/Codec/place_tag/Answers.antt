@@ -3,6 +3,7 @@ use Rattle.std.proofs.lemmas.Grind.{common_steps}
 use Rattle.std.proofs.lemmas.List.{length-take-le}
 use Rattle.cipher_profile.specs.Profile.{IsLaidOut}
 use Rattle.page_codec.specs.Page.{FileKeys, accepts, deciphered, tag}
+use Rattle.page_codec.proofs.Parts.{head_short}
 use Rattle.page_codec.proofs.TagPlace.{accepts-with_tag, length-digest, deciphered-with_tag}
 use Rattle.page_codec.proofs.codec.Codec.place_tag.Goals as goal
 
@@ -30,4 +31,4 @@ returns-clause-opens_as_before c =
     let laid_out : IsLaidOut file.profile =
     subst IsLaidOut (ap (λ (f : FileKeys). f.profile) c.self.view_is) c.usable-tag_at.ensures.laid_out in
     ap (deciphered file n) (returns-clause-value c)
-    ∙ deciphered-with_tag file n (tag file n stored) stored (omega (arith, laid_out.room c.requires.ciphered, c.requires.size))
+    ∙ deciphered-with_tag file n (tag file n stored) stored (omega (arith, head_short file.profile n laid_out, laid_out.content)) (omega (arith, laid_out.room c.requires.ciphered, c.requires.size))

@@ -1,4 +1,10 @@
-use Rattle.std.proofs.Common.{◌∙◌, ap, arith, rules}
+use Rattle.std.proofs.Common.{◌∙◌, Option, ap, arith, rules, subst, sym}
+use Rattle.edge_model.specs.Files.{File, contents}
+use Rattle.atomic_commit.specs.Marks.{is_marked}
+use Rattle.page_codec.specs.Page.{opened}
+use Rattle.pager.specs.File.{page_stored}
+use Rattle.pager.specs.UnderWay.{HasNewPages}
+use Rattle.pager.proofs.UnderWayLemmas.{ok_map_two}
 use Rattle.cipher_profile.specs.declared.profile.Profile.{Profile}
 use Rattle.pager.proofs.EndingLemmas.{listed_small}
 use Rattle.pager.proofs.txn.Txn.keep_ahead.Goals as goal
@@ -29,3 +35,13 @@ guard_ahead-requires g c κs within =
         ),
       ),
     )
+
+pub returns-clause-under_way : goal.returns-clause-under_way
+returns-clause-under_way g c =
+    let s = c.args.self.now in
+    ok_map_two c.guard_ahead.result c.guard_ahead.ensures.batches c.guard_ahead.ensures.main (λ batches main told. record {
+      batches = batches told;
+      pages = subst (λ (o : Option File). HasNewPages g.start s.write (λ n. is_marked n s.written)
+          (λ n. opened s.write n (page_stored s.write (contents o) n)) g.E.Entropy.tells (g.E.Entropy.drawn s.entropy.now) (contents o))
+          (sym (main told)) (c.requires.1.1.1.1.1 told).pages;
+    })

@@ -1,4 +1,4 @@
-use Rattle.std.proofs.Common.{◌≡◌, ◌*◌, ◌≤◌, ◌∙◌, ℕ, List, true, length, ap, sym, subst, arith, rules}
+use Rattle.std.proofs.Common.{◌≡◌, ◌*◌, ◌≤◌, ◌∙◌, ℕ, List, true, false, length, ap, sym, subst, arith, rules}
 use Rattle.page_codec.specs.Page.{opened}
 use Rattle.pager.specs.File.{page_stored}
 use Rattle.edge_model.specs.Files.{Files, main_of}
@@ -74,3 +74,16 @@ returns-then-has-clause-told g c =
     ∙ has told
     ∙ ap (λ (l : List ℕ). opened s.write n (page_stored s.write l n)) (same_main now)
     ∙ seen_free s.read s.write (main_of now) s.count n s.written s.changed.held true (number_is s.count n r.0.0 r.0.1) r.1.0 (sym c.has.ensures.answer ∙ c.if-has.true))
+
+pub returns-clause-told : goal.returns-clause-told
+returns-clause-told g c =
+    let r = c.requires.1.1 in
+    let s = c.args.self.now in
+    let now = g.D.Disk.reads s.disk.now in
+    let n = c.args.n in
+    let long : length c.read_plain_ahead.new.plain ≡ s.plain.len = search (rules, arith, c.read_plain_ahead.auto, c.deref_mut-2.ensures, c.deref_mut-3.ensures, c.deref_mut-4.ensures) in
+    ok_map c.read_plain_ahead.result c.read_plain_ahead.ensures.plain (λ has told.
+    laid_whole s.plain.len c.read_plain_ahead.new.plain s.plain.items long
+    ∙ has told
+    ∙ ap (λ (l : List ℕ). opened s.read n (page_stored s.read l n)) (same_main now)
+    ∙ seen_free s.read s.write (main_of now) s.count n s.written s.changed.held false (number_is s.count n r.0.0 r.0.1) r.1.0 (sym c.has.ensures.answer ∙ c.if-has.false))

@@ -1,9 +1,7 @@
 use Rattle.std.proofs.Common.{◌≡◌, ◌==◌, ◌<◌, ◌∙◌, ℕ, Bool, true, false, List, if◌then◌else◌, length, take, ap, sym, subst, refl}
 use Rattle.edge_model.specs.Files.{Files, main_of}
-use Rattle.cipher_profile.specs.declared.profile.Profile.{Profile}
-use Rattle.cipher_profile.specs.Profile.{IsListed, is_plain}
+use Rattle.cipher_profile.specs.Profile.{is_clear}
 use Rattle.page_codec.specs.Page.{FileKeys}
-use Rattle.pager.proofs.TxnLemmas.{ciphered_alike}
 use Rattle.pager.specs.Changed.{Changed}
 use Rattle.pager.specs.Pages.{is_page_number}
 use Rattle.pager.specs.Reads.{disk_then_read, then_untouched, untouched_read}
@@ -37,6 +35,11 @@ returns-clause-any_moment g c told =
     let read = goes_less g.met.D.Disk.counts_now (started g.met.D.Disk.only_now c.args.self.now.disk.now (HoldsOld g.start.base) (λ d here. batches_hold_old g.start.base _ _ _ _ _ _ _ (c.requires.1.1.1.1.1.1 told).batches d here)) only.time only.same_images.no_more in
     subst (λ (d : g.row.D.Denot). LeavesOnly g.D.Disk.moment g.D.Disk.since c.args.self.now.disk.now d (HoldsOld g.start.base)) (sym c.place.ensures.disk.value) (and_then read (c.make_room.ensures.any_moment told))
 
+pub returns-in_err-read_in-clause-fresh : goal.returns-in_err-read_in-clause-fresh
+returns-in_err-read_in-clause-fresh g c told =
+    let only = c.read_in.ensures.disk.only_read told in
+    goes_less g.met.D.Disk.counts_now (started_from g.met.D.Disk.only_now c.args.self.now.disk.now SameFresh (λ d. refl)) only.time only.same_images.no_more
+
 pub returns-in_err-make_room-clause-fresh : goal.returns-in_err-make_room-clause-fresh
 returns-in_err-make_room-clause-fresh g c told =
     let only = c.read_in.ensures.disk.only_read told in
@@ -58,12 +61,9 @@ returns-clause-seen g c told m =
     let mid = c.make_room.new.self in
     let n = c.args.n in
     let page = c.in_ok-make_room.ensures.plain ∙ c.in_ok-read_in.ensures.told told in
-    let listed_read = subst (λ (p : Profile). IsListed p) c.profile-read.ensures.value c.profile-read.ensures.listed in
-    let listed_write = subst (λ (p : Profile). IsListed p) c.profile-write.ensures.value c.profile-write.ensures.listed in
-    let encrypted = ciphered_alike s.read.profile s.write.profile listed_read listed_write s.layout.0 s.layout.1 in
     let written : mid.write ≡ s.write = c.make_room.ensures.file.1 ∙ c.read_in.ensures.file.1 in
-    let bytes = c.place.ensures.bytes (λ is ciphered. ap (λ (l : List ℕ). take 16 l) page ∙ seen_begins s.read s.write _ s.count n s.written s.changed.held
-    (encrypted (subst (λ (k : FileKeys). is_plain k.profile ≡ false) written ciphered)) (subst (λ (k : FileKeys). is_plain k.profile ≡ false) written ciphered) is (number_is s.count n r.0.0 r.0.1) r.1.0) in
+    let bytes = c.place.ensures.bytes (λ is hidden. ap (λ (l : List ℕ). take 16 l) page ∙ seen_begins s.read s.write _ s.count n s.written s.changed.held
+    (s.alike (subst (λ (k : FileKeys). is_clear k.profile ≡ false) written hidden)) (subst (λ (k : FileKeys). is_clear k.profile ≡ false) written hidden) is (number_is s.count n r.0.0 r.0.1) r.1.0) in
     let p = c.place.new.self in
     let file : main_of (g.D.Disk.reads p.disk.now) ≡ main_of (g.D.Disk.reads mid.disk.now) = ap (λ (d : g.row.D.Denot). main_of (g.D.Disk.reads d)) c.place.ensures.disk.value in
     seen_put p.read p.write (main_of (g.D.Disk.reads p.disk.now)) p.count p.written mid.changed.held p.changed.held n mid.plain.items bytes m

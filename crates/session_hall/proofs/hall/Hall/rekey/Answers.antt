@@ -60,3 +60,16 @@ returns-in-Ok-Some-clause-told g c = λ told.
       same_state (d.reads s.disk.now) (d.reads c.first_unseen.new.disk) s.layout xs s.page i c.first_unseen.new.session
           (c.first_unseen.ensures.only_read told).stays (c.first_unseen.ensures.same ∙ here),
     )
+
+pub returns-in-Err-clause-told : goal.returns-in-Err-clause-told
+returns-in-Err-clause-told g c = λ told.
+    let d = g.D.Disk in
+    let s = c.args.self.now in
+    let xs = s.sessions.items in
+    let i = c.args.i in
+    let small : i < length xs = omega (arith, c.requires.number, s.many) in
+    let here : c.index_mut.result.now ≡ session_at xs i = at_place xs i c.index_mut.result.now small c.index_mut.ensures.value in (
+      sym c.may_rekey.ensures ∙ c.if-not-may_rekey.false,
+      same_state (d.reads s.disk.now) (d.reads c.first_unseen.new.disk) s.layout xs s.page i c.first_unseen.new.session
+          (c.first_unseen.ensures.only_read told).stays (c.first_unseen.ensures.same ∙ here),
+    )
