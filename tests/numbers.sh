@@ -66,15 +66,12 @@ done < "$scratch/found"
 while IFS= read -r path; do
     grep -q "^$path:" "$scratch/found" || { echo "numbers: crates/$path is in the list and has no such number"; wrong=$((wrong + 1)); }
 done < "$scratch/may"
-# Who names byteorder or number_fields calls it, and the other way round. One name stands that is not called; to take it away is to prove all anew that
-# stands on its crate, so it goes with the next change there.
-still='settle_job number_fields'
+# Who names byteorder or number_fields calls it, and the other way round.
 while IFS=: read -r crate below; do
     for library in byteorder number_fields; do
         case " $below " in *" $library "*) named=1 ;; *) named=0 ;; esac
         used=0
         ! grep -qE "^ *(pub )?use $library::" "$top/crates/$crate"/src/*.rt || used=1
-        [ "$crate $library" != "$still" ] || used=$((1 - used))
         [ "$named" -eq "$used" ] || { echo "numbers: $crate and $library: crates.txt says $named, the sources $used"; wrong=$((wrong + 1)); }
     done
 done < <(grep -E '^[a-z_0-9]+:' "$top/crates.txt")
