@@ -21,7 +21,11 @@ fi
 
 k0="x'000102030405060708090a0b0c0d0e0f101112131415161718191a1b1c1d1e1f'"
 k1="x'ffffffffffffffffffffffffffffffffffffffffffffffffffffffffffffffff'"
+salted="${k0%\'}a0a1a2a3a4a5a6a7a8a9aaabacadaeaf'"       # under a plain header the salt comes with the key
 printf '%s\n' "$k0" "$k1" > "$scratch/keys"
+printf '%s\n' "$salted" "$k1" > "$scratch/from_header"
+printf '%s\n' "$k0" "$salted" > "$scratch/to_header"
+keys=$scratch/keys
 looked_at=open,openat,creat,read,pread64,readv,preadv,preadv2,write,pwrite64,writev,pwritev,pwritev2,truncate,ftruncate,fallocate
 looked_at+=,fsync,fdatasync,sync,syncfs,sync_file_range,unlink,unlinkat,rename,renameat,renameat2,link,linkat,symlink,symlinkat
 looked_at+=,copy_file_range,sendfile,splice,mknod,mknodat,mkdir,mkdirat
@@ -40,7 +44,7 @@ listed() { # listed OPTIONS.. -- WORDS..: runs the program in the folder, with i
     local options=()
     while [ "$1" != -- ]; do options+=("$1"); shift; done
     shift
-    local input=$scratch/keys
+    local input=$keys
     [ "$1" != play ] || input=$scratch/script
     (cd "$scratch/run" && strace -f -qq -y -x -s 16 -o "$scratch/calls" -e trace="$looked_at" "${options[@]}" "$program" file "$@" \
         < "$input" > "$scratch/said" 2> "$scratch/errors")
@@ -82,11 +86,14 @@ found=$("$compare" tables) || { echo "calls: $found"; exit 1; }
 echo "calls: $found"
 
 # ---- files: of less than 64 pages, which are a batch, and of more, beside a hot journal that has to be laid back and cut, and beside a cold one
-made() { "$program" "$scratch/$1" make "$2" "$3" < "$scratch/keys" > /dev/null 2>&1 || { echo "calls: make $2 $3 fails"; exit 1; }; }
+made() { "$program" "$scratch/$1" make "$2" "$3" < "$keys" > /dev/null 2>&1 || { echo "calls: make $2 $3 fails"; exit 1; }; }
 made small 3 18
 made large 3 60
 made four 4 60
 made flat plain:1024 60
+keys=$scratch/from_header
+made headed 4:plain-header=32 60
+keys=$scratch/keys
 cp "$scratch/large" "$scratch/hot"
 hot=$(stop_rekey "$scratch/hot" "$scratch/keys")
 [ "${hot:-0}" -gt 0 ] && [ -e "$scratch/hot-journal" ] || say "a rekey that is stopped leaves no journal"
@@ -169,6 +176,17 @@ run migrate four none 4 plain:1024 migrate 4 plain:1024
 run migrate hot "hot=$hot" 3 plain:4096 migrate 3 plain:4096
 run migrate flat none plain:1024 plain:4096 migrate plain:1024 plain:4096
 run make nothing none plain:1024 plain:1024 make plain:1024 40
+# For a new file under a plain header no salt is drawn. A rekey gives a file such a header, or takes it away.
+keys=$scratch/from_header
+run make nothing none 4:plain-header=32 4:plain-header=32 make 4:plain-header=32 40
+run stamp headed none 4:plain-header=32 4:plain-header=32 stamp 4:plain-header=32 user-version 7
+run rekey headed none 4:plain-header=32 4 rekey 4:plain-header=32 4
+run migrate headed none 4:plain-header=32 3 migrate 4:plain-header=32 3
+keys=$scratch/to_header
+run rekey four none 4 4:plain-header=32 rekey 4 4:plain-header=32
+run migrate small none 3 4:plain-header=32 migrate 3 4:plain-header=32
+kept_from_syncs rekey four 4 4:plain-header=32 rekey 4 4:plain-header=32
+keys=$scratch/keys
 # A script of one commit: of two pages, and under a new key of all.
 changes=('change 0 2 100 7' 'change 0 3 100 7' 'change 0 2 101 7')
 script "3 $k0" "${changes[@]}"

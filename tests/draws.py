@@ -33,7 +33,8 @@ def main():
     for version, words, keys in (("3", ["make", "3", "40"], [OLD]), ("4", ["make", "4", "40"], [OLD]), ("1", ["make", "1", "40"], [OLD]),
                                  ("3", ["rekey", "3", "3"], [OLD, NEW]), ("4", ["migrate", "3", "4"], [OLD, NEW]), ("2", ["migrate", "3", "2"], [OLD, NEW]),
                                  ("4", ["make", headed, "40"], [SALTED]), ("4", ["migrate", "3", headed], [OLD, SALTED]),
-                                 ("4", ["rekey", headed, "4:plain-header=48"], [SALTED, NEWER])):
+                                 ("4", ["rekey", headed, "4:plain-header=48"], [SALTED, NEWER]),
+                                 ("4", ["rekey", headed, "4"], [SALTED, NEW]), ("4", ["rekey", "4", headed], [OLD, NEWER])):
         folder = tempfile.mkdtemp()
         file = os.path.join(folder, "file")
         if words[0] != "make":

@@ -487,18 +487,18 @@ row 4 '' $'this write-ahead log holds newer pages of the database\n`verify plain
 rm -f sqlite.db kept.db field.db short.db logged.db logged.db-wal
 
 # A plain header: the salt comes with the key. A passphrase in hex: the line has no other form. A refusal by words or key line needs no file.
-one_alone='the pages of these two versions differ, or the file holds its salt under one of them alone: `migrate` writes the database anew'
+other_pages='the pages of these two versions differ: `migrate` writes the database anew'
 salt=a0a1a2a3a4a5a6a7a8a9aaabacadaeaf
 salted="x'$digits$salt'"
 printf '%s\n' "$salted" > salted
 unsalted='does not hold its salt: the key line is x'"'"' and 96 hex digits and '"'"', the raw key and the salt behind it, or under :key=hex'
 not_hex='under :key=hex the key line is the passphrase in hex digits, two a byte, and nothing else: 616263 is abc'
-row 0 'made: 1 rows, 500 data bytes' 'the new key was taken as a raw key with its salt' '"$tool" headed.db make 4:plain-header=32 1 < salted'
+row 0 'made: 1 rows, 500 data bytes' 'the new key was taken as a raw key with its salt, which the file does not hold: keep the line' '"$tool" headed.db make 4:plain-header=32 1 < salted'
 row 0 'made: 1 rows, 500 data bytes' 'the new key was taken as a passphrase in hex digits' 'echo 6f6c64 | "$tool" hex.db make 4:rounds=9:key=hex 1'
-row 0 'made: 1 rows, 500 data bytes' 'the new key was taken as a passphrase in hex digits, with its salt' \
+row 0 'made: 1 rows, 500 data bytes' 'the new key was taken as a passphrase in hex digits, with its salt, which the file does not hold: keep the line' \
     'rm headed.db; echo "6f6c64,$salt" | "$tool" headed.db make 4:rounds=9:plain-header=32:key=hex 1'
 # The same file under a raw key. A key line that has one form alone is not asked what else it may have been meant as.
-row 0 '' 'the new key was taken as a raw key with its salt' '(echo "6f6c64,$salt"; cat salted) | "$tool" headed.db rekey 4:rounds=9:plain-header=32:key=hex 4:plain-header=32 > lines.txt'
+row 0 '' 'the new key was taken as a raw key with its salt, which the file does not hold: keep the line' '(echo "6f6c64,$salt"; cat salted) | "$tool" headed.db rekey 4:rounds=9:plain-header=32:key=hex 4:plain-header=32 > lines.txt'
 row 0 '' 'the new key was taken as a passphrase in hex digits' '(echo 6f6c64; echo "$digits") | "$tool" hex.db rekey 4:rounds=9:key=hex 4:rounds=9:key=hex > lines.txt'
 # Two lines that are the same are two keys where one of them is in hex.
 row 0 '' "$pass"$'\nof the new key: the key line is 64 hex digits' '(echo "$digits"; echo "$digits") | "$tool" hex.db rekey 4:rounds=9:key=hex 4:rounds=9 > lines.txt'
@@ -536,8 +536,11 @@ for name in headed.db absent.db; do
 2|key is not hex|$not_hex|migrate plain:4096 4:key=hex|old\n
 2|key empty|a key line is empty|verify 4:key=hex|\n
 2|key missing|before the key line: this command takes one|verify 4:plain-header=32|
-2|layout differs|$one_alone|rekey 4 4:plain-header=32|
-2|layout differs|$one_alone|rekey 4:plain-header=32:rounds=9 4:key=hex|
+2|layout differs|$other_pages|rekey 3 4:1024:plain-header=32|
+2|layout differs|$other_pages|rekey 4:plain-header=32:rounds=9 4:hmac=sha1:key=hex|
+2|key missing|this command takes two, the old key and the new one|rekey 4 4:plain-header=32|
+2|key without salt|$unsalted|rekey 4 4:plain-header=32|$k0\n$k0\n
+2|key with salt|$keep_64|rekey 4:plain-header=32 4|$salted\n$salted\n
 2|layout differs|a plain file has no key to change|rekey 4:plain-header=32 plain:4096|
 END
     row 2 'key without salt' "$unsalted" "\"\$tool\" new-$name make 4:plain-header=32 1 < key"
@@ -567,8 +570,8 @@ row 2 'key missing' 'this command takes two, the old key and the new one' '"$too
 row 2 'key missing' 'the file of the first key has no line feed at its end' '(head -c 67 key; head -c 67 key) | "$tool" rekeyed.db rekey 4 4'
 row 2 'key empty' 'a key line is empty' 'echo | "$tool" rekeyed.db tags 4'
 row 2 'key too long' 'at most 1,024 bytes' 'head -c 1025 /dev/zero | "$tool" rekeyed.db tags 4'
-row 2 'layout differs' "$one_alone" '"$tool" rekeyed.db rekey 4 3 < keys'
-row 2 'layout differs' "$one_alone" '"$tool" rekeyed.db rekey 4 4:8192 < keys'
+row 2 'layout differs' "$other_pages" '"$tool" rekeyed.db rekey 4 3 < keys'
+row 2 'layout differs' "$other_pages" '"$tool" rekeyed.db rekey 4 4:8192 < keys'
 row 2 'file is there' '`make` takes a new name' '"$tool" rekeyed.db make 4 1 < key'
 row 0 "rekeyed: $pages pages" "$raw" '"$tool" rekeyed.db rekey 4 4 < keys'
 row 0 "rekeyed: $pages pages" "$pass"$'\nof the new key: the key line ends in a carriage return' \

@@ -3,8 +3,9 @@
 # with the key, and passphrases of any bytes. Each command that reads serves them, under the settings in another order too; after `stamp`, `rekey`,
 # `migrate`, `make` and a script that re-keys the product opens the file, finds it sound and dumps the same rows. A key line without a salt, or with one
 # too many, and one that is not hex are refused; of a plain header a bit that is turned in the magic is, and no tag covers what stands behind it. With
-# their logs such files are read and settled, and the product's journal is played back. A `rekey` and a `migrate` of a file without a plain header, and of
-# one with it, are stopped at each of their writing calls: what is left is the old content under the old word and key, or under the new.
+# their logs such files are read and settled, and the product's journal is played back. A `rekey` and a `migrate` of a file without a plain header, of
+# one with it, and from one to the other are stopped at each of their writing calls: what is left is the old content under the old word and key, or under
+# the new.
 #
 #     tests/settings.sh
 #
@@ -250,12 +251,16 @@ turn_header() { # turn_header WORD FILE DUMP
     answers 2 '^(file is short|.* fault|.*page)' "$old" "$turned" verify "$word"
 }
 
-re_head() { # re_head WORD FILE DUMP: from a plain header to none and back, which is another layout
-    local word=$1 copy=$2 dump=$3 bare=3:2048:rounds=3 other
+re_head() { # re_head WORD FILE DUMP: from a plain header to none and back, in the file and by a new one. Without one the file takes up the salt
+    local word=$1 copy=$2 dump=$3 bare=3:2048:rounds=3 other line
     case $word in *:plain-header=*) ;; *) return ;; esac
     other=$(unheaded "$word")
-    answers 2 '^layout differs$' "$old"$'\n'"$(new_of "$other")" "$copy" rekey "$word" "$other"
-    answers 2 '^layout differs$' "$(new_of "$other")"$'\n'"$old" "$copy" rekey "$other" "$word"
+    line=$(new_of "$other")
+    answers 0 '^rekeyed' "$old"$'\n'"$line" "$copy" rekey "$word" "$other"
+    [ "$(head -c 16 "$copy" | od -An -tx1 | tr -d " \n")" = "$salt" ] || say "rekey $word $other: the file does not begin with the salt of its old key line"
+    is_sound "$other" "$line" "$copy" "$dump" "rekey $word $other"
+    answers 0 '^rekeyed' "$line"$'\n'"$old" "$copy" rekey "$other" "$word"
+    is_sound "$word" "$old" "$copy" "$dump" "rekey $other $word"
     answers 0 '^migrated' "$old"$'\n'"$new" "$copy" migrate "$word" "$bare"
     is_sound "$bare" "$new" "$copy" "$dump" "migrate $word $bare"
     answers 0 '^migrated' "$new"$'\n'"$old" "$copy" migrate "$bare" "$word"
@@ -369,7 +374,8 @@ for word in 4:plain-header=32 4:1024:hmac=sha256:plain-header=96 4:rounds=30:key
     interrupted "$word" "$scratch/${word//[:=]/-}.db"
 done
 if can_trace; then
-    for words in "rekey 3:4096:rounds=1 3:4096" "migrate $sha256 3:2048:hmac=off" "rekey $headed 4:65536:plain-header=16:hmac=sha256" "migrate $headed 4:plain-header=32"; do
+    for words in "rekey 3:4096:rounds=1 3:4096" "migrate $sha256 3:2048:hmac=off" "rekey $headed 4:65536:plain-header=16:hmac=sha256" "migrate $headed 4:plain-header=32" \
+        "rekey $headed 4:65536:hmac=sha1:rounds=2" "rekey $sha256 $sha256:plain-header=32"; do
         read -r command word other <<< "$words"
         file=$scratch/${word//[:=]/-}.db
         key_of "$word"

@@ -41,7 +41,9 @@ RUNS = {
     "play": (RECOVERY, 0, f"read:Main* (output read:Main*)+ draw? {{{COMMIT}}} (output read:Main*)+"),
     "play_ahead": (RECOVERY, 0, f"read:Main* (output read:Main*)+ {{{REKEY}|2|1}} (output read:Main*)+"),
 }
-LAYOUTS = {"1": (1024, 16), "2": (1024, 48), "3": (1024, 48), "4": (4096, 80), "plain:1024": (1024, 0), "plain:4096": (4096, 0)}     # page size and reserve
+HEADED = "4:plain-header=32"
+LAYOUTS = {"1": (1024, 16), "2": (1024, 48), "3": (1024, 48), "4": (4096, 80), HEADED: (4096, 80), "plain:1024": (1024, 0), "plain:4096": (4096, 0)}     # page size and reserve
+NEW_SALT = "the draw of 16 bytes, the new salt"
 ACTS = ("create", "write", "cut", "sync", "remove", "rename")
 ORDERING = ("create", "cut", "sync", "remove", "rename")
 
@@ -262,8 +264,11 @@ class Run:
         self.rows = (self.tables[table] if table else [])[without:]
         for part in re.split(r"(\{[^}]*\})", more):
             self.rows += rows_named(self.tables, part) if part.startswith("{") else [("what the command does itself", part)] if part else []
+        self.salt = 0 if written_version == HEADED or not self.reserve else 16
         if not self.reserve:        # of a plain file nothing is drawn
             self.rows = [(row, undrawn(calls)) for row, calls in self.rows if calls != "draw"]
+        elif not self.salt:         # under a plain header the key line has the salt
+            self.rows = [(row, calls) for row, calls in self.rows if row != NEW_SALT]
         pieces = [expression(calls, self.tables, self.state) for _, calls in self.rows]
         pieces[-1] += r"(?:read:\w+ )*"
         self.prefixes = [re.compile("".join(pieces[:count])) for count in range(len(pieces) + 1)]
@@ -332,7 +337,7 @@ class Run:
 
     def check_draws(self, calls):
         drawn = sum(call.size for call in calls if call.act == "draw")
-        wanted = self.sealed * self.reserve + 16 * (self.name in ("migrate", "make") and self.reserve > 0)
+        wanted = self.sealed * self.reserve + self.salt * (self.name in ("migrate", "make"))
         if self.name != "commit" and drawn != wanted:
             raise Wrong(f"{drawn} bytes are drawn for {self.sealed} pages, and not {wanted}")
 

@@ -1,7 +1,7 @@
 -- A new file, and one page more in it.
 use Rattle.std.proofs.Common.{IsTrue, ◌≡◌, ◌≢◌, ◌⊎◌, inl, inr, ℕ, ◌+◌, ◌-◌, ◌*◌, ◌==◌, ◌≤◌, Bool, true, false, List, [], ◌∷◌, ◌++◌, length, take, drop, Option, Some, None, refl, sym, ◌∙◌, ap, subst, arith, rules, length-append, if◌then◌else◌}
 use Rattle.std.specs.Option.{option_map}
-use Rattle.std.specs.Prelude.{nat_le, ◌&&◌}
+use Rattle.std.specs.Prelude.{nat_le, nat_lt, ◌&&◌, ◌||◌}
 use Rattle.std.proofs.lemmas.Bool.{eqb-true, eqb-false}
 use Rattle.std.proofs.lemmas.Bool.Decides.{nat_tests}
 use Rattle.std.proofs.lemmas.List.{length-take, take-append-le, take_at}
@@ -9,7 +9,7 @@ use Rattle.std.proofs.Math.Nat.{mul-le-mul_right}
 use Rattle.edge_model.specs.Files.{written, Torn}
 use Rattle.fresh_disk.specs.Torn.{MayTear}
 use Rattle.cipher_profile.specs.Profile.{IsLaidOut, is_clear}
-use Rattle.page_codec.specs.Page.{FileKeys, magic, opened, sealed}
+use Rattle.page_codec.specs.Page.{FileKeys, magic, opened, salt_of, sealed}
 use Rattle.db_format.specs.declared.header.Header.{Header}
 use Rattle.db_format.specs.Header.{header_bytes}
 use Rattle.db_format.specs.Pages.{Pages, Test, also, is_page, nothing}
@@ -253,13 +253,18 @@ module _ (keys : FileKeys) (header : Header) (page : ℕ → List ℕ) (head : L
       whole_range : (n : ℕ) → 1 ≤ n → (nat_le 1 n && nat_le n n) ≡ true
       whole_range n le = grind (arith, nat_tests, le)
 
+  begins : salt_of well.paged.file ≡ keys.salt
+  begins = salt_first keys well.paged.file (well.paged.sealed 1 (also_here 1 put)) laid_out salt room
+      (λ plain. ap (λ (l : List ℕ). take 16 (plain_page keys 1 l)) (sym file_is) ∙ ap (λ (l : List ℕ). take 16 l) here
+      ∙ ap (λ (l : List ℕ). take 16 (with_head l (page 1))) is_head ∙ header_first (sized_page header count) (page 1)
+      ∙ sym (plainly (ap (λ (b : Bool). b || nat_lt 0 keys.profile.plain_header) plain)))
+
   pub finished : IsFinished keys header pages start draws_tell after now
   finished = record {
     file = well.paged.file;
     is = same ∙ well.paged.is;
-    salt = salt_first keys well.paged.file (well.paged.sealed 1 (also_here 1 put)) laid_out salt room
-        (λ plain. ap (λ (l : List ℕ). take 16 (plain_page keys 1 l)) (sym file_is) ∙ ap (λ (l : List ℕ). take 16 l) here
-        ∙ ap (λ (l : List ℕ). take 16 (with_head l (page 1))) is_head ∙ header_first (sized_page header count) (page 1) ∙ sym (plainly plain));
+    salt = begins;
+    clear = λ clear. begins ∙ plainly clear;
     size = omega (arith, (well.paged.sealed count last_put).1.whole, well.paged.short);
     sealed = λ n is. well.paged.sealed n (put_of n is);
     first = ap (λ (l : List ℕ). plain_page keys 1 l) (sym file_is) ∙ here ∙ ap (λ (l : List ℕ). with_head l (page 1)) is_head;

@@ -1,15 +1,15 @@
 -- A finished file opens, with the header that was written, and has the pages that were put.
-use Rattle.std.proofs.Common.{◌≡◌, ◌≤◌, ◌*◌, ◌^◌, ◌==◌, ℕ, Bool, true, false, List, [], ◌∷◌, ◌++◌, length, take, drop, Option, Some, Ok, arith, rules, ap, refl, sym, subst, ◌∙◌}
+use Rattle.std.proofs.Common.{◌≡◌, ◌≤◌, ◌-◌, ◌*◌, ◌^◌, ◌==◌, ℕ, Bool, true, false, List, [], ◌∷◌, ◌++◌, length, take, drop, Option, Some, Ok, arith, rules, ap, refl, sym, subst, ◌∙◌}
 use Rattle.std.specs.Prelude.{◌&&◌, ◌||◌, IsTrue, nat_lt, if◌then◌else◌}
 use Rattle.std.specs.Int.{w16, to_be_bytes}
 use Rattle.std.specs.Str.{bytes_eq}
 use Rattle.std.proofs.Math.Nat.{div-eq_of_eq-mul_left, div-mul-le_self, mul-le-mul_right}
 use Rattle.std.proofs.lemmas.Bool.Decides.{nat_tests}
+use Rattle.std.proofs.lemmas.List.{take-take}
 use Rattle.std.proofs.lemmas.Slice.Eq.{bytes_eq-Decides}
 use Rattle.bulk_load.specs.Headed.{IsHeaded}
 use Rattle.cipher_profile.specs.Profile.{IsListed, is_clear, is_plain, usable}
 use Rattle.cipher_profile.specs.declared.profile.Profile.{Profile}
-use Rattle.cipher_profile.proofs.Layouts.{IsListed-laid_out}
 use Rattle.db_format.specs.Count.{count_of_pages, largest_database, size_counts}
 use Rattle.db_format.specs.Header.{header_bytes, header_read, stored_page_size}
 use Rattle.db_format.specs.Pages.{Pages}
@@ -17,12 +17,10 @@ use Rattle.db_format.specs.declared.header.Header.{Header}
 use Rattle.db_format.proofs.HeaderLemmas.{header_read-as}
 use Rattle.page_codec.specs.Page.{FileKeys, accepts, bears_sign, begins_with_magic, fits, magic, opened}
 use Rattle.page_codec.proofs.Parts.{opened_plain_file}
-use Rattle.page_codec.proofs.Salt.{opened_clear}
 use Rattle.pager.specs.File.{first_page, page_stored, whole_pages}
 use Rattle.pager.specs.Opening.{file_header, file_opened}
 use Rattle.pager.specs.Pages.{is_page_number, opened_pages}
 use Rattle.pager.proofs.BatchLemmas.{number_is}
-use Rattle.pager.proofs.Cutting.{page_whole}
 use Rattle.pager.proofs.TxnLemmas.{listed_large}
 use Rattle.atomic_commit.specs.Draws.{OwnDraws}
 use Rattle.fresh_file.specs.Draws.{AreOwnDraws}
@@ -158,15 +156,16 @@ module _ (keys : FileKeys) (header : Header) (start : ℕ) (pages : Pages) (draw
         stored : List ℕ
         stored = page_stored keys file 1
 
-        stored_long : 16 ≤ length stored
-        stored_long = omega (arith, page_whole 1 keys.profile.page_size file (omega arith) (omega (arith, (done.sealed 1 one_is).1.whole)), size)
+        stored_starts : take 16 stored ≡ take 16 file
+        stored_starts =
+            ap (λ (at : ℕ). take 16 (take keys.profile.page_size (drop at file))) {x = (1 - 1) * keys.profile.page_size} {y = 0} (omega arith)
+            ∙ take-take 16 keys.profile.page_size file (omega (arith, size))
 
         by_header : (headed : Bool) → nat_lt 0 keys.profile.plain_header ≡ headed
             → (if headed then begins_with_magic stored && accepts keys 1 stored else accepts keys 1 stored) ≡ true
         by_header true some =
-            let clear : is_clear keys.profile ≡ true = clear_headed keys.profile some in
             both (begins_with_magic stored) (accepts keys 1 stored)
-            (ap (λ (l : List ℕ). bytes_eq l magic) (sym (opened_clear keys stored (IsListed-laid_out keys.profile listed) clear stored_long) ∙ ap (take 16) first) ∙ magic_in_front new_header rest)
+            (ap (λ (l : List ℕ). bytes_eq l magic) (stored_starts ∙ done.clear (clear_headed keys.profile some)) ∙ same_bytes magic)
             (accepted 1 one_is)
         by_header false none = accepted 1 one_is
 

@@ -3,7 +3,8 @@ use Rattle.std.specs.Prelude.{IsTrue, ◌≡◌, ℕ, ◌*◌, ◌≤◌, ◌==�
 use Rattle.db_format.specs.declared.header.Header.{Header}
 use Rattle.db_format.specs.Header.{header_bytes}
 use Rattle.db_format.specs.Pages.{Pages, Test, is_page}
-use Rattle.page_codec.specs.Page.{FileKeys, salt_of}
+use Rattle.cipher_profile.specs.Profile.{is_clear}
+use Rattle.page_codec.specs.Page.{FileKeys, magic, salt_of}
 use Rattle.atomic_commit.specs.Draws.{OwnDraws}
 use Rattle.fresh_file.specs.Sealed.{IsSealed, IsSealedWith, plain_page}
 
@@ -43,12 +44,13 @@ with_head head page = head ++ drop (length head) page
 abbrev pub sized_page : Header → ℕ → Header
 sized_page header count = record header { size_field = count }
 
--- The file begins with the salt. It is these pages and no byte more, each sealed with bytes of its own, of those that were drawn
+-- The file begins with the salt, or with the magic where it holds none. It is these pages and no byte more, each sealed with bytes of its own, of those that were drawn
 -- after the first `start`. Page 1 begins with the header.
 pub record IsFinished (keys : FileKeys) (header : Header) (pages : Pages) (start : ℕ) (draws_tell : Bool) (fresh : Option (List ℕ)) (drawn : List ℕ) : Type 0 where
   pub file : List ℕ
   pub is : fresh ≡ Some file
   pub salt : salt_of file ≡ keys.salt
+  pub clear : is_clear keys.profile ≡ true → salt_of file ≡ magic
   pub size : length file ≡ pages.count * keys.profile.page_size
   pub sealed : (n : ℕ) → is_page pages n ≡ true → IsSealed keys file n
   pub first : plain_page keys 1 file ≡ with_head (header_bytes (sized_page header pages.count)) (pages.page 1)

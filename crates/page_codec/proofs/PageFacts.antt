@@ -5,12 +5,12 @@ use Rattle.std.proofs.lemmas.Bool.{cases_lt}
 use Rattle.std.proofs.lemmas.Grind.{common_steps}
 use Rattle.std.proofs.lemmas.List.{length-append, length-drop, length-take-le}
 use Rattle.std.proofs.lemmas.Slice.{between-put_mid, drop-put_mid}
-use Rattle.std.specs.Prelude.{◌==◌, slice_index, slice_range, if◌then◌else◌}
+use Rattle.std.specs.Prelude.{slice_index, slice_range}
 use Rattle.cbc_mode.specs.Cbc.{IsRoundTrip, cbc_decrypted, cbc_encrypted}
 use Rattle.cbc_mode.specs.Records.{encrypted_record, cbc_text_at}
 use Rattle.cipher_profile.specs.declared.profile.Profile.{Profile}
 use Rattle.cipher_profile.specs.Profile.{IsLaidOut, usable}
-use Rattle.page_codec.specs.Page.{FileKeys, cipher_start, deciphered, magic, stored_iv, untagged}
+use Rattle.page_codec.specs.Page.{FileKeys, begun, cipher_start, deciphered, magic, stored_iv, untagged}
 use Rattle.page_codec.specs.Pages.{AreTagged, IsTagged, nth_page}
 use Rattle.page_codec.proofs.Parts.{part_after, part_before, part_between}
 use borrow.Rule.Slice.PartMut.{put_mid}
@@ -163,7 +163,7 @@ encrypted_page file text n page e le =
     let key : List ℕ = file.keys.enc in
     let u : ℕ = usable file.profile in
     ap (λ (m : ℕ). cbc_encrypted key (take 16 (drop m page)) (take m page) ++ drop m page) e
-    ∙ ap (λ (s : ℕ). take s (if file.profile.plain_header == 0 then file.salt else take u page) ++ cbc_encrypted key (take 16 (drop u page)) (drop s (take u page)) ++ drop u page)
+    ∙ ap (λ (s : ℕ). take s (begun file.salt (take u page)) ++ cbc_encrypted key (take 16 (drop u page)) (drop s (take u page)) ++ drop u page)
     (sym (start_later file.profile n le))
 
 -- a page without its tag is decrypted to its content
@@ -179,7 +179,7 @@ opened_untagged file n plain draw le size back =
     let long : length text ≡ u = back.encrypted_length ∙ size in
     let iv : stored_iv file.profile page ≡ take 16 draw = part_after text draw u (u + 16) 16 long refl in
     let body : slice_range page 0 u ≡ text = part_between [] text draw 0 u refl (omega (arith, long)) in
-    ap (deciphered file n) (ap (λ (s : ℕ). take s (if file.profile.plain_header == 0 then file.salt else plain) ++ cbc_encrypted key (take 16 draw) (drop s plain) ++ draw) none)
-    ∙ ap (λ (s : ℕ). take s (if file.profile.plain_header == 0 then magic else page) ++ cbc_decrypted key (stored_iv file.profile page) (slice_range page s u)) none
+    ap (deciphered file n) (ap (λ (s : ℕ). take s (begun file.salt plain) ++ cbc_encrypted key (take 16 draw) (drop s plain) ++ draw) none)
+    ∙ ap (λ (s : ℕ). take s (begun magic page) ++ cbc_decrypted key (stored_iv file.profile page) (slice_range page s u)) none
     ∙ (λ k. cbc_decrypted key (iv k) (body k))
     ∙ back.decrypts_back

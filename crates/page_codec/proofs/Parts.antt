@@ -1,13 +1,15 @@
 -- Parts of a list that is joined of others, or that has others written into it.
-use Rattle.std.proofs.Common.{◌≡◌, ◌≤◌, ◌+◌, ◌-◌, ◌==◌, ◌⊎◌, inl, inr, refl, rules, ℕ, List, ◌++◌, length, take, drop, ap, sym, ◌∙◌, arith}
-use Rattle.std.specs.Prelude.{Bool, true, false, slice_range, if◌then◌else◌}
-use Rattle.std.proofs.lemmas.List.{append_assoc, drop_at, length-append, take-append-drop, take-take, take_all, take_at}
+use Rattle.std.proofs.Common.{◌≡◌, ◌≤◌, ◌+◌, ◌-◌, ◌==◌, refl, rules, ℕ, List, ◌++◌, length, take, drop, ap, sym, ◌∙◌, arith}
+use Rattle.std.specs.Prelude.{Bool, true, false, nat_le, slice_range, if◌then◌else◌}
+use Rattle.std.proofs.lemmas.List.{append_assoc, drop-take, drop_at, length-append, take-append-drop, take-append-le, take-take, take_all, take_at}
+use Rattle.std.proofs.Math.Seq.{take-append-add}
+use Rattle.std.proofs.lemmas.Bool.Decides.{nat_tests}
 use Rattle.std.proofs.lemmas.Grind.{common_steps}
 use Rattle.std.proofs.lemmas.Slice.{between_is, take-put_mid_below}
 use Rattle.cbc_mode.specs.Cbc.{cbc_decrypted}
 use Rattle.cipher_profile.specs.declared.profile.Profile.{Profile}
 use Rattle.cipher_profile.specs.Profile.{IsLaidOut, is_plain, usable}
-use Rattle.page_codec.specs.Page.{FileKeys, cipher_start, deciphered, magic, opened, plain_head, stored_head, stored_iv}
+use Rattle.page_codec.specs.Page.{FileKeys, begun, cipher_start, deciphered, magic, opened, plain_head, stored_head, stored_iv}
 use borrow.Rule.Slice.PartMut.{put_mid}
 
 -- what lies between a head and a rest
@@ -35,57 +37,73 @@ part_before at len old new i j before within =
     ∙ sym (between_is old i j)
 
 -- where the ciphertext of page 1 begins, and of the others
-pub head_begins : (profile : Profile) (n : ℕ) → n ≡ 1 → profile.plain_header ≡ 0 → cipher_start profile n ≡ 16
-head_begins profile n first none = grind (arith, common_steps, first, none)
-
 pub head_none : (profile : Profile) (n : ℕ) → (n ≡ 1 → ⊥) → cipher_start profile n ≡ 0
 head_none profile n other = grind (arith, common_steps, other)
+
+-- on page 1 it is behind the first 16 bytes
+pub head_long : (profile : Profile) (n : ℕ) → IsLaidOut profile → n ≡ 1 → 16 ≤ cipher_start profile n
+head_long profile n laid_out first = let some = laid_out.header_some in grind (arith, common_steps, some, first)
 
 -- the head of a page has no more bytes than a page has content
 pub head_short : (profile : Profile) (n : ℕ) → IsLaidOut profile → cipher_start profile n ≤ 96
 head_short profile n laid_out = let most = laid_out.header_most in grind (arith, common_steps, most)
 
+-- the first bytes of a page that was begun otherwise go by the first bytes of that page
+pub begun_kept : (first : List ℕ) (start u : ℕ) (page : List ℕ) → length first ≡ 16 → start ≤ u → take start (begun first (take u page)) ≡ take start (begun first page)
+begun_kept first start u page long within = by_length (nat_le 16 u) refl
+  where
+    rest : ℕ
+    rest = u - 16
+
+    by_length : (b : Bool) → nat_le 16 u ≡ b → take start (begun first (take u page)) ≡ take start (begun first page)
+    by_length true is =
+        let more : 16 + rest ≡ u = grind (arith, nat_tests, is) in
+        let all : length first + rest ≡ u = omega (arith, long, more) in
+        ap (λ (k : ℕ). take start (first ++ drop 16 (take k page))) (sym more)
+        ∙ ap (λ (l : List ℕ). take start (first ++ l)) (drop-take 16 rest page)
+        ∙ ap (take start) (sym (take-append-add first (drop 16 page) rest))
+        ∙ ap (λ (k : ℕ). take start (take k (begun first page))) all
+        ∙ take-take start u (begun first page) within
+    by_length false is =
+        let less : start ≤ length first = grind (arith, nat_tests, is, long, within) in
+        take-append-le start first (drop 16 (take u page)) less ∙ sym (take-append-le start first (drop 16 page) less)
+
+-- begun twice is begun so
+pub begun_twice : (first other page : List ℕ) → length other ≡ 16 → begun first (begun other page) ≡ begun first page
+begun_twice first other page long = ap (λ (l : List ℕ). first ++ l) (drop_at other (drop 16 page) 16 long)
+
+-- and begun as it was is the page
+pub begun_own : (first page : List ℕ) → take 16 page ≡ first → begun first page ≡ page
+begun_own first page is = ap (λ (l : List ℕ). l ++ drop 16 page) (sym is) ∙ take-append-drop 16 page
+
 -- a plain page is what it begins with and the rest
-pub magic_first : (profile : Profile) (n : ℕ) (plain : List ℕ) → (n ≡ 1 → profile.plain_header ≡ 0 → take 16 plain ≡ magic)
+pub magic_first : (profile : Profile) (n : ℕ) (plain : List ℕ) → (n ≡ 1 → take 16 plain ≡ magic)
     → plain_head profile n plain ++ drop (cipher_start profile n) plain ≡ plain
-magic_first profile n plain begins = by_header (profile.plain_header == 0) refl
+magic_first profile n plain begins = by_number (n == 1) refl
   where
     start : ℕ
     start = cipher_start profile n
 
-    is_zero : (a : ℕ) → (a == 0) ≡ true → a ≡ 0
-    is_zero a is = search rules
-
-    by_number : (n == 1) ≡ true ⊎ (n == 1) ≡ false → profile.plain_header ≡ 0 → take start magic ≡ take start plain
-    by_number (inl is) none =
+    by_number : (b : Bool) → (n == 1) ≡ b → take start (begun magic plain) ++ drop start plain ≡ plain
+    by_number true is =
         let first : n ≡ 1 = search (rules, is) in
-        let long : start ≡ 16 = head_begins profile n first none in
-        ap (λ (k : ℕ). take k magic) long ∙ sym (begins first none) ∙ ap (λ (k : ℕ). take k plain) (sym long)
-    by_number (inr is) none =
+        ap (λ (l : List ℕ). take start l ++ drop start plain) (begun_own magic plain (begins first)) ∙ take-append-drop start plain
+    by_number false is =
         let some : n ≡ 1 → ⊥ = λ one. search (rules, is, one) in
-        let none_there : start ≡ 0 = head_none profile n some in
-        ap (λ (k : ℕ). take k magic) none_there ∙ ap (λ (k : ℕ). take k plain) (sym none_there)
-
-    tested : (b : Bool) → (b ≡ true) ⊎ (b ≡ false)
-    tested true = inl refl
-    tested false = inr refl
-
-    by_header : (none : Bool) → (profile.plain_header == 0) ≡ none → take start (if none then magic else plain) ++ drop start plain ≡ plain
-    by_header true none = ap (λ (l : List ℕ). l ++ drop start plain) (by_number (tested (n == 1)) (is_zero profile.plain_header none)) ∙ take-append-drop start plain
-    by_header false some = take-append-drop start plain
+        ap (λ (k : ℕ). take k (begun magic plain) ++ drop k plain) (head_none profile n some)
 
 -- what is stored before the ciphertext opens to what the plain page begins with
-pub head_opens : (file : FileKeys) (n : ℕ) (plain text rest : List ℕ) → length (stored_head file n plain) ≡ cipher_start file.profile n
+pub head_opens : (file : FileKeys) (n : ℕ) (plain text rest : List ℕ) → length file.salt ≡ 16 → length (stored_head file n plain) ≡ cipher_start file.profile n
     → plain_head file.profile n (stored_head file n plain ++ text ++ rest) ≡ plain_head file.profile n plain
-head_opens file n plain text rest = by_header (file.profile.plain_header == 0)
-  where
-    start : ℕ
-    start = cipher_start file.profile n
-
-    by_header : (none : Bool) → length (take start (if none then file.salt else plain)) ≡ start
-        → take start (if none then magic else take start (if none then file.salt else plain) ++ text ++ rest) ≡ take start (if none then magic else plain)
-    by_header true long = refl
-    by_header false long = ap (take start) (append_assoc (take start plain) text rest) ∙ take_at (take start plain) (text ++ rest) start long
+head_opens file n plain text rest salt long =
+    let start = cipher_start file.profile n in
+    let head = stored_head file n plain in
+    let page = head ++ text ++ rest in
+    let first : take start page ≡ head = ap (take start) (append_assoc head text rest) ∙ take_at head (text ++ rest) start long in
+    sym (begun_kept magic start start page refl (omega arith))
+    ∙ ap (λ (l : List ℕ). take start (begun magic l)) first
+    ∙ begun_kept magic start start (begun file.salt plain) refl (omega arith)
+    ∙ ap (take start) (begun_twice magic file.salt plain salt)
 
 -- what a page is decrypted to, by its IV and its content
 pub opened_of : (file : FileKeys) (n : ℕ) (stored iv content : List ℕ) → cipher_start file.profile n ≤ usable file.profile → iv ≡ stored_iv file.profile stored → content ≡ take (usable file.profile) stored
@@ -93,15 +111,11 @@ pub opened_of : (file : FileKeys) (n : ℕ) (stored iv content : List ℕ) → c
 unfolding deciphered
 opened_of file n stored iv content within first body =
     let start = cipher_start file.profile n in
-    ap (λ (block : List ℕ). plain_head file.profile n content ++ cbc_decrypted file.keys.enc block (drop start content)) first
-    ∙ ap (λ (text : List ℕ). plain_head file.profile n content ++ cbc_decrypted file.keys.enc (stored_iv file.profile stored) text)
-    (ap (drop start) body ∙ sym (between_is stored start (usable file.profile)))
-    ∙ ap (λ (head : List ℕ). head ++ cbc_decrypted file.keys.enc (stored_iv file.profile stored) (slice_range stored start (usable file.profile)))
-    (head_of (file.profile.plain_header == 0))
-  where
-    head_of : (none : Bool) → take (cipher_start file.profile n) (if none then magic else content) ≡ take (cipher_start file.profile n) (if none then magic else stored)
-    head_of true = refl
-    head_of false = ap (take (cipher_start file.profile n)) body ∙ take-take (cipher_start file.profile n) (usable file.profile) stored within
+    let u = usable file.profile in
+    let head : plain_head file.profile n content ≡ plain_head file.profile n stored =
+    ap (λ (l : List ℕ). take start (begun magic l)) body ∙ begun_kept magic start u stored refl within in
+    let text : drop start content ≡ slice_range stored start u = ap (drop start) body ∙ sym (between_is stored start u) in
+    λ k. head k ++ cbc_decrypted file.keys.enc (first k) (text k)
 
 -- a page of an encrypted file opens to what it is decrypted to
 pub opened_ciphered : (file : FileKeys) (n : ℕ) (page : List ℕ) → is_plain file.profile ≡ false → opened file n page ≡ deciphered file n page

@@ -1,15 +1,15 @@
 -- Every page that opens is a plain page.
-use Rattle.std.proofs.Common.{◌≡◌, ◌≤◌, ◌+◌, ◌-◌, ◌%◌, ℕ, List, ◌++◌, [], ◌∷◌, zero, suc, length, take, drop, refl, arith, rules, ap, sym, ◌∙◌}
-use Rattle.std.specs.Prelude.{◌==◌, ◌||◌, nat_lt, Bool, true, false, slice_range, if◌then◌else◌}
-use Rattle.std.proofs.lemmas.List.{length-append, length-drop, length-take-le, take_at}
-use Rattle.std.proofs.lemmas.Bool.Decides.{nat_tests}
+use Rattle.std.proofs.Common.{◌≡◌, ◌≤◌, ◌+◌, ◌-◌, ◌%◌, ℕ, List, ◌++◌, [], ◌∷◌, zero, suc, length, take, drop, refl, arith, sym, ◌∙◌}
+use Rattle.std.specs.Prelude.{Bool, true, false, slice_range, if◌then◌else◌}
+use Rattle.std.proofs.lemmas.List.{length-append, length-drop, length-take-le, take-append-le, take-take}
+use Rattle.std.proofs.Math.Seq.{take-append_seam}
 use Rattle.std.proofs.lemmas.Grind.{common_steps}
 use Rattle.aes_block.specs.Aes.{AreBytes, IsBlock, IsKey}
 use Rattle.cbc_mode.specs.Cbc.{IsRoundTrip, IsText, cbc_decrypted}
 use Rattle.cipher_profile.specs.declared.profile.Profile.{Profile}
-use Rattle.cipher_profile.specs.Profile.{IsLaidOut, is_clear, is_plain, usable}
-use Rattle.page_codec.specs.Page.{FileKeys, IsPlainPage, ciphertext, cipher_start, deciphered, magic, opened, plain_head, stored_iv}
-use Rattle.page_codec.proofs.Parts.{head_begins, head_short}
+use Rattle.cipher_profile.specs.Profile.{IsLaidOut, is_plain, usable}
+use Rattle.page_codec.specs.Page.{FileKeys, IsPlainPage, begun, ciphertext, cipher_start, deciphered, magic, opened, plain_head, stored_iv}
+use Rattle.page_codec.proofs.Parts.{head_long, head_short}
 
 -- ---- bytes
 
@@ -45,14 +45,6 @@ length-range a i j within =
 start_blocks : (profile : Profile) (n : ℕ) → IsLaidOut profile → cipher_start profile n % 16 ≡ 0
 start_blocks profile n laid_out = let blocks = laid_out.header_blocks in grind (arith, common_steps, blocks)
 
--- page 1 begins with the magic where it is not clear
-magic_long : (profile : Profile) (n : ℕ) → profile.plain_header ≡ 0 → cipher_start profile n ≤ 16
-magic_long profile n none = grind (arith, common_steps, none)
-
--- where page 1 is not clear, there is no plain header
-not_clear : (profile : Profile) → is_clear profile ≡ false → profile.plain_header ≡ 0
-not_clear profile hidden = grind (arith, nat_tests, hidden)
-
 -- every page of an encrypted file, where decryption takes text to text
 deciphered_plain : (file : FileKeys) (n : ℕ) (stored : List ℕ) → IsLaidOut file.profile → is_plain file.profile ≡ false → IsKey file.keys.enc
     → length stored ≡ file.profile.page_size → AreBytes stored
@@ -72,26 +64,19 @@ deciphered_plain file n stored laid_out ciphered key size bytes law =
     let whole : length text % 16 ≡ 0 =
     omega (arith, text_long, laid_out.content, laid_out.blocks, short, start_blocks file.profile n laid_out) in
     let trip = law file.keys.enc iv text key iv_block (record { whole = whole; bytes = AreBytes-range stored start u bytes }) in
+    let begins : List ℕ = begun magic stored in
+    let begun_long : start ≤ length begins = omega (arith, short, room, laid_out.content, length-append magic (drop 16 stored), length-drop 16 stored) in
     let head : List ℕ = plain_head file.profile n stored in
-    let kinds : (none : Bool) → (file.profile.plain_header == 0) ≡ none
-    → (length (take start (if none then magic else stored)) ≡ start) × AreBytes (take start (if none then magic else stored)) = λ none. elim none as (λ k. (file.profile.plain_header == 0) ≡ k
-    → (length (take start (if k then magic else stored)) ≡ start) × AreBytes (take start (if k then magic else stored))) [
-      | true ↦ λ is. (length-take-le start magic (magic_long file.profile n (search (rules, is))), AreBytes-take start magic AreBytes-magic)
-      | false ↦ λ is. (length-take-le start stored (omega (arith, short, room, laid_out.content)), AreBytes-take start stored bytes)
-    ] in
-    let heads = kinds (file.profile.plain_header == 0) refl in
-    let head_long : length head ≡ start = heads.0 in
+    let head_is : length head ≡ start = length-take-le start begins begun_long in
     record {
-      size = omega (arith, length-append head (cbc_decrypted file.keys.enc iv text), head_long, text_long, trip.decrypted_length, laid_out.content, short);
-      bytes = AreBytes-append head (cbc_decrypted file.keys.enc iv text) heads.1 trip.decrypted_bytes;
-      begins = λ first hidden.
-          let none : file.profile.plain_header ≡ 0 = not_clear file.profile hidden in
-          let from : start ≡ 16 = head_begins file.profile n first none in
-          let is : (file.profile.plain_header == 0) ≡ true = search (rules, none) in
-          ap (λ (k : ℕ). take k (head ++ cbc_decrypted file.keys.enc iv text)) (sym from)
-          ∙ take_at head (cbc_decrypted file.keys.enc iv text) start head_long
-          ∙ ap (λ (b : Bool). take start (if b then magic else stored)) is
-          ∙ ap (λ (k : ℕ). take k magic) from;
+      size = omega (arith, length-append head (cbc_decrypted file.keys.enc iv text), head_is, text_long, trip.decrypted_length, laid_out.content, short);
+      bytes = AreBytes-append head (cbc_decrypted file.keys.enc iv text)
+          (AreBytes-take start begins (AreBytes-append magic (drop 16 stored) AreBytes-magic (AreBytes-drop 16 stored bytes))) trip.decrypted_bytes;
+      begins = λ first encrypted.
+          let long : 16 ≤ start = head_long file.profile n laid_out first in
+          take-append-le 16 head (cbc_decrypted file.keys.enc iv text) (omega (arith, head_is, long))
+          ∙ take-take 16 start begins long
+          ∙ take-append_seam magic (drop 16 stored);
     }
 
 -- every page that opens: a page of a plain file is all content
@@ -106,6 +91,6 @@ opened_plain file n stored laid_out key size bytes law = either (is_plain file.p
     either true is = record {
       size = omega (arith, size, laid_out.unreserved is);
       bytes = bytes;
-      begins = λ first hidden. let both : true ≡ false = sym (ap (λ (b : Bool). b || nat_lt 0 file.profile.plain_header) is) ∙ hidden in cc;
+      begins = λ first encrypted. let both : true ≡ false = sym is ∙ encrypted in cc;
     }
     either false is = deciphered_plain file n stored laid_out is key size bytes law

@@ -1,5 +1,5 @@
 // What opens and seals the pages of one file.
-ghost use Rattle.std.specs.Prelude.{◌≡◌, ◌<◌, ◌≤◌, ◌==◌, length, take, true, false, if◌then◌else◌};
+ghost use Rattle.std.specs.Prelude.{◌≡◌, ◌≢◌, ◌<◌, ◌≤◌, ◌==◌, length, take, true, false, if◌then◌else◌};
 ghost use Rattle.std.specs.Int.{w16, to_be_bytes};
 ghost use Rattle.std.specs.Str.{bytes_eq};
 ghost use Rattle.cipher_profile.specs.Profile.{IsListed, is_clear, is_plain, usable};
@@ -201,7 +201,8 @@ impl Codec {
     pub(crate) fn cipher_start(&self, n: u32) -> usize
         ensures value { result ≡ cipher_start self.now.profile n }
         ensures short { result ≤ usable self.now.profile }
-        ensures least { self.now.profile.plain_header ≡ 0 → result ≤ 16 }
+        ensures first { n ≡ 1 → 16 ≤ result }
+        ensures others { n ≢ 1 → result ≡ 0 }
     {
         let _usable = self.profile.usable();
         if n != 1 {

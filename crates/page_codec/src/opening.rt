@@ -1,11 +1,11 @@
 // Opening a stored page.
-ghost use Rattle.std.specs.Prelude.{◌≡◌, ℕ, ◌+◌, ◌*◌, ◌^◌, ◌<◌, ◌≤◌, ◌↔◌, ◌++◌, true, false, length, slice_index_or, take, drop, IfErr, IfOk, IsOk, IsTrue};
+ghost use Rattle.std.specs.Prelude.{◌≡◌, ◌≢◌, ℕ, ◌+◌, ◌*◌, ◌^◌, ◌<◌, ◌≤◌, ◌↔◌, ◌++◌, true, false, length, slice_index_or, take, drop, IfErr, IfOk, IsOk, IsTrue};
 ghost use Rattle.cbc_mode.specs.Cbc.{cbc_decrypted};
 ghost use Rattle.cipher_profile.specs.Profile.{is_plain, usable};
-ghost use Rattle.page_codec.specs.Page.{accepts, cipher_start, deciphered, fits, magic, plain_head, opened};
+ghost use Rattle.page_codec.specs.Page.{accepts, begun, cipher_start, deciphered, fits, magic, plain_head, opened};
 ghost use Rattle.page_codec.specs.Pages.{IsOpenedIf};
 
-use crate::codec::{Codec, IV_LEN, MAGIC};
+use crate::codec::{Codec, IV_LEN, MAGIC, SALT_LEN};
 use cbc_mode::cbc_decrypt;
 
 /// The tag of a page was not right.
@@ -147,9 +147,20 @@ impl Codec {
         let start = self.cipher_start(n);
         let _usable = self.profile.usable();
         let (head, text) = content.split_at_mut(start);
-        if self.profile.plain_header == 0 {
-            head.copy_from_slice(&MAGIC[..start]);
-        }
+        begin_with(n, &MAGIC, head);
         cbc_decrypt(&self.cipher, iv, text);
+    }
+}
+
+// What stands before the ciphertext, with these bytes in front on page 1.
+pub(crate) fn begin_with(n: u32, first: &[u8; SALT_LEN], head: &mut [u8])
+    requires long { n ≡ 1 → 16 ≤ length head.old }
+    requires others { n ≢ 1 → length head.old ≡ 0 }
+    ensures value { head.new ≡ take (length head.old) (begun first.now head.old) }
+    ensures size { length first.now ≡ 16 }
+{
+    if n == 1 {
+        let (begin, _) = head.split_at_mut(SALT_LEN);
+        begin.copy_from_slice(first);
     }
 }

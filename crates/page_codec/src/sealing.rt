@@ -1,12 +1,13 @@
 // Sealing a plain page, or several side by side.
 ghost use Rattle.std.specs.Prelude.{◌≡◌, ℕ, ◌+◌, ◌*◌, ◌<◌, ◌≤◌, ◌++◌, All, false, length, slice_index, take, drop, IsTrue};
-ghost use Rattle.cipher_profile.specs.Profile.{is_clear, is_plain, usable};
+ghost use Rattle.cipher_profile.specs.Profile.{is_plain, usable};
 ghost use Rattle.page_codec.specs.MacKey.{at_once, mac_key};
 ghost use Rattle.page_codec.specs.Page.{accepts, cipher_start, deciphered, enciphered, magic, opened, plain_head, sealed, stored_head, tag, untagged, with_tag};
 ghost use Rattle.page_codec.specs.Pages.{AreTagged, IsTagged, nth_page, sealed_page};
 
 use crate::codec::{Codec, IV_LEN};
 use crate::laws::key_law;
+use crate::opening::begin_with;
 use crate::side_by_side::{SideKey, at_once, numbers_at};
 use cbc_mode::{cbc_encrypt, cbc_encrypt_records, cbc_round_trip_law};
 
@@ -19,7 +20,7 @@ impl Codec {
         requires plain_size { length plain.now ≡ usable self.now.profile }
         requires draw_size { length draw.now ≡ self.now.profile.reserve }
         requires stored_size { length stored.old ≡ self.now.profile.page_size }
-        requires magic { n ≡ 1 → is_clear self.now.profile ≡ false → take 16 plain.now ≡ magic }
+        requires magic { n ≡ 1 → is_plain self.now.profile ≡ false → take 16 plain.now ≡ magic }
         ensures value { stored.new ≡ sealed self.now n plain.now draw.now }
         ensures accepted { IsTrue (accepts self.now n stored.new) }
         ensures opens_to { opened self.now n stored.new ≡ plain.now }
@@ -39,7 +40,7 @@ impl Codec {
         requires draw_size { length draw.now ≡ self.now.profile.reserve }
         requires stored_size { length stored.old ≡ self.now.profile.page_size }
         requires ciphered { is_plain self.now.profile ≡ false }
-        requires magic { n ≡ 1 → self.now.profile.plain_header ≡ 0 → take 16 plain.now ≡ magic }
+        requires magic { n ≡ 1 → take 16 plain.now ≡ magic }
         ensures value { stored.new ≡ enciphered self.now n plain.now draw.now }
         ensures accepted { IsTrue (accepts self.now n stored.new) }
         ensures opens_to { deciphered self.now n stored.new ≡ plain.now }
@@ -178,14 +179,12 @@ impl Codec {
     fn put_head(&self, n: u32, plain: &[u8], head: &mut [u8])
         requires plain_size { length plain.now ≡ usable self.now.profile }
         requires head_size { length head.old ≡ cipher_start self.now.profile n }
-        ensures { head.new ≡ stored_head self.now n plain.now }
+        ensures value { head.new ≡ stored_head self.now n plain.now }
+        ensures salt { length self.now.salt ≡ 16 }
     {
         let start = self.cipher_start(n);
-        if self.profile.plain_header == 0 {
-            head.copy_from_slice(&self.salt[..start]);
-        } else {
-            head.copy_from_slice(&plain[..start]);
-        }
+        head.copy_from_slice(&plain[..start]);
+        begin_with(n, &self.salt, head);
     }
 
     // Writes the page's tag over its place.

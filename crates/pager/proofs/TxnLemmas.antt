@@ -2,17 +2,16 @@
 use Rattle.std.proofs.Common.{◌≡◌, ◌≢◌, ◌==◌, ℕ, ◌+◌, ◌*◌, ◌<◌, ◌≤◌, Bool, true, false, List, [], ◌++◌, length, take, drop, Option, Some, is_some, refl, sym, ap, subst, ◌∙◌, arith, rules, ne_eqb, length-take, take-take}
 use Rattle.std.specs.Prelude.{◌&&◌, unwrap_or, if◌then◌else◌}
 use Rattle.std.specs.Bool.{beq}
-use Rattle.std.specs.Str.{bytes_eq}
 use Rattle.std.proofs.Math.Nat.{le-mul_of_pos_right}
 use Rattle.std.proofs.lemmas.List.{take-append-le}
-use Rattle.std.proofs.Math.Seq.{drop-append_seam}
-use Rattle.cipher_profile.specs.Profile.{IsListed, is_clear}
+use Rattle.cipher_profile.specs.Profile.{IsLaidOut, IsListed, is_plain}
 use Rattle.cipher_profile.specs.declared.profile.Profile.{Profile}
 use Rattle.cipher_profile.proofs.Layouts.{IsListed-laid_out}
 use Rattle.db_format.specs.Count.{largest_database}
 use Rattle.page_cache.specs.Pages.{Page, held_bytes, is_held}
 use Rattle.page_codec.specs.Page.{FileKeys, magic, opened}
-use Rattle.page_codec.proofs.Salt.{opened_hidden}
+use Rattle.page_codec.proofs.Parts.{begun_own}
+use Rattle.page_codec.proofs.Salt.{opened_begins}
 use Rattle.pager.specs.Changed.{HasMagic, same_layout, with_bytes}
 use Rattle.pager.specs.Held.{bytes_of_page}
 use Rattle.pager.proofs.ChangedLemmas.{is_there, page_is}
@@ -22,38 +21,22 @@ pub layout_same : (read write : FileKeys) → same_layout read write ≡ true
     → (write.profile.page_size ≡ read.profile.page_size) × (write.profile.reserve ≡ read.profile.reserve)
 layout_same read write same = search (rules, same)
 
--- two truth values that are found equal
-same_truth : (a b : Bool) → beq a b ≡ true → b ≡ a
-same_truth true true is = refl
-same_truth true false is = is
-same_truth false true is = sym is
-same_truth false false is = refl
-
 pub setting_same : (read write : FileKeys) → same_layout read write ≡ true → write.profile.reads_log ≡ read.profile.reads_log
 setting_same read write same =
-    same_truth read.profile.reads_log write.profile.reads_log
-    (third (read.profile.page_size == write.profile.page_size) (read.profile.reserve == write.profile.reserve) (beq read.profile.reads_log write.profile.reads_log)
-    (beq (is_clear read.profile) (is_clear write.profile)) (bytes_eq read.salt write.salt) same)
+    one read.profile.reads_log write.profile.reads_log
+    (third (read.profile.page_size == write.profile.page_size) (read.profile.reserve == write.profile.reserve) (beq read.profile.reads_log write.profile.reads_log) same)
   where
-    third : (a b d e f : Bool) → (a && b && d && e && f) ≡ true → d ≡ true
-    third false b d e f is = cc
-    third true false d e f is = cc
-    third true true false e f is = cc
-    third true true true e f is = refl
+    one : (a b : Bool) → beq a b ≡ true → b ≡ a
+    one true true is = refl
+    one true false is = is
+    one false true is = sym is
+    one false false is = refl
 
--- both files begin with a salt, or none does
-pub clear_same : (read write : FileKeys) → same_layout read write ≡ true → is_clear write.profile ≡ is_clear read.profile
-clear_same read write same =
-    same_truth (is_clear read.profile) (is_clear write.profile)
-    (fourth (read.profile.page_size == write.profile.page_size) (read.profile.reserve == write.profile.reserve) (beq read.profile.reads_log write.profile.reads_log)
-    (beq (is_clear read.profile) (is_clear write.profile)) (bytes_eq read.salt write.salt) same)
-  where
-    fourth : (a b d e f : Bool) → (a && b && d && e && f) ≡ true → e ≡ true
-    fourth false b d e f is = cc
-    fourth true false d e f is = cc
-    fourth true true false e f is = cc
-    fourth true true true false f is = cc
-    fourth true true true true f is = refl
+    third : (a b d : Bool) → (a && b && d) ≡ true → d ≡ true
+    third false b d is = cc
+    third true false d is = cc
+    third true true false is = cc
+    third true true true is = refl
 
 pub listed_large : (p : Profile) → IsListed p → 512 ≤ p.page_size
 listed_large p listed = let least = (IsListed-laid_out p listed).least in omega (arith, least)
@@ -99,7 +82,20 @@ magic_put n at src old new first there each begins = λ held. (elim (1 == n) as 
   | false ↦ λ t. magic_as old new (each 1 ∙ ap (λ (b : Bool). if b then Some (with_bytes at src (bytes_of_page n old)) else held_bytes 1 old) t) begins held
 ]) refl
 
--- page 1 begins so where the file begins with a salt
-pub magic_kept : (keys : FileKeys) (stored : List ℕ) → is_clear keys.profile ≡ false → with_bytes 0 magic (opened keys 1 stored) ≡ opened keys 1 stored
-magic_kept keys stored hidden =
-    subst (λ (l : List ℕ). with_bytes 0 magic l ≡ l) (sym (opened_hidden keys stored hidden)) (ap (λ (l : List ℕ). magic ++ l) (drop-append_seam magic _))
+-- page 1 of an encrypted file begins so
+pub magic_kept : (keys : FileKeys) (stored : List ℕ) → IsLaidOut keys.profile → is_plain keys.profile ≡ false → with_bytes 0 magic (opened keys 1 stored) ≡ opened keys 1 stored
+magic_kept keys stored laid_out ciphered = begun_own magic (opened keys 1 stored) (opened_begins keys stored laid_out ciphered)
+
+-- codecs with pages of one length and one reserve are both plain, or both not: an encrypted page has a reserve
+pub ciphered_alike : (read write : Profile) → IsListed read → IsListed write → write.page_size ≡ read.page_size → write.reserve ≡ read.reserve
+    → is_plain write ≡ false → is_plain read ≡ false
+ciphered_alike read write read_listed write_listed size reserve ciphered =
+    let room = (IsListed-laid_out write write_listed).room ciphered in
+    let whole = (IsListed-laid_out write write_listed).whole in
+    decide (is_plain read) (λ plain.
+    let none = (IsListed-laid_out read read_listed).unreserved plain in
+    omega (arith, room, whole, size, reserve, none))
+  where
+    decide : (b : Bool) → (b ≡ true → ⊥) → b ≡ false
+    decide true not = absurd (not refl)
+    decide false not = refl

@@ -16,13 +16,13 @@ use Rattle.pager.specs.UnderWay.{HasNewPages, IsUnderWay, Start, is_touched, key
 use Rattle.pager.proofs.BatchLemmas.{Found, find, batch_pages, number_in, number_is}
 use Rattle.pager.proofs.ChangedLemmas.{is_there, listed_at, page_is}
 use Rattle.pager.proofs.Filling.{same_number}
-use Rattle.pager.proofs.TxnLemmas.{magic_kept}
+use Rattle.page_codec.proofs.Salt.{opened_begins}
 use Rattle.rollback_journal.specs.Writing.{Writing}
 use Rattle.atomic_commit.specs.Batches.{HasBatches, HasMarked, IsBatchWritten}
 use Rattle.atomic_commit.specs.Commit.{AreChanges}
 use Rattle.atomic_commit.specs.Database.{Base, stored_page}
 use Rattle.atomic_commit.specs.Facts.{Facts, IsBase, IsCommitBegun}
-use Rattle.cipher_profile.specs.Profile.{is_clear}
+use Rattle.cipher_profile.specs.Profile.{IsLaidOut, is_plain}
 use Rattle.atomic_commit.specs.Marks.{is_marked, marked_count}
 use Rattle.atomic_commit.proofs.Batched.{none_or_some, batches_first, count_none}
 use Rattle.atomic_commit.proofs.Changed.{changed_none}
@@ -325,24 +325,29 @@ touched_again marks held n is m = (elim (m == n) as (λ b. (m == n) ≡ b → is
 pub put_same : (m n : ℕ) (w x y z : List ℕ) → w ≡ x → y ≡ z → (if m == n then w else y) ≡ (if m == n then x else z)
 put_same m n w x y z same other = ap (λ (l : List ℕ). if m == n then l else y) same ∙ ap (λ (l : List ℕ). if m == n then x else l) other
 
-opened_begins : (keys : FileKeys) (stored : List ℕ) → is_clear keys.profile ≡ false → take 16 (opened keys 1 stored) ≡ magic
-opened_begins keys stored ciphered =
-    ap (λ (l : List ℕ). take 16 l) (sym (magic_kept keys stored ciphered)) ∙ take-append_seam magic (drop 16 (opened keys 1 stored))
-
 -- page 1 of an encrypted file begins as each database does
-keys_hidden : (read write : FileKeys) (marks : List Bool) (n : ℕ) → is_clear read.profile ≡ false → is_clear write.profile ≡ false
-    → is_clear (keys_at read write marks n).profile ≡ false
-keys_hidden read write marks n old new = either (is_marked n marks)
+keys_ciphered : (read write : FileKeys) (marks : List Bool) (n : ℕ) → is_plain read.profile ≡ false → is_plain write.profile ≡ false
+    → is_plain (keys_at read write marks n).profile ≡ false
+keys_ciphered read write marks n old new = either (is_marked n marks)
   where
-    either : (b : Bool) → is_clear (if b then write else read).profile ≡ false
+    either : (b : Bool) → is_plain (if b then write else read).profile ≡ false
     either true = new
     either false = old
 
-pub seen_begins : (read write : FileKeys) (file : List ℕ) (count n : ℕ) (marks : List Bool) (held : List Page) → is_clear read.profile ≡ false → is_clear write.profile ≡ false → n ≡ 1 → is_page_number count n ≡ true → is_held n held ≡ false
+keys_laid_out : (read write : FileKeys) (marks : List Bool) (n : ℕ) → IsLaidOut read.profile → IsLaidOut write.profile → IsLaidOut (keys_at read write marks n).profile
+keys_laid_out read write marks n old new = either (is_marked n marks)
+  where
+    either : (b : Bool) → IsLaidOut (if b then write else read).profile
+    either true = new
+    either false = old
+
+pub seen_begins : (read write : FileKeys) (file : List ℕ) (count n : ℕ) (marks : List Bool) (held : List Page) → IsLaidOut read.profile → IsLaidOut write.profile
+    → is_plain read.profile ≡ false → is_plain write.profile ≡ false → n ≡ 1 → is_page_number count n ≡ true → is_held n held ≡ false
     → take 16 ((seen_pages read write file count marks held).page n) ≡ magic
-seen_begins read write file count n marks held old new is num free =
+seen_begins read write file count n marks held old_laid new_laid old new is num free =
     ap (λ (l : List ℕ). take 16 l) (free_or n held _ free ∙ opened_at (keys_at read write marks n) file count n num)
-    ∙ subst (λ (k : ℕ). take 16 (opened (keys_at read write marks k) k (page_stored (keys_at read write marks k) file k)) ≡ magic) (sym is) (opened_begins (keys_at read write marks 1) (page_stored (keys_at read write marks 1) file 1) (keys_hidden read write marks 1 old new))
+    ∙ subst (λ (k : ℕ). take 16 (opened (keys_at read write marks k) k (page_stored (keys_at read write marks k) file k)) ≡ magic) (sym is)
+    (opened_begins (keys_at read write marks 1) (page_stored (keys_at read write marks 1) file 1) (keys_laid_out read write marks 1 old_laid new_laid) (keys_ciphered read write marks 1 old new))
 
 magic_whole : (plain : List ℕ) → take 16 plain ≡ magic → with_bytes 0 magic plain ≡ plain
 magic_whole plain begins = ap (λ (l : List ℕ). l ++ drop 16 plain) (sym begins) ∙ take-append-drop 16 plain

@@ -2,8 +2,7 @@
 use Rattle.std.specs.Prelude.{ℕ, ◌≡◌, ◌≢◌, ◌≤◌, ◌<◌, ◌+◌, ◌*◌, ◌==◌, ◌&&◌, Bool, true, false, List, [], ◌∷◌, ◌++◌, length, take, drop, slice_index, IsTrue, if◌then◌else◌}
 use Rattle.std.specs.Bool.{beq}
 use Rattle.std.specs.List.{AllByRecursion}
-use Rattle.std.specs.Str.{bytes_eq}
-use Rattle.cipher_profile.specs.Profile.{is_clear, usable}
+use Rattle.cipher_profile.specs.Profile.{usable}
 use Rattle.page_codec.specs.Page.{FileKeys, accepts, magic, opened, sealed}
 use Rattle.page_codec.specs.Pages.{nth_page}
 use Rattle.page_cache.specs.Pages.{Page, is_held}
@@ -44,7 +43,7 @@ pub record IsListing (c : Changed) : Type 0 where
 abbrev pub with_bytes : ℕ → List ℕ → List ℕ → List ℕ
 with_bytes at bytes page = take at page ++ (bytes ++ drop (at + length bytes) page)
 
--- page 1 begins as each database does: where the file begins with a salt it opens so, whatever is stored
+-- page 1 begins as each database does: in an encrypted file it opens so, whatever is stored
 abbrev pub HasMagic : List Page → Type 0
 HasMagic held = is_held 1 held ≡ true → take 16 (bytes_of_page 1 held) ≡ magic
 
@@ -77,8 +76,8 @@ pub record IsDrawn (tells : Bool) (before after : List ℕ) (count : ℕ) (draws
   pub many : length draws ≡ count
   pub told : IsTrue tells → after ≡ before ++ draws
 
--- the layout of both is the same: page size, reserve and salt, whether page 1 begins as it is stored, and whether a file is read with its log
+-- the layout of both is the same: page size and reserve, and whether a file is read with its log
 abbrev pub same_layout : FileKeys → FileKeys → Bool
 same_layout read write =
     (read.profile.page_size == write.profile.page_size) && (read.profile.reserve == write.profile.reserve)
-    && beq read.profile.reads_log write.profile.reads_log && beq (is_clear read.profile) (is_clear write.profile) && bytes_eq read.salt write.salt
+    && beq read.profile.reads_log write.profile.reads_log

@@ -1,6 +1,6 @@
 // Changed pages that are written as a batch: sealed side by side before the first is written, or each as it is asked for.
 ghost use Rattle.std.specs.Prelude.{◌≡◌, ◌≤◌, ◌<◌, ◌+◌, ◌*◌, ◌++◌, ℕ, false, length};
-ghost use Rattle.cipher_profile.specs.Profile.{is_clear, usable};
+ghost use Rattle.cipher_profile.specs.Profile.{is_plain, usable};
 ghost use Rattle.page_cache.specs.Pages.{is_held};
 ghost use Rattle.page_codec.specs.Pages.{nth_page};
 ghost use Rattle.pager.specs.Changed.{AreSealed, HasMagic, IsLaid, IsPageSealed};
@@ -25,7 +25,7 @@ pub(crate) struct Sealing<'a> {
     pub(crate) stored: &'a [u8],
     pub(crate) sealed: usize,
     ghost fits: { changed.now.usable ≡ usable codec.now.profile },
-    ghost begins: { is_clear codec.now.profile ≡ false → HasMagic changed.now.held },
+    ghost begins: { is_plain codec.now.profile ≡ false → HasMagic changed.now.held },
     ghost drawn: { length changed.now.numbers * codec.now.profile.reserve ≤ length draws.now },
     ghost done: { AreSealed codec.now changed.now draws.now stored.now sealed },
 }

@@ -2,7 +2,7 @@
 ghost use Rattle.std.specs.Prelude.{◌≡◌, ◌⊎◌, ◌*◌, ◌-◌, ◌<◌, ◌≤◌, [], ℕ, List, length, take, false, Err, IsOk, OnOk, OnErr, IsTrue};
 ghost use Rattle.edge_model.specs.Causes.{HasCause, Rose};
 ghost use Rattle.edge_model.specs.Images.{Each, From, LeavesOnly};
-ghost use Rattle.cipher_profile.specs.Profile.{is_clear, usable};
+ghost use Rattle.cipher_profile.specs.Profile.{is_plain, usable};
 ghost use Rattle.page_codec.specs.Page.{FileKeys};
 ghost use Rattle.edge_model.specs.Files.{main_of};
 ghost use Rattle.atomic_commit.specs.Batches.{HasMarked, IsBatchWritten};
@@ -54,7 +54,7 @@ pub(crate) fn write_frames<D: Disk, E: Entropy>(
     requires journal { (writer.old.page_size ≡ start.base.size) × (writer.old.initial ≡ start.base.pages) }
     requires some { 0 < start.base.pages }
     requires marks { length written.old ≡ start.base.pages }
-    requires plain { (changed.now.usable ≡ usable codec.now.profile) × (is_clear codec.now.profile ≡ false → HasMagic changed.now.held) }
+    requires plain { (changed.now.usable ≡ usable codec.now.profile) × (is_plain codec.now.profile ≡ false → HasMagic changed.now.held) }
     requires room { length changed.now.numbers * codec.now.profile.reserve ≤ length draws.old }
     requires ready { IsReadyFor recorded.old writer.old }
     requires under_way { IsTrue D.tells → IsUnderWay start codec.now recorded.old written.old writer.old (D.reads disk.old) (D.images disk.old) E.tells (E.drawn entropy.old) }
@@ -109,7 +109,7 @@ pub(crate) fn end_frames<D: Disk, E: Entropy>(
     ghost start: { Start }
     requires sizes { (codec.now.profile.page_size ≡ start.base.size) × (changed.now.pages ≡ start.base.pages) × (length buffer.old ≡ start.base.size) }
     requires journal { (writer.old.page_size ≡ start.base.size) × (writer.old.initial ≡ start.base.pages) }
-    requires plain { (changed.now.usable ≡ usable codec.now.profile) × (is_clear codec.now.profile ≡ false → HasMagic changed.now.held) }
+    requires plain { (changed.now.usable ≡ usable codec.now.profile) × (is_plain codec.now.profile ≡ false → HasMagic changed.now.held) }
     requires room { length changed.now.numbers * codec.now.profile.reserve ≤ length draws.old }
     requires base_is { IsBase start.base }
     requires ready { IsReadyFor recorded.old writer.old }

@@ -4,7 +4,7 @@ ghost use Rattle.std.specs.Prelude.{◌≡◌, ◌≢◌, ◌≤◌, ◌<◌, �
 ghost use Rattle.std.specs.List.{range_with_len};
 ghost use Rattle.edge_model.specs.Causes.{HasCause, Rose};
 ghost use Rattle.edge_model.specs.Images.{Each, From, LeavesOnly};
-ghost use Rattle.cipher_profile.specs.Profile.{is_clear, usable};
+ghost use Rattle.cipher_profile.specs.Profile.{is_plain, usable};
 ghost use Rattle.page_cache.specs.Pages.{held_bytes, is_held};
 ghost use Rattle.page_codec.specs.Page.{magic};
 ghost use Rattle.edge_model.specs.Files.{main_of};
@@ -34,7 +34,7 @@ use std::alloc::Global;
 /// Why a transaction was not begun.
 #[derive(Clone, Copy, Debug, PartialEq, Eq)]
 pub enum BeginError {
-    /// The codec for writing has pages of another length, another reserve, another salt or another setting, or page 1 begins otherwise under it.
+    /// The codec for writing has pages of another length, another reserve or another setting.
     LayoutDiffers,
     /// Memory ran out.
     OutOfMemory,
@@ -73,25 +73,19 @@ pub struct Txn<'d, D: Disk, E: Entropy> {
     ghost few: { (length changed.numbers ≤ changed.frames) × (changed.frames ≤ 64) },
     ghost room: { vec_len draws ≡ changed.frames * write.profile.reserve },
     ghost buffers: { (vec_len stored ≡ write.profile.page_size) × (vec_len plain ≡ usable write.profile) },
-    ghost begins: { is_clear write.profile ≡ false → HasMagic changed.held },
-    // both files begin with a salt, or none does
-    ghost alike: { is_clear write.profile ≡ false → is_clear read.profile ≡ false },
+    ghost begins: { is_plain write.profile ≡ false → HasMagic changed.held },
     ghost long: { 16 ≤ usable write.profile },
     ghost journal: { (writer.page_size ≡ write.profile.page_size) × (writer.initial ≡ count) },
     ghost marks: { length written ≡ count },
     ghost before: { IsTrue D.tells → IsAhead read (main_of (D.reads disk.now)) window ahead.items } by { λ f g i told. IsAhead-prop read (main_of (D.reads disk.now)) window ahead.items (f told) (g told) i },
 }
 
-/// Whether both codecs have pages of one length, one reserve and one salt, both files begin alike, with a salt or without, and the setting of both is one.
+/// Whether both codecs have pages of one length and one reserve, and the setting of both is one.
 pub fn is_same_layout(read: &Codec, write: &Codec) -> bool
     ensures { result ≡ same_layout read.now write.now }
 {
     let (old, new) = (*read.profile(), *write.profile());
-    old.page_size == new.page_size
-        && old.reserve == new.reserve
-        && old.reads_log == new.reads_log
-        && old.is_clear() == new.is_clear()
-        && read.salt() == write.salt()
+    old.page_size == new.page_size && old.reserve == new.reserve && old.reads_log == new.reads_log
 }
 
 impl<'d, D: Disk, E: Entropy> Txn<'d, D, E> {
@@ -385,6 +379,8 @@ impl<'d, D: Disk, E: Entropy> Txn<'d, D, E> {
         ensures later { (D.faults self.old.disk.now ≤ D.faults self.new.disk.now) × (E.faults self.old.entropy.now ≤ E.faults self.new.entropy.now) }
         ensures file { (self.new.read ≡ self.old.read) × (self.new.write ≡ self.old.write) × (self.new.count ≡ self.old.count) }
     {
+        let _read = self.read.profile();
+        let _write = self.write.profile();
         self.read_in(n)?;
         self.make_room()?;
         self.place(n);
@@ -396,7 +392,7 @@ impl<'d, D: Disk, E: Entropy> Txn<'d, D, E> {
         requires number { (1 ≤ n) × (n ≤ self.old.count) }
         requires free { is_held n self.old.changed.held ≡ false }
         requires room { length self.old.changed.numbers < self.old.changed.frames }
-        ensures bytes { (n ≡ 1 → is_clear self.old.write.profile ≡ false → take 16 self.old.plain.items ≡ magic) → (m : ℕ) → held_bytes m self.new.changed.held ≡ (if m == n then Some self.old.plain.items else held_bytes m self.old.changed.held) }
+        ensures bytes { (n ≡ 1 → is_plain self.old.write.profile ≡ false → take 16 self.old.plain.items ≡ magic) → (m : ℕ) → held_bytes m self.new.changed.held ≡ (if m == n then Some self.old.plain.items else held_bytes m self.old.changed.held) }
         ensures listed { (m : ℕ) → is_held m self.new.changed.held ≡ (if m == n then true else is_held m self.old.changed.held) }
         ensures held { is_held n self.new.changed.held ≡ true }
         ensures sizes { (self.new.changed.frames ≡ self.old.changed.frames) × (self.new.changed.usable ≡ self.old.changed.usable) × (self.new.changed.pages ≡ self.old.changed.pages) }
@@ -409,7 +405,7 @@ impl<'d, D: Disk, E: Entropy> Txn<'d, D, E> {
         if n > 1 {
             return;
         }
-        if !self.write.profile().is_clear() {
+        if !self.write.profile().is_plain() {
             self.changed.put(1, 0, &MAGIC);
         }
     }

@@ -7,7 +7,7 @@ use Rattle.edge_model.specs.Moments.{goes_less, started}
 use Rattle.edge_model.specs.OnlyRead.{OnlyRead}
 use Rattle.btree_model.specs.Plain.{with_zeros}
 use Rattle.db_format.specs.Pages.{Pages}
-use Rattle.cipher_profile.specs.Profile.{IsLaidOut}
+use Rattle.cipher_profile.specs.Profile.{IsLaidOut, is_plain}
 use Rattle.page_codec.specs.Page.{FileKeys, salt_of}
 use Rattle.pager.specs.Base.{base_of}
 use Rattle.pager.specs.Changed.{same_layout}
@@ -30,7 +30,7 @@ use Rattle.rekey_job.proofs.Renewed.{IsResealed, is_rekeyed, leaves_rekeyed, own
 -- ---- the transaction
 
 module _ (tells : Bool) (keys write : FileKeys) (count : ℕ) (now : Files) (images : Files → Type 0) (draws_told : Bool) (before after : List ℕ) (layout : same_layout keys write ≡ true)
-    (some : 1 ≤ count) (room : 100 ≤ keys.profile.page_size) (told : IsTrue tells) (here : images now) (salt : keys.salt ≡ salt_of (main_of now))
+    (some : 1 ≤ count) (room : 100 ≤ keys.profile.page_size) (told : IsTrue tells) (here : images now) (salt : is_plain write.profile ≡ true → write.salt ≡ salt_of (main_of now)) (salt_long : length write.salt ≡ 16)
     (begun : IsCommitBegun (base_of keys (main_of now) count) images) (clean : AreClean (opened_pages keys (main_of now) count))
     (laid_out : IsLaidOut write.profile × IsLaidOut keys.profile) where
   abbrev old : List ℕ
@@ -59,18 +59,18 @@ module _ (tells : Bool) (keys write : FileKeys) (count : ℕ) (now : Files) (ima
   now_rekeyed files left stands has new =
       let committed : IsCommitted base (main_of files) files = subst (λ (b : Base). IsCommitted b (main_of files) files) same_base (new files stands) in
       subst (λ (l : List ℕ). IsRekeyed keys write count old l) (sym (same_main files))
-      (is_rekeyed keys write count old draws_told before after layout some room salt clean begun.base_is was laid_out (main_of files) (has_told (main_of files) has)
+      (is_rekeyed keys write count old draws_told before after layout some room salt salt_long clean begun.base_is was laid_out (main_of files) (has_told (main_of files) has)
       (committed_counts base (main_of files) files committed))
 
   pub now_drawn : (files : Files) → HasAny any (main_of files) → IsTrue draws_told → FileDraws write (main_of files) (is_page_number count) 0 (drop (length before) after)
   now_drawn files has drawing =
       subst (λ (l : List ℕ). FileDraws write l (is_page_number count) 0 (drop (length before) after)) (sym (same_main files))
-      (own_draws keys write count old draws_told before after layout some room salt clean begun.base_is was laid_out (main_of files) (has_told (main_of files) has) drawing)
+      (own_draws keys write count old draws_told before after layout some room salt salt_long clean begun.base_is was laid_out (main_of files) (has_told (main_of files) has) drawing)
 
   pub at_moments : {D : Type 0} (moment : D → ℕ) (since : D → ℕ → Files → Type 0) (start end : D) → LeavesChanged moment since any (HasAny any) start end
       → LeavesChanged moment since base (IsResealed keys write count old draws_told (drop (length before) after)) start end
   at_moments moment since start end run =
-      leaves_rekeyed keys write count old draws_told before after layout some room salt clean begun.base_is was laid_out moment since start end
+      leaves_rekeyed keys write count old draws_told before after layout some room salt salt_long clean begun.base_is was laid_out moment since start end
       (subst (λ (b : Base). LeavesChanged moment since b (HasAny b) start end) same_base run)
 
 -- the same, of the file that is told

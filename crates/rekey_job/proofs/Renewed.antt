@@ -1,11 +1,11 @@
 -- A file that a transaction left whose pages are all sealed under other keys is a rekeyed file.
-use Rattle.std.proofs.Common.{◌≡◌, inl, inr, ℕ, ◌*◌, ◌≤◌, ◌&&◌, Bool, true, false, IsTrue, List, length, take, drop, replicate, if◌then◌else◌, refl, sym, ap, subst, ◌∙◌, arith, rules, length-take}
+use Rattle.std.proofs.Common.{◌≡◌, inl, inr, ℕ, ◌*◌, ◌≤◌, ◌&&◌, Bool, true, false, IsTrue, List, length, take, drop, replicate, if◌then◌else◌, refl, sym, ap, subst, ◌∙◌, arith, length-take}
 use Rattle.std.proofs.Math.Seq.{drop-append_seam}
 use Rattle.std.proofs.lemmas.List.{take-take}
 use Rattle.edge_model.specs.Files.{Files}
 use Rattle.edge_model.specs.Images.{LeavesOnly}
 use Rattle.btree_model.specs.Plain.{is_leaf, with_zeros}
-use Rattle.cipher_profile.specs.Profile.{IsLaidOut}
+use Rattle.cipher_profile.specs.Profile.{IsLaidOut, is_plain}
 use Rattle.page_codec.specs.Page.{FileKeys, accepts, opened, salt_of, sealed}
 use Rattle.pager.specs.Base.{base_of}
 use Rattle.pager.specs.Changed.{same_layout}
@@ -16,7 +16,7 @@ use Rattle.pager.specs.UnderWay.{HasNewPages}
 use Rattle.pager.proofs.Bases.{some_is}
 use Rattle.pager.proofs.BatchLemmas.{number_in, number_is}
 use Rattle.pager.proofs.Cutting.{cut_page, cut_pages, one_page}
-use Rattle.pager.proofs.Resealed.{counts_same as kept_counts, main_long as whole_main, main_salt as kept_salt}
+use Rattle.pager.proofs.Resealed.{counts_same as kept_counts, main_long as whole_main, main_salt as kept_salt, new_salt as anew_salt, plain_alike}
 use Rattle.pager.proofs.TxnLemmas.{layout_same}
 use Rattle.pager.proofs.UnderWayLemmas.{opened_at}
 use Rattle.atomic_commit.specs.Commit.{LeavesChanged}
@@ -28,11 +28,6 @@ use Rattle.rekey_job.specs.Rekeyed.{IsRekeyed}
 use Rattle.rekey_job.specs.Stops.{AreClean}
 use Rattle.rekey_job.proofs.Checked.{first_used}
 
--- ---- the layout
-
-pub same_salt : (read write : FileKeys) → same_layout read write ≡ true → write.salt ≡ read.salt
-same_salt read write is = search (rules, is)
-
 -- ---- the new file
 
 -- a rekeyed file, each of whose pages has bytes of its own, where the draws are told
@@ -40,7 +35,7 @@ abbrev pub IsResealed : FileKeys → FileKeys → ℕ → List ℕ → Bool → 
 IsResealed keys write count old tells drawn file = IsRekeyed keys write count old file × (IsTrue tells → FileDraws write file (is_page_number count) 0 drawn)
 
 module _ (keys write : FileKeys) (count : ℕ) (old : List ℕ) (tells : Bool) (before after : List ℕ) (layout : same_layout keys write ≡ true) (some : 1 ≤ count) (room : 100 ≤ keys.profile.page_size)
-    (salt : keys.salt ≡ salt_of old) (clean : AreClean (opened_pages keys old count))
+    (salt : is_plain write.profile ≡ true → write.salt ≡ salt_of old) (salt_long : length write.salt ≡ 16) (clean : AreClean (opened_pages keys old count))
     (base : IsBase (base_of keys old count)) (was : (base_of keys old count).counts (length old) ≡ true)
     (laid_out : IsLaidOut write.profile × IsLaidOut keys.profile) where
   abbrev plain : ℕ → List ℕ
@@ -74,9 +69,6 @@ module _ (keys write : FileKeys) (count : ℕ) (old : List ℕ) (tells : Bool) (
     long : count * keys.profile.page_size ≤ length old
     long = base.within
 
-    new_salt : write.salt ≡ salt_of old
-    new_salt = same_salt keys write layout ∙ salt
-
     first_kept : take 100 (plain 1) ≡ take 100 (opened keys 1 (page_stored keys old 1))
     first_kept = ap (take 100) (sym (has.opens 1 one refl) ∙ first_opened)
 
@@ -84,13 +76,20 @@ module _ (keys write : FileKeys) (count : ℕ) (old : List ℕ) (tells : Bool) (
     all_touched is = cc
 
     main_long : count * keys.profile.page_size ≤ length main
-    main_long = whole_main keys write count old (λ n. true) plain tells before after main layout some room long (λ hidden. new_salt) laid_out (λ is. first_kept) all_touched has
+    main_long = whole_main keys write count old (λ n. true) plain tells before after main layout some room long laid_out.0 (λ is. first_kept) all_touched has
 
-    main_salt : take 16 main ≡ salt_of old
-    main_salt = kept_salt keys write count old (λ n. true) plain tells before after main layout some room long (λ hidden. new_salt) laid_out (λ is. first_kept) all_touched has
+    main_salt : take 16 main ≡ write.salt
+    main_salt = by_kind (is_plain write.profile) refl
+      where
+        by_kind : (b : Bool) → is_plain write.profile ≡ b → take 16 main ≡ write.salt
+        by_kind false ciphered =
+            anew_salt keys write count old (λ n. true) plain tells before after main layout some room long laid_out.0 (λ is. first_kept) all_touched has salt_long ciphered refl
+        by_kind true is =
+            kept_salt keys write count old (λ n. true) plain tells before after main layout some room long laid_out.0 (λ is. first_kept) all_touched has
+            (λ ciphered. let both : true ≡ false = sym is ∙ ciphered in cc) (plain_alike keys.profile write.profile laid_out.1 laid_out.0 sizes) ∙ sym (salt is)
 
     counts_same : (len : ℕ) → count_by write (page_stored write main 1) len ≡ count_by keys (page_stored keys old 1) len
-    counts_same = kept_counts keys write count old (λ n. true) plain tells before after main layout some room long (λ hidden. new_salt) laid_out (λ is. first_kept) all_touched has
+    counts_same = kept_counts keys write count old (λ n. true) plain tells before after main layout some room long laid_out.0 (λ is. first_kept) all_touched has
 
     -- a file with its pages, which counts them
     with_pages : (file : List ℕ) → ((n : ℕ) → is_page_number count n ≡ true → page_stored write file n ≡ page_stored write main n) → take 16 file ≡ take 16 main

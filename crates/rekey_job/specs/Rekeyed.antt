@@ -1,4 +1,4 @@
--- What a rekeyed file is to the file of before, which was clean: the same salt, count and plain pages, under other keys. A leaf of the
+-- What a rekeyed file is to the file of before, which was clean: the same count and plain pages, under other keys, with the salt of these. A leaf of the
 -- freelist, whose bytes hold no content, stands as zeros.
 use Rattle.std.specs.Prelude.{◌≡◌, ℕ, true, List, Some}
 use Rattle.btree_model.specs.Plain.{with_zeros}
@@ -10,7 +10,7 @@ use Rattle.rekey_job.specs.Stops.{AreClean}
 
 -- the file `after` under the new keys is the clean file `before`, of so many pages, under the old ones
 pub record IsRekeyed (old_keys new_keys : FileKeys) (count : ℕ) (before after : List ℕ) : Type 0 where
-  pub salt : salt_of after ≡ salt_of before
+  pub salt : salt_of after ≡ new_keys.salt
   pub was : count_of old_keys before ≡ Some count
   pub clean : AreClean (opened_pages old_keys before count)
   pub is : count_of new_keys after ≡ Some count

@@ -7,6 +7,7 @@ ghost use Rattle.btree_model.specs.Plain.{is_leaf};
 ghost use Rattle.db_format.specs.Header.{header_fields};
 ghost use Rattle.db_format.specs.Seen.{marked};
 ghost use Rattle.db_format.specs.Source.{no_pins};
+ghost use Rattle.cipher_profile.specs.Profile.{is_plain};
 ghost use Rattle.page_codec.specs.Page.{salt_of};
 ghost use Rattle.pager.specs.Base.{base_of};
 ghost use Rattle.pager.specs.Changed.{same_layout};
@@ -37,7 +38,7 @@ pub fn rekey<'d, D: Disk, E: Entropy>(
     write: Codec,
 ) -> (&'d mut D, &'d mut E, Result<(), RekeyError>)
     requires unpinned { pins_of pager.cache.held ≡ no_pins }
-    requires salt { IsTrue D.tells → pager.codec.salt ≡ salt_of (main_of (D.reads pager.disk.now)) }
+    requires salt { IsTrue D.tells → is_plain write.profile ≡ true → write.salt ≡ salt_of (main_of (D.reads pager.disk.now)) }
     requires header { IsTrue D.tells → pager.header ≡ header_fields ((opened_pages pager.codec (main_of (D.reads pager.disk.now)) pager.count).page 1) }
     requires begun { IsTrue D.tells → IsCommitBegun (base_of pager.codec (main_of (D.reads pager.disk.now)) pager.count) (D.images pager.disk.now) }
     ensures disk { result.0.ghost_name ≡ pager.entry.disk.ghost_name }
@@ -93,7 +94,7 @@ fn rekey_clean<'d, D: Disk, E: Entropy>(
     leaves: &FreeMap,
 ) -> (&'d mut D, &'d mut E, Result<(), RekeyError>)
     requires layout { same_layout pager.codec write ≡ true }
-    requires salt { IsTrue D.tells → pager.codec.salt ≡ salt_of (main_of (D.reads pager.disk.now)) }
+    requires salt { IsTrue D.tells → is_plain write.profile ≡ true → write.salt ≡ salt_of (main_of (D.reads pager.disk.now)) }
     requires begun { IsTrue D.tells → IsCommitBegun (base_of pager.codec (main_of (D.reads pager.disk.now)) pager.count) (D.images pager.disk.now) }
     requires clean { IsTrue D.tells → AreClean (opened_pages pager.codec (main_of (D.reads pager.disk.now)) pager.count) }
     requires leaves { IsTrue D.tells → (n : ℕ) → marked leaves.now.leaves n ≡ is_leaf (opened_pages pager.codec (main_of (D.reads pager.disk.now)) pager.count) n }
@@ -123,5 +124,6 @@ fn rekey_clean<'d, D: Disk, E: Entropy>(
 {
     let _old = pager.codec().profile();
     let _new = write.profile();
+    let _salt = write.salt();
     rewrite_pages(alloc, pager, write, leaves)
 }

@@ -8,18 +8,18 @@ use Rattle.edge_model.specs.Images.{Each, LeavesOnly}
 use Rattle.edge_model.specs.Moments.{goes_less, started}
 use Rattle.edge_model.specs.OnlyRead.{OnlyRead}
 use Rattle.cipher_profile.proofs.Layouts.{IsListed-laid_out}
-use Rattle.cipher_profile.specs.Profile.{IsLaidOut, IsListed, is_clear, usable}
+use Rattle.cipher_profile.specs.Profile.{IsLaidOut, IsListed, is_clear, is_plain, usable}
 use Rattle.std.proofs.Common.{Result, Ok, Err}
 use Rattle.page_codec.specs.Page.{FileKeys, accepts, magic, opened, salt_of, sealed}
 use Rattle.pager.specs.Changed.{same_layout, with_bytes}
 use Rattle.pager.specs.Database.{count_by, count_of}
-use Rattle.pager.specs.File.{page_stored}
+use Rattle.pager.specs.File.{first_page, page_stored}
 use Rattle.pager.specs.Pages.{is_page_number, opened_pages}
 use Rattle.pager.specs.UnderWay.{HasNewPages}
 use Rattle.pager.proofs.Bases.{some_is}
 use Rattle.pager.proofs.BatchLemmas.{and_true, number_in, number_is}
 use Rattle.pager.proofs.Cutting.{committed_counts, cut_page, cut_pages, one_page}
-use Rattle.pager.proofs.Resealed.{counts_same as kept_counts, main_long as whole_main, main_salt as kept_salt}
+use Rattle.pager.proofs.Resealed.{counts_same as kept_counts, main_long as whole_main, main_salt as kept_salt, plain_alike, starts}
 use Rattle.pager.proofs.TxnLemmas.{layout_same}
 use Rattle.pager.proofs.UnderWayLemmas.{opened_at}
 use Rattle.atomic_commit.specs.Commit.{IsCommitted, LeavesChanged}
@@ -37,7 +37,7 @@ use Rattle.session_hall.specs.declared.step.Answer.TheVariants.{Done as AnswerDo
 use Rattle.pager.specs.Opening.{IsRefusedBy, Opened}
 use Rattle.pager.specs.declared.opening.OpenError.{OpenError}
 use Rattle.pager.specs.declared.opening.OpenError.TheVariants.{Empty as IsEmpty, Short as IsShort, KeyRefused as NoKey, HeaderFault as AtFault, WalMode as IsWal, AutoVacuum as IsVacuum, Ragged as IsRagged, TooLarge as IsLarge, DiskFault as DiskFails, OutOfMemory as MemoryEnds}
-use Rattle.session_hall.proofs.Counting.{count_whole, open_count, open_some}
+use Rattle.session_hall.proofs.Counting.{clear_magic, count_whole, open_count, open_fits, open_some}
 use Rattle.session_hall.proofs.PutOver.{put_back_is}
 use Rattle.session_hall.proofs.Standing.{alone_old, base_begins, stands_alone}
 
@@ -99,14 +99,28 @@ module _ (x : Session) (file : List ℕ) (listed : IsListed x.access.profile) (w
   first : is_page_number count 1 ≡ true
   first = number_is count 1 (omega arith) some
 
-  laid_out : IsLaidOut write.profile × IsLaidOut keys.profile
-  laid_out = (IsListed-laid_out write.profile write_listed, IsListed-laid_out keys.profile listed)
+  laid_out : IsLaidOut write.profile
+  laid_out = IsListed-laid_out write.profile write_listed
+
+  read_laid : IsLaidOut keys.profile
+  read_laid = IsListed-laid_out keys.profile listed
 
   header : 100 ≤ keys.profile.page_size
   header = omega (arith, large)
 
-  write_salt : is_clear write.profile ≡ false → write.salt ≡ salt_of file
-  write_salt hidden = hidden_salt (write_access x) file hidden
+  -- the file begins with the salt of the new codec
+  write_salt : is_clear write.profile ≡ is_clear keys.profile → write.salt ≡ salt_of file
+  write_salt alike = by_kind (is_clear write.profile) refl
+    where
+      by_kind : (b : Bool) → is_clear write.profile ≡ b → write.salt ≡ salt_of file
+      by_kind true clear =
+          ap (λ (b : Bool). if b then magic else salt_of file) clear
+          ∙ sym (starts keys.profile.page_size file (omega (arith, large))
+          ∙ clear_magic keys (first_page keys.profile file) read_laid (sym alike ∙ clear) (open_fits keys file count opens))
+      by_kind false hidden = hidden_salt (write_access x) file hidden
+
+  was_plain : is_plain write.profile ≡ true → is_plain keys.profile ≡ true
+  was_plain = plain_alike keys.profile write.profile read_laid laid_out size_is
 
   -- where page 1 stays as it is, the file keeps its key
   same_codec : is_sealed x 1 ≡ false → write ≡ keys
@@ -120,7 +134,7 @@ module _ (x : Session) (file : List ℕ) (listed : IsListed x.access.profile) (w
 
   module _ (main : List ℕ) (new : HasNew main) where
     abbrev has : HasNewPages (record { base = base_by x file; drawn = before }) write (is_sealed x) plain tells after main
-    has = new.1
+    has = new.2
 
     -- ---- plain pages
 
@@ -174,15 +188,15 @@ module _ (x : Session) (file : List ℕ) (listed : IsListed x.access.profile) (w
 
     -- all pages are there
     main_long : count * keys.profile.page_size ≤ length main
-    main_long = whole_main keys write count file (is_sealed x) plain tells before after main layout some header long write_salt laid_out (λ is. header_kept) same_codec has
+    main_long = whole_main keys write count file (is_sealed x) plain tells before after main layout some header long laid_out (λ is. header_kept) same_codec has
 
     -- the first bytes stay
     main_salt : take 16 main ≡ salt_of file
-    main_salt = kept_salt keys write count file (is_sealed x) plain tells before after main layout some header long write_salt laid_out (λ is. header_kept) same_codec has
+    main_salt = kept_salt keys write count file (is_sealed x) plain tells before after main layout some header long laid_out (λ is. header_kept) same_codec has (λ ciphered. write_salt new.0) was_plain
 
     -- a length counts as many pages as before
     counts_same : (len : ℕ) → count_by write (page_stored write main 1) len ≡ count_by keys (page_stored keys file 1) len
-    counts_same = kept_counts keys write count file (is_sealed x) plain tells before after main layout some header long write_salt laid_out (λ is. header_kept) same_codec has
+    counts_same = kept_counts keys write count file (is_sealed x) plain tells before after main layout some header long laid_out (λ is. header_kept) same_codec has
 
     -- ---- the new file
 

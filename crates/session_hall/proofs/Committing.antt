@@ -124,7 +124,7 @@ module _ {D : Type 0} (reads : D → Files) (images : D → Files → Type 0) (m
         (subst (λ (b : Base). HasWritten (record { base = b; drawn = before }) codec write x (λ m. put_over x m ((opened_pages codec now count).page m)) draws_told after main) base_is left)
 
     layout_of : (main : List ℕ) → HasLeft main → same_layout (codec_of x.access file) (codec_of (write_access x) file) ≡ true
-    layout_of main left = subst (λ (w : FileKeys). same_layout (codec_of x.access file) w ≡ true) write_is (subst (λ (k : FileKeys). same_layout k write ≡ true) codec_is left.0)
+    layout_of main left = subst (λ (w : FileKeys). same_layout (codec_of x.access file) w ≡ true) write_is (subst (λ (k : FileKeys). same_layout k write ≡ true) codec_is left.1)
 
     pub done : (files : Files) (left : Files → Type 0) → left files → HasLeft (main_of files) → Each left (IsCommitted any (main_of files)) → HasSessionChanges x file (main_of files)
     done files left here new each =

@@ -1,7 +1,10 @@
 -- What is known of a file that opens to a count of pages.
-use Rattle.std.proofs.Common.{◌≡◌, ◌==◌, ◌*◌, ◌/◌, ◌%◌, ◌&&◌, ◌≤◌, ◌<◌, if◌then◌else◌, ℕ, Bool, true, false, not, List, [], ◌∷◌, length, Option, Some, None, Result, Ok, Err, refl, sym, ap, subst, ◌∙◌, arith, rules}
+use Rattle.std.proofs.Common.{◌≡◌, ◌==◌, ◌*◌, ◌/◌, ◌%◌, ◌&&◌, ◌≤◌, ◌<◌, if◌then◌else◌, ℕ, Bool, true, false, not, List, [], ◌∷◌, length, take, Option, Some, None, Result, Ok, Err, refl, sym, ap, subst, ◌∙◌, arith, rules}
 use Rattle.std.proofs.Math.Nat.{mul-div_cancel, mul-le-mul_right, mul-mod_left}
-use Rattle.std.specs.Prelude.{nat_lt}
+use Rattle.std.specs.Prelude.{nat_lt, ◌||◌}
+use Rattle.std.proofs.lemmas.Bool.Decides.{nat_tests}
+use Rattle.std.proofs.lemmas.Slice.Eq.{bytes_eq-Decides}
+use Rattle.cipher_profile.specs.Profile.{IsLaidOut, is_clear, is_plain}
 use Rattle.db_format.specs.Bytes.{u16_at}
 use Rattle.db_format.specs.Count.{count_of_pages, largest_database, page_count as pages_by, size_counts}
 use Rattle.db_format.specs.Header.{header_fields, header_read_as, header_rules_as, page_size_of}
@@ -11,12 +14,12 @@ use Rattle.db_format.specs.declared.count.CountRefusal.TheVariants.{Ragged, TooL
 use Rattle.db_format.specs.declared.header.Header.{Header}
 use Rattle.db_format.specs.declared.header.HeaderRefusal.{HeaderRefusal}
 use Rattle.db_format.specs.declared.header.HeaderRefusal.TheVariants.{HeaderFault}
-use Rattle.page_codec.specs.Page.{FileKeys, opened}
+use Rattle.page_codec.specs.Page.{FileKeys, accepts, begins_with_magic, fits, magic, opened}
 use Rattle.pager.specs.File.{first_page, page_stored}
 use Rattle.pager.specs.Opening.{Opened, file_header, file_opened, first_broken, key_rules, length_rules, unless, with_count, with_header}
 use Rattle.pager.specs.Database.{count_by, count_of, counted, ok_count}
 use Rattle.pager.specs.declared.opening.OpenError.{OpenError}
-use Rattle.pager.specs.declared.opening.OpenError.TheVariants.{Empty, Short}
+use Rattle.pager.specs.declared.opening.OpenError.TheVariants.{Empty, KeyRefused, Short}
 use Rattle.pager.proofs.OpeningLemmas.{opened_whole}
 use Rattle.session_hall.specs.Machine.{counted_pages}
 use Rattle.pager.proofs.Cutting.{one_page}
@@ -117,6 +120,41 @@ open_count keys file n is =
     let key = both_past (first_broken (key_rules keys file)) _ x lengths.1 in
     let long : nat_lt (length file) size ≡ false = second_of (length file == 0) (nat_lt (length file) size) Empty (Short (length file)) lengths.0 in
     rw long (ap (λ (r : Result Header HeaderRefusal). counted (length file) r) (header_of keys file x was.1) ∙ ap ok_count (with_counts (length file) (file_header keys file) x key.1))
+
+-- its key fits
+pub open_fits : (keys : FileKeys) (file : List ℕ) (n : ℕ) → counted_pages (file_opened keys file) ≡ Some n → fits keys (first_page keys.profile file) ≡ true
+open_fits keys file n is =
+    let was = counted_open (file_opened keys file) n is in
+    let x : Opened = record { header = was.0; count = n } in
+    let lengths = both_past (first_broken (length_rules keys.profile.page_size file)) _ x was.1 in
+    let key = both_past (first_broken (key_rules keys file)) _ x lengths.1 in
+    not_not (fits keys (first_page keys.profile file)) (only_of (not (fits keys (first_page keys.profile file))) KeyRefused key.0)
+  where
+    only_of : (a : Bool) (e : OpenError) → first_broken ((a, e) ∷ []) ≡ None → a ≡ false
+    only_of true e is = cc
+    only_of false e is = refl
+
+-- a file that holds no salt begins with the magic, where its key fits
+pub clear_magic : (keys : FileKeys) (first : List ℕ) → IsLaidOut keys.profile → is_clear keys.profile ≡ true → fits keys first ≡ true → take 16 first ≡ magic
+clear_magic keys first laid_out clear fit = (bytes_eq-Decides (take 16 first) magic).0 (by_plain (is_plain keys.profile) refl)
+  where
+    is_some : (a : ℕ) → 0 < a → (a == 0) ≡ false
+    is_some a some = grind (arith, nat_tests, some)
+
+    less : (a b : ℕ) → nat_lt a b ≡ true → a < b
+    less a b is = search rules
+
+    first_both : (a b : Bool) → (a && b) ≡ true → a ≡ true
+    first_both true b is = refl
+    first_both false b is = is
+
+    by_plain : (b : Bool) → is_plain keys.profile ≡ b → begins_with_magic first ≡ true
+    by_plain true plain = let is : fits keys first ≡ begins_with_magic first = rw plain refl in sym is ∙ fit
+    by_plain false ciphered =
+        let headed : nat_lt 0 keys.profile.plain_header ≡ true = ap (λ (b : Bool). b || nat_lt 0 keys.profile.plain_header) (sym ciphered) ∙ clear in
+        let tagged : (keys.profile.tag_len == 0) ≡ false = is_some keys.profile.tag_len (laid_out.header_tagged (less 0 keys.profile.plain_header headed)) in
+        let is : fits keys first ≡ (begins_with_magic first && accepts keys 1 first) = rw (ciphered, tagged, headed) refl in
+        first_both (begins_with_magic first) (accepts keys 1 first) (sym is ∙ fit)
 
 first_of : (a b : Bool) (x y : OpenError) → first_broken ((a, x) ∷ (b, y) ∷ []) ≡ None → a ≡ false
 first_of true b x y is = cc

@@ -1,10 +1,12 @@
 -- A loop that writes the pages of a commit: what is seen and touched so far, and that no page is refused.
 use Rattle.std.proofs.Common.{◌≡◌, ◌≢◌, ℕ, ◌+◌, ◌-◌, ◌==◌, ◌&&◌, ◌||◌, Bool, true, false, IsTrue, List, [], ◌++◌, length, take, drop, replicate, append-nil, Option, Some, None, is_some, Result, Ok, Err, if◌then◌else◌, refl, sym, ap, subst, ◌∙◌, arith, rules}
-use Rattle.std.specs.Prelude.{IfErr, IsErrAnd, OnOk}
+use Rattle.std.specs.Bool.{beq}
+use Rattle.std.specs.Prelude.{IfErr, IsErrAnd, OnOk, not}
 use Rattle.std.proofs.lemmas.List.{drop_all, length-replicate, take-append-drop}
 use Rattle.std.proofs.lemmas.Bool.{eqb-true}
 use Rattle.edge_model.specs.Files.{Files, main_of}
-use Rattle.cipher_profile.specs.Profile.{usable}
+use Rattle.cipher_profile.specs.Profile.{is_clear, usable}
+use Rattle.cipher_profile.specs.declared.profile.Profile.{Profile}
 use Rattle.db_format.specs.Pages.{Pages}
 use Rattle.page_cache.specs.Pages.{Page, is_held}
 use Rattle.page_codec.specs.Page.{FileKeys, accepts, sealed}
@@ -219,19 +221,32 @@ untouched_seen read write file count n marks held none untouched =
     ap (λ (h : List Page). (seen_pages read write file count marks h).page n) none
     ∙ ap (λ (b : Bool). (opened_pages (if b then write else read) file count).page n) unmarked
 
+-- files that were found to begin alike do
+pub begin_alike : (read write : FileKeys) (old new : Profile) (was is : Bool) → old ≡ read.profile → new ≡ write.profile → was ≡ is_clear old → is ≡ is_clear new → not (beq was is) ≡ false
+    → is_clear write.profile ≡ is_clear read.profile
+begin_alike read write old new was is one other first second same =
+    sym (second ∙ ap (λ (p : Profile). is_clear p) other) ∙ sym (equal was is same) ∙ (first ∙ ap (λ (p : Profile). is_clear p) one)
+  where
+    equal : (a b : Bool) → not (beq a b) ≡ false → a ≡ b
+    equal true true same = refl
+    equal false false same = refl
+    equal true false same = cc
+    equal false true same = cc
+
 -- what was written in a transaction that began with this file
 pub from_begun : (start : Start) (keys write : FileKeys) (session : Session) (files : Files) (count : ℕ) (keys_now write_now : FileKeys) (files_now : Files) (count_now : ℕ)
     (marks : List Bool) (held : List Page) (tells : Bool) (drawn main : List ℕ)
-    → same_layout keys write ≡ true → keys_now ≡ keys → write_now ≡ write → files_now ≡ files → count_now ≡ count → held ≡ [] → ((n : ℕ) → is_touched marks held n ≡ false)
+    → is_clear write.profile ≡ is_clear keys.profile → same_layout keys write ≡ true → keys_now ≡ keys → write_now ≡ write → files_now ≡ files → count_now ≡ count → held ≡ [] → ((n : ℕ) → is_touched marks held n ≡ false)
     → HasNewPages start write_now (is_sealed session) (λ n. put_over session n ((seen_pages keys_now write_now (main_of files_now) count_now marks held).page n)) tells drawn main
     → HasWritten start keys write session (λ n. put_over session n ((opened_pages keys (main_of files) count).page n)) tells drawn main
-from_begun start keys write session files count keys_now write_now files_now count_now marks held tells drawn main layout k w f c none untouched has =
+from_begun start keys write session files count keys_now write_now files_now count_now marks held tells drawn main alike layout k w f c none untouched has =
     let new : ℕ → List ℕ = λ n. put_over session n ((opened_pages keys (main_of files) count).page n) in
     let path : (n : ℕ) → (seen_pages keys_now write_now (main_of files_now) count_now marks held).page n ≡ (opened_pages keys (main_of files) count).page n =
     λ n. untouched_seen keys_now write_now (main_of files_now) count_now n marks held none (untouched n)
     ∙ ap (λ (x : FileKeys). (opened_pages x (main_of files_now) count_now).page n) k
     ∙ ap (λ (x : Files). (opened_pages keys (main_of x) count_now).page n) f
     ∙ ap (λ (x : ℕ). (opened_pages keys (main_of files) x).page n) c in (
+      alike,
       layout,
       subst (λ (x : FileKeys). HasNewPages start x (is_sealed session) new tells drawn main) w
           (new_as start write_now (is_sealed session) (is_sealed session) (λ n. put_over session n ((seen_pages keys_now write_now (main_of files_now) count_now marks held).page n)) new tells drawn main

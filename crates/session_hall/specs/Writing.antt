@@ -1,5 +1,6 @@
 -- Why the writing of a commit stops.
 use Rattle.std.specs.Prelude.{ℕ, Bool, true, false, List, ⊤, ◌≡◌}
+use Rattle.cipher_profile.specs.Profile.{is_clear}
 use Rattle.page_codec.specs.Page.{FileKeys}
 use Rattle.pager.specs.Changed.{same_layout}
 use Rattle.pager.specs.UnderWay.{HasNewPages, Start}
@@ -10,10 +11,10 @@ use Rattle.session_hall.specs.Session.{Session}
 use Rattle.session_hall.specs.declared.step.Answer.{Answer}
 use Rattle.session_hall.specs.declared.step.Answer.TheVariants.{Done, Page, Busy, Refused, TagRefused, Misuse, Down, DiskFault, EntropyFault, OutOfMemory}
 
--- Main with the pages that the session's commit seals anew, by a codec of the same layout.
+-- Main with the pages that the session's commit seals anew, by a codec of the same layout, of files that begin alike.
 abbrev pub HasWritten : Start → FileKeys → FileKeys → Session → (ℕ → List ℕ) → Bool → List ℕ → List ℕ → Type 0
 HasWritten start read write session plain tells drawn main =
-    (same_layout read write ≡ true) × HasNewPages start write (is_sealed session) plain tells drawn main
+    (is_clear write.profile ≡ is_clear read.profile) × (same_layout read write ≡ true) × HasNewPages start write (is_sealed session) plain tells drawn main
 
 -- a page of the file may be refused so by a call that changes it
 abbrev pub MayStopChange : PageError → Type 0

@@ -72,6 +72,11 @@ pub fn write_changes<'d, D: Disk, E: Entropy>(
     ensures disk_later { D.faults pager.entry.disk.now ≤ D.faults result.0.now }
     ensures entropy_later { E.faults pager.entry.entropy.now ≤ E.faults result.1.now }
 {
+    // In a hall both begin alike.
+    if pager.codec().profile().is_clear() != write.profile().is_clear() {
+        let (disk, entropy) = pager.into_parts();
+        return (disk, entropy, Err(Answer::OutOfMemory));
+    }
     match pager.begin(alloc, write, frames_for(session)) {
         Ok(txn) => write_all(txn, session),
         Err((pager, error)) => {
@@ -92,8 +97,7 @@ fn frames_for(session: &Session) -> u32
     if changed == 0 { 1 } else { changed as u32 }
 }
 
-// The answer where the transaction is not begun: both codecs have the hall's layout and the salt of the file, so that memory alone is
-// wanted.
+// The answer where the transaction is not begun: both codecs have the hall's layout, so that memory alone is wanted.
 fn begin_answer(error: BeginError) -> Answer
     ensures { result ≡ Answer.OutOfMemory }
 {

@@ -52,10 +52,9 @@ commands
                   the stamped one
   rekey PROFILE PROFILE
                   seal every page under another key, of a profile whose pages have
-                  the same size and reserve (other rounds, or 2 and 3), both with a
-                  plain header or neither; prints
-                  `rekeyed: N pages`. A stop at any moment leaves the file under
-                  the old key or under the new one
+                  the same size and reserve (other rounds, 2 and 3, a plain header
+                  or none); prints `rekeyed: N pages`. A stop at any moment leaves
+                  the file under the old key or under the new one
   migrate PROFILE PROFILE
                   write the database anew in the second profile, under the second
                   key, and put it in the file's place; prints `migrated: N pages`.

@@ -198,9 +198,10 @@ fn explain_line(rt: &HostRuntime, version: &str, line: &KeyLine) {
         None => (false, false),
     };
     let kind = match (is_hex, is_salted) {
-        (true, true) => "a passphrase in hex digits, with its salt",
+        (true, true) =>
+            "a passphrase in hex digits, with its salt, which the file does not hold: keep the line",
         (true, false) => "a passphrase in hex digits",
-        (false, true) => "a raw key with its salt",
+        (false, true) => "a raw key with its salt, which the file does not hold: keep the line",
         (false, false) if line.is_raw() => "a raw key",
         (false, false) => "a passphrase",
     };

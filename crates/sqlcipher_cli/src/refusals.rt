@@ -35,7 +35,7 @@ const KEY_NOT_HEX: &str =
     and the salt's 32 digits come behind it";
 
 const LAYOUT_DIFFERS: &str =
-    "the pages of these two versions differ, or the file holds its salt under one of them alone: `migrate` writes the database anew";
+    "the pages of these two versions differ: `migrate` writes the database anew";
 
 const FILE_THERE: &str = "there is such a file already: `make` takes a new name";
 

@@ -4,7 +4,7 @@ use Rattle.std.specs.Bool.{beq}
 use Rattle.cipher_profile.specs.declared.keys.Secret.{Secret}
 use Rattle.cipher_profile.specs.declared.profile.LineForm.{LineForm}
 use Rattle.cipher_profile.specs.declared.profile.Profile.{Profile}
-use Rattle.cipher_profile.specs.Profile.{is_clear, is_plain}
+use Rattle.cipher_profile.specs.Profile.{is_plain}
 use Rattle.edge_model.specs.Files.{Files}
 use Rattle.sqlcipher_tool.specs.Answer.{HasCauses, HasDrawnCauses}
 use Rattle.sqlcipher_tool.specs.Crash.{ChangesBy, GaveKeys, DrewOwn, IsDrawnFor, IsSafely, Keeps, KeepsFresh, KeepsHeld, MakesWith, Stays}
@@ -99,8 +99,8 @@ none_refused command is = both (is_only_read command) (lacks_tags command) (layo
     both false false false is = (refl, refl)
 
 pub same_layout : (old new : Profile) → changes_layout old (Rekey new) ≡ false
-    → (new.page_size ≡ old.page_size) × (new.reserve ≡ old.reserve) × (new.reads_log ≡ old.reads_log) × (is_clear new ≡ is_clear old)
-same_layout old new is = equal (is_plain old) old.page_size new.page_size old.reserve new.reserve old.reads_log new.reads_log (is_clear old) (is_clear new) is
+    → (new.page_size ≡ old.page_size) × (new.reserve ≡ old.reserve) × (new.reads_log ≡ old.reads_log)
+same_layout old new is = equal (is_plain old) old.page_size new.page_size old.reserve new.reserve old.reads_log new.reads_log is
   where
     same : (p q : Bool) → beq p q ≡ true → q ≡ p
     same true true is = refl
@@ -108,18 +108,17 @@ same_layout old new is = equal (is_plain old) old.page_size new.page_size old.re
     same false true is = sym is
     same false false is = refl
 
-    kept : (a b d e : Bool) → not (a && b && d && e) ≡ false → (a ≡ true) × (b ≡ true) × (d ≡ true) × (e ≡ true)
-    kept true true true true is = (refl, refl, refl, refl)
-    kept true true true false is = cc
-    kept true true false e is = cc
-    kept true false d e is = cc
-    kept false b d e is = cc
+    kept : (a b d : Bool) → not (a && b && d) ≡ false → (a ≡ true) × (b ≡ true) × (d ≡ true)
+    kept true true true is = (refl, refl, refl)
+    kept true true false is = cc
+    kept true false d is = cc
+    kept false b d is = cc
 
-    equal : (plain : Bool) (a b d e : ℕ) (p q r s : Bool) → (plain || not (a == b && d == e && beq p q && beq r s)) ≡ false → (b ≡ a) × (e ≡ d) × (q ≡ p) × (s ≡ r)
-    equal true a b d e p q r s is = cc
-    equal false a b d e p q r s is =
-        let each = kept (a == b) (d == e) (beq p q) (beq r s) is in
-        (search (rules, each.0), search (rules, each.1), same p q each.2, same r s each.3)
+    equal : (plain : Bool) (a b d e : ℕ) (p q : Bool) → (plain || not (a == b && d == e && beq p q)) ≡ false → (b ≡ a) × (e ≡ d) × (q ≡ p)
+    equal true a b d e p q is = cc
+    equal false a b d e p q is =
+        let each = kept (a == b) (d == e) (beq p q) is in
+        (search (rules, each.0), search (rules, each.1), same p q each.2)
 
 -- ---- a change of a file
 

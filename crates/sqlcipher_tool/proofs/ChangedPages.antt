@@ -1,9 +1,9 @@
 -- What a transaction leaves that changed page 1, and pages of a test beside it.
 use Rattle.std.proofs.Common.{◌≡◌, ◌⊎◌, ⊎_elim, inl, inr, ◌==◌, ◌≤◌, ◌<◌, ◌+◌, ◌-◌, ◌*◌, ◌^◌, ◌++◌, ℕ, suc, zero, Bool, true, false, IsTrue, List, length, take, drop, Some, Result, Ok, refl, sym, ap, subst, ◌∙◌, arith, rules, length-append, length-take, length-drop}
-use Rattle.std.proofs.lemmas.List.{take-take, length-take-le}
+use Rattle.std.proofs.lemmas.List.{length-take-le}
 use Rattle.std.specs.Cmp.Derive.{both_true}
 use Rattle.std.specs.Int.{w32, to_be_bytes}
-use Rattle.cipher_profile.specs.Profile.{IsLaidOut, IsListed, is_clear, usable}
+use Rattle.cipher_profile.specs.Profile.{IsListed, is_plain, usable}
 use Rattle.cipher_profile.proofs.Layouts.{IsListed-laid_out}
 use Rattle.cipher_profile.specs.declared.profile.Profile.{Profile}
 use Rattle.db_format.specs.Bytes.{u32_at}
@@ -11,20 +11,21 @@ use Rattle.db_format.specs.Count.{count_of_pages, largest_database}
 use Rattle.db_format.specs.Header.{header_fields, header_read_as}
 use Rattle.db_format.specs.declared.header.Header.{Header}
 use Rattle.db_format.specs.declared.header.HeaderRefusal.{HeaderRefusal}
-use Rattle.page_codec.specs.Page.{FileKeys, accepts, opened, salt_of, sealed}
+use Rattle.page_codec.specs.Page.{FileKeys, accepts, opened, salt_of}
 use Rattle.pager.specs.Changed.{with_bytes}
 use Rattle.pager.specs.Database.{count_by, counted, ok_count}
 use Rattle.pager.specs.File.{page_stored}
 use Rattle.pager.specs.Pages.{is_page_number}
 use Rattle.pager.specs.UnderWay.{HasNewPages}
 use Rattle.pager.proofs.BatchLemmas.{number_is}
-use Rattle.pager.proofs.Cutting.{page_whole}
-use Rattle.page_codec.proofs.Salt.{opened_clear, salt_stands, sealed_clear}
+use Rattle.pager.proofs.Resealed.{starts}
+use Rattle.page_codec.proofs.Parts.{opened_plain_file}
+use Rattle.page_codec.proofs.Salt.{salt_stands}
 use Rattle.rekey_job.specs.Draws.{FileDraws}
 use Rattle.sqlcipher_tool.specs.FirstPage.{IsFirstChanged, IsHarmless, changed_page, next_change, with_field}
 use Rattle.sqlcipher_tool.proofs.Databases.{counted_pages, start_of}
 use Rattle.sqlcipher_tool.proofs.FileDraws.{file_draws}
-use Rattle.sqlcipher_tool.proofs.FirstBytes.{changed_first, first_of_page}
+use Rattle.sqlcipher_tool.proofs.FirstBytes.{changed_first}
 use Rattle.sqlcipher_tool.proofs.OpenedParts.{IsOpen, header_size, open_count}
 use Rattle.sqlcipher_tool.proofs.ChangedFields.{bytes_length, changed_count, changed_read}
 
@@ -223,28 +224,19 @@ module _ (keys : FileKeys) (at : ℕ) (bytes : List ℕ) (harmless : IsHarmless 
   salt_long = ap length salt ∙ length-take-le 16 file (omega (arith, is_open.long, size_some))
 
   salt_stays : salt_of main ≡ keys.salt
-  salt_stays =
-      let one = new.own.is_sealed 1 (both_true numbered is_touched) in
-      sym (take-take 16 keys.profile.page_size main (omega (arith, size_some)))
-      ∙ (ap (λ (at : ℕ). take 16 (take keys.profile.page_size (drop at main))) {x = 0} {y = (1 - 1) * keys.profile.page_size} (omega arith)
-      ∙ (ap (λ (l : List ℕ). take 16 l) one ∙ by_clear (is_clear keys.profile) refl _))
+  salt_stays = starts keys.profile.page_size main (omega (arith, size_some)) ∙ by_kind (is_plain keys.profile) refl
     where
-      laid_out : IsLaidOut keys.profile
-      laid_out = IsListed-laid_out keys.profile listed
-
-      file_long : 16 ≤ length (page_stored keys file 1)
-      file_long = omega (arith, page_whole 1 keys.profile.page_size file (omega arith) (omega (arith, is_open.long)), size_some)
-
-      -- a page 1 that begins as it is stored is sealed so, and its first bytes were those of the file
-      by_clear : (b : Bool) → is_clear keys.profile ≡ b → (draw : List ℕ) → take 16 (sealed keys 1 (pages 1) draw) ≡ keys.salt
-      by_clear false hidden draw = salt_stands keys (pages 1) draw hidden salt_long
-      by_clear true clear draw =
-          sealed_clear keys (pages 1) draw laid_out clear (omega (arith, new.sizes 1 numbered is_touched, room))
-          ∙ ap (λ (l : List ℕ). take 16 l) is_page
+      by_kind : (b : Bool) → is_plain keys.profile ≡ b → take 16 first ≡ keys.salt
+      by_kind false ciphered =
+          ap (take 16) (new.own.is_sealed 1 (both_true numbered is_touched))
+          ∙ salt_stands keys (pages 1) _ (IsListed-laid_out keys.profile listed) ciphered salt_long
+      -- the first bytes of a plain file are in the header, and stay
+      by_kind true is =
+          ap (take 16) (sym (opened_plain_file keys 1 first is) ∙ first_changed)
           ∙ (changed_first at bytes n change base harmless.low harmless.high long_base
           ∙ (stands.begins long_plain
-          ∙ (opened_clear keys (page_stored keys file 1) laid_out clear file_long
-          ∙ (first_of_page keys.profile.page_size file (omega (arith, size_some)) ∙ sym salt))))
+          ∙ (ap (take 16) (opened_plain_file keys 1 (page_stored keys file 1) is)
+          ∙ (sym (starts keys.profile.page_size file (omega (arith, size_some))) ∙ sym salt))))
 
   pub same_salt : salt_of main ≡ salt_of file
   same_salt = salt_stays ∙ salt

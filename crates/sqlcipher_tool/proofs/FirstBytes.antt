@@ -1,7 +1,6 @@
 -- The first 16 bytes of a file, where its salt stands, and those of page 1, sealed and with other fields.
-use Rattle.std.proofs.Common.{◌≡◌, ◌≤◌, ◌+◌, ◌-◌, ◌*◌, ◌++◌, ℕ, Bool, true, false, List, length, take, drop, refl, sym, ap, ◌∙◌, arith, length-take, if◌then◌else◌}
+use Rattle.std.proofs.Common.{◌≡◌, ◌≤◌, ◌+◌, ◌++◌, ℕ, Bool, true, false, List, length, take, drop, refl, sym, ap, ◌∙◌, arith, length-take, if◌then◌else◌}
 use Rattle.std.proofs.lemmas.List.{take-append-le, take-take}
-use Rattle.std.proofs.lemmas.Slice.Eq.{bytes_eq-Decides}
 use Rattle.std.specs.Int.{w32, to_be_bytes}
 use Rattle.cipher_profile.proofs.Layouts.{IsListed-laid_out}
 use Rattle.cipher_profile.specs.declared.keys.Secret.{Secret}
@@ -10,8 +9,9 @@ use Rattle.cipher_profile.specs.Profile.{IsListed, is_clear}
 use Rattle.page_codec.specs.Page.{FileKeys, codec_salt, fits, keys_of, magic, salt_of}
 use Rattle.pager.specs.Changed.{with_bytes}
 use Rattle.pager.specs.File.{first_page}
+use Rattle.pager.proofs.Resealed.{starts}
 use Rattle.sqlcipher_tool.specs.FirstPage.{with_field}
-use Rattle.sqlcipher_tool.proofs.OpenedParts.{clear_begins}
+use Rattle.session_hall.proofs.Counting.{clear_magic}
 use Rattle.sqlcipher_tool.proofs.ChangedFields.{bytes_length, field_length}
 
 -- ---- the salt
@@ -19,11 +19,6 @@ use Rattle.sqlcipher_tool.proofs.ChangedFields.{bytes_length, field_length}
 -- of a file that begins with it
 pub hidden_salt : (profile : Profile) (file : List ℕ) → is_clear profile ≡ false → salt_of file ≡ codec_salt profile file
 hidden_salt profile file hidden = sym (ap (λ (b : Bool). if b then magic else salt_of file) hidden)
-
--- page 1 begins as the file
-pub first_of_page : (size : ℕ) (file : List ℕ) → 16 ≤ size → take 16 (take size (drop ((1 - 1) * size) file)) ≡ take 16 file
-first_of_page size file large =
-    ap (λ (at : ℕ). take 16 (take size (drop at file))) {x = (1 - 1) * size} {y = 0} (omega arith) ∙ take-take 16 size file large
 
 -- a file whose key fits begins with the salt of its codec, also where that is the magic
 pub fitting_salt : (profile : Profile) (secret : Secret) (file : List ℕ) → IsListed profile → fits (keys_of profile secret file) (first_page profile file) ≡ true
@@ -43,8 +38,8 @@ fitting_salt profile secret file listed fit = by_clear (is_clear profile) refl
     by_clear false hidden = sym (hidden_salt profile file hidden)
     by_clear true clear =
         ap (λ (b : Bool). if b then magic else salt_of file) clear
-        ∙ sym ((bytes_eq-Decides (take 16 first) magic).0 (clear_begins keys first listed clear fit))
-        ∙ first_of_page profile.page_size file large
+        ∙ sym (clear_magic keys first (IsListed-laid_out profile listed) clear fit)
+        ∙ sym (starts profile.page_size file large)
 
 -- ---- page 1 with other bytes
 

@@ -37,7 +37,7 @@ use Rattle.sqlcipher_tool.specs.Maps.{AreMapsFreed, first_plain, freed_page, has
 use Rattle.sqlcipher_tool.specs.Plain.{IsClean, is_left, refused_in_use}
 use Rattle.sqlcipher_tool.specs.Settle.{keys_set}
 use Rattle.sqlcipher_tool.specs.Settling.{CanLoseMaps}
-use Rattle.sqlcipher_tool.proofs.FirstBytes.{first_of_page}
+use Rattle.pager.proofs.Resealed.{starts}
 use Rattle.sqlcipher_tool.proofs.FirstNode.{first_kind_same, first_page_same}
 use Rattle.sqlcipher_tool.proofs.MapsPage.{freed_byte, freed_count, freed_length, freed_other, freed_trunk}
 use Rattle.sqlcipher_tool.proofs.Numbers.{true_le}
@@ -300,7 +300,7 @@ module _ (passes : Bool) (keys : FileKeys) (before after : List ℕ) (listed : I
   size_some = let least = (IsListed-laid_out keys.profile listed).least in omega (arith, least)
 
   begins : take 16 (page_stored keys after 1) ≡ take 16 (page_stored keys before 1)
-  begins = first_of_page keys.profile.page_size after size_some ∙ (from.salt ∙ sym (first_of_page keys.profile.page_size before size_some))
+  begins = sym (starts keys.profile.page_size after size_some) ∙ (from.salt ∙ starts keys.profile.page_size before size_some)
 
   sign : bears_sign keys.profile (opened keys 1 (page_stored keys after 1)) ≡ bears_sign keys.profile plain
   sign = ap (bears_sign keys.profile) (sym (opened_set passes keys 1 (page_stored keys after 1)) ∙ from.first) ∙ sign_is u count plain from.header few keys.profile

@@ -1,9 +1,6 @@
 -- What is known of a file that opens.
-use Rattle.std.proofs.Common.{◌≡◌, ◌++◌, ◌==◌, ◌≤◌, ◌<◌, ℕ, zero, suc, Bool, true, false, not, List, [], ◌∷◌, length, take, Option, Some, None, Result, Ok, Err, refl, sym, ap, ◌∙◌, arith, rules}
+use Rattle.std.proofs.Common.{◌≡◌, ◌==◌, ◌≤◌, ◌<◌, ℕ, zero, suc, Bool, true, false, not, List, [], ◌∷◌, length, Option, Some, None, Result, Ok, Err, refl, sym, ap, ◌∙◌, arith, rules}
 use Rattle.std.specs.Prelude.{◌&&◌, ◌||◌, if◌then◌else◌, nat_lt, IsTrue}
-use Rattle.std.proofs.Math.Seq.{take-append_seam}
-use Rattle.std.proofs.lemmas.Bool.Decides.{nat_tests}
-use Rattle.std.proofs.lemmas.Slice.Eq.{bytes_eq-Decides}
 use Rattle.cipher_profile.proofs.Layouts.{IsListed-laid_out}
 use Rattle.cipher_profile.specs.Profile.{IsListed, is_clear, is_plain}
 use Rattle.db_format.specs.Bytes.{u16_at}
@@ -14,8 +11,7 @@ use Rattle.db_format.specs.declared.count.CountRefusal.{CountRefusal}
 use Rattle.db_format.specs.declared.header.Header.{Header}
 use Rattle.db_format.specs.declared.header.HeaderRefusal.{HeaderRefusal}
 use Rattle.db_format.specs.declared.header.HeaderRefusal.TheVariants.{HeaderFault}
-use Rattle.page_codec.specs.Page.{FileKeys, accepts, bears_sign, begins_with_magic, fits, magic, opened}
-use Rattle.page_codec.proofs.Salt.{opened_clear, opened_hidden}
+use Rattle.page_codec.specs.Page.{FileKeys, accepts, bears_sign, begins_with_magic, fits, opened}
 use Rattle.page_codec.proofs.TagPlace.{accepts-no_tag}
 use Rattle.pager.specs.Database.{count_of, counted, ok_count}
 use Rattle.pager.specs.File.{first_page, page_stored}
@@ -114,44 +110,6 @@ keyed_of keys first begins accepted = by_header (nat_lt 0 keys.profile.plain_hea
         let begun = begins (clear (is_plain keys.profile) (nat_lt 0 keys.profile.plain_header) some) in
         ap (λ (b : Bool). b && accepts keys 1 first) begun ∙ accepted
     by_header false none = accepted
-
--- page 1 of a file that begins as it is stored begins with the magic where the key fits
-pub clear_begins : (keys : FileKeys) (first : List ℕ) → IsListed keys.profile → is_clear keys.profile ≡ true → fits keys first ≡ true → begins_with_magic first ≡ true
-clear_begins keys first listed clear fit = by_plain (is_plain keys.profile) refl
-  where
-    is_some : (a : ℕ) → 0 < a → (a == 0) ≡ false
-    is_some a some = grind (arith, nat_tests, some)
-
-    headed : (plain some : Bool) → plain ≡ false → (plain || some) ≡ true → some ≡ true
-    headed true some is clear = cc
-    headed false some is clear = clear
-
-    and_first : (a b some : Bool) → some ≡ true → (if some then a && b else b) ≡ true → a ≡ true
-    and_first true b some chosen is = refl
-    and_first false b true chosen is = is
-    and_first false b false chosen is = cc
-
-    by_plain : (b : Bool) → is_plain keys.profile ≡ b → begins_with_magic first ≡ true
-    by_plain true plain = sym (plain_fits keys first plain) ∙ fit
-    by_plain false ciphered =
-        let some = headed (is_plain keys.profile) (nat_lt 0 keys.profile.plain_header) ciphered clear in
-        let more : 0 < keys.profile.plain_header = grind (arith, nat_tests, some) in
-        let tagged = is_some keys.profile.tag_len ((IsListed-laid_out keys.profile listed).header_tagged more) in
-        let inner : keyed keys first ≡ true =
-        sym (ap (λ (b : Bool). if b then bears_sign keys.profile (opened keys 1 first) else keyed keys first) tagged) ∙ (sym (ciphered_fits keys first ciphered) ∙ fit) in
-        and_first (begins_with_magic first) (accepts keys 1 first) (nat_lt 0 keys.profile.plain_header) some inner
-
-begins_so : {rest : List ℕ} (l : List ℕ) → l ≡ magic ++ rest → take 16 l ≡ magic
-begins_so {rest} l is = ap (λ (page : List ℕ). take 16 page) is ∙ take-append_seam magic rest
-
--- a page 1 that the key fits opens to the magic
-pub fitting_magic : (keys : FileKeys) (first : List ℕ) → IsListed keys.profile → 16 ≤ length first → fits keys first ≡ true → take 16 (opened keys 1 first) ≡ magic
-fitting_magic keys first listed long fit = by_clear (is_clear keys.profile) refl
-  where
-    by_clear : (b : Bool) → is_clear keys.profile ≡ b → take 16 (opened keys 1 first) ≡ magic
-    by_clear true clear =
-        opened_clear keys first (IsListed-laid_out keys.profile listed) clear long ∙ (bytes_eq-Decides (take 16 first) magic).0 (clear_begins keys first listed clear fit)
-    by_clear false hidden = begins_so (opened keys 1 first) (opened_hidden keys first hidden)
 
 -- page 1 of a file whose key fits is accepted
 pub fits_accepts : (keys : FileKeys) (first : List ℕ) → IsListed keys.profile → fits keys first ≡ true → accepts keys 1 first ≡ true

@@ -14,6 +14,7 @@ use Rattle.btree_model.specs.Plain.{is_leaf, with_zeros}
 use Rattle.btree_model.proofs.UnmarkedLemmas.{and_left}
 use Rattle.cipher_profile.specs.Profile.{IsListed, is_clear, is_plain}
 use Rattle.cipher_profile.proofs.Layouts.{IsListed-laid_out, reserve_untagged, untagged_reserve}
+use Rattle.cipher_profile.specs.declared.keys.Secret.{Secret}
 use Rattle.cipher_profile.specs.declared.profile.Profile.{Profile}
 use Rattle.db_format.specs.Count.{count_of_pages, size_counts}
 use Rattle.db_format.specs.Header.{header_read_as}
@@ -21,19 +22,18 @@ use Rattle.db_format.specs.Pages.{Pages, nothing}
 use Rattle.db_format.specs.declared.count.CountRefusal.{CountRefusal}
 use Rattle.db_format.specs.declared.header.Header.{Header}
 use Rattle.db_format.specs.declared.header.HeaderRefusal.{HeaderRefusal}
-use Rattle.page_codec.proofs.Salt.{opened_clear}
-use Rattle.page_codec.specs.Page.{FileKeys, accepts, bears_sign, begins_with_magic, fits, magic, opened}
+use Rattle.page_codec.specs.Page.{FileKeys, accepts, bears_sign, begins_with_magic, fits, keys_of, magic, opened, salt_of}
 use Rattle.pager.specs.Database.{count_by, count_of, counted, ok_count}
 use Rattle.pager.specs.File.{page_stored}
 use Rattle.pager.specs.Pages.{is_page_number, opened_pages}
 use Rattle.pager.proofs.BatchLemmas.{number_is}
-use Rattle.pager.proofs.Cutting.{page_whole}
+use Rattle.pager.proofs.Resealed.{plain_alike, starts}
 use Rattle.rekey_job.specs.Rekeyed.{IsRekeyed}
 use Rattle.rekey_job.specs.Stops.{AreClean}
 use Rattle.sqlcipher_tool.specs.Plain.{HaveSamePages, IsClean, Opens, content_of, is_left, refused_in_use}
 use Rattle.sqlcipher_tool.specs.Renewal.{IsRekeyedSo}
 use Rattle.sqlcipher_tool.proofs.Databases.{counted_pages}
-use Rattle.sqlcipher_tool.proofs.OpenedParts.{ciphered_fits, fitting_magic, header_size, keyed, keyed_of, plain_fits}
+use Rattle.sqlcipher_tool.proofs.OpenedParts.{ciphered_fits, header_size, keyed, keyed_of, plain_fits}
 use Rattle.sqlcipher_tool.proofs.Rekeying.{clean_accepted, number_among}
 use Rattle.sqlcipher_tool.proofs.SamePages.{free_same, in_use_same, opens_same}
 use Rattle.sqlcipher_tool.proofs.Verified.{some_is}
@@ -96,20 +96,9 @@ clean_file keys file count fit counts clean = record {
 
 -- ---- the same database
 
--- a file of a plain layout is plain: an encrypted page has room for an IV
-pub same_plain_file : (one other : Profile) → IsListed one → IsListed other → other.reserve ≡ one.reserve → is_plain one ≡ true → is_plain other ≡ true
-same_plain_file one other one_listed other_listed same plain = by_plain (is_plain other) refl
-  where
-    by_plain : (b : Bool) → is_plain other ≡ b → is_plain other ≡ true
-    by_plain true is = is
-    by_plain false is =
-        let none = (IsListed-laid_out one one_listed).unreserved plain in
-        let laid_out = IsListed-laid_out other other_listed in
-        absurd (omega (arith, none, same, laid_out.whole, laid_out.room is))
-
 module _ (old_keys new_keys : FileKeys) (count : ℕ) (old new : List ℕ) (old_listed : IsListed old_keys.profile) (new_listed : IsListed new_keys.profile)
     (sizes : new_keys.profile.page_size ≡ old_keys.profile.page_size) (reserves : new_keys.profile.reserve ≡ old_keys.profile.reserve)
-    (rekeyed : IsRekeyed old_keys new_keys count old new) (clean : IsClean old_keys old) where
+    (plainly : is_clear new_keys.profile ≡ true → new_keys.salt ≡ magic) (rekeyed : IsRekeyed old_keys new_keys count old new) (clean : IsClean old_keys old) where
   abbrev before : Pages
   before = opened_pages old_keys old count
 
@@ -234,18 +223,13 @@ module _ (old_keys new_keys : FileKeys) (count : ℕ) (old new : List ℕ) (old_
       first : is_page_number count 1 ≡ true
       first = number_is count 1 (omega arith) some_pages
 
-      page_long : (keys : FileKeys) (file : List ℕ) → IsListed keys.profile → count_of keys file ≡ Some count → 16 ≤ length (page_stored keys file 1)
-      page_long keys file listed counts =
-          let has = has_header keys (page_stored keys file 1) (length file) count counts in
-          omega (arith, least keys.profile listed, page_whole 1 keys.profile.page_size file (omega arith) (omega (arith, has.long)))
+      large : 16 ≤ new_keys.profile.page_size
+      large = let least = (IsListed-laid_out new_keys.profile new_listed).least in omega (arith, least)
 
-      -- page 1 begins with the magic where it begins as it is stored, since it opens to what the old one opened to
+      -- where it holds no salt the magic stands for that, with which the file begins
       begins : is_clear new_keys.profile ≡ true → begins_with_magic (page_stored new_keys new 1) ≡ true
       begins clear =
-          (bytes_eq-Decides (take 16 (page_stored new_keys new 1)) magic).1
-          (sym (opened_clear new_keys (page_stored new_keys new 1) (IsListed-laid_out new_keys.profile new_listed) clear (page_long new_keys new new_listed rekeyed.is))
-          ∙ ap (λ (l : List ℕ). take 16 l) rekeyed.first
-          ∙ fitting_magic old_keys (page_stored old_keys old 1) old_listed (page_long old_keys old old_listed rekeyed.was) clean.opens.fit)
+          (bytes_eq-Decides (take 16 (page_stored new_keys new 1)) magic).1 (sym (starts new_keys.profile.page_size new large) ∙ rekeyed.salt ∙ plainly clear)
 
       by_tag : (b : Bool) → (new_keys.profile.tag_len == 0) ≡ b → is_plain new_keys.profile ≡ false → is_plain old_keys.profile ≡ false → fits new_keys (page_stored new_keys new 1) ≡ true
       by_tag true none ciphered was_ciphered =
@@ -267,9 +251,12 @@ module _ (old_keys new_keys : FileKeys) (count : ℕ) (old new : List ℕ) (old_
       by_plain true plain = plain_fits new_keys (page_stored new_keys new 1) plain ∙ begins (ap (λ (b : Bool). b || nat_lt 0 new_keys.profile.plain_header) plain)
       by_plain false ciphered = by_tag (new_keys.profile.tag_len == 0) refl ciphered (was (is_plain old_keys.profile) refl)
         where
+          alike : is_plain old_keys.profile ≡ true → is_plain new_keys.profile ≡ true
+          alike = plain_alike new_keys.profile old_keys.profile (IsListed-laid_out new_keys.profile new_listed) (IsListed-laid_out old_keys.profile old_listed) (sym sizes, sym reserves)
+
           was : (b : Bool) → is_plain old_keys.profile ≡ b → is_plain old_keys.profile ≡ false
           was false is = is
-          was true is = absurd (differ (sym (same_plain_file old_keys.profile new_keys.profile old_listed new_listed reserves is) ∙ ciphered))
+          was true is = absurd (differ (sym (alike is) ∙ ciphered))
             where
               differ : true ≡ false → ⊥
               differ is = cc
@@ -279,15 +266,20 @@ module _ (old_keys new_keys : FileKeys) (count : ℕ) (old new : List ℕ) (old_
 
 pub rekeyed_opens : (old_keys new_keys : FileKeys) (count : ℕ) (old new : List ℕ) → IsListed old_keys.profile → IsListed new_keys.profile
     → new_keys.profile.page_size ≡ old_keys.profile.page_size → new_keys.profile.reserve ≡ old_keys.profile.reserve
+    → (is_clear new_keys.profile ≡ true → new_keys.salt ≡ magic)
     → fits old_keys (page_stored old_keys old 1) ≡ true → IsRekeyed old_keys new_keys count old new → (clean : IsClean old_keys old) × Opens new_keys new clean.held
-rekeyed_opens old_keys new_keys count old new old_listed new_listed sizes reserves fit rekeyed =
+rekeyed_opens old_keys new_keys count old new old_listed new_listed sizes reserves plainly fit rekeyed =
     let clean = clean_file old_keys old count fit rekeyed.was rekeyed.clean in
-    (clean, opens_renewed old_keys new_keys count old new old_listed new_listed sizes reserves rekeyed clean)
+    (clean, opens_renewed old_keys new_keys count old new old_listed new_listed sizes reserves plainly rekeyed clean)
+
+-- the magic stands for the salt of a file that holds none
+pub magic_stands : (profile : Profile) (secret : Secret) (file : List ℕ) → is_clear profile ≡ true → (keys_of profile secret file).salt ≡ magic
+magic_stands profile secret file clear = ap (λ (b : Bool). if b then magic else salt_of file) clear
 
 -- all that is said of the new file
-pub rekeyed_so : (old_keys new_keys : FileKeys) (count : ℕ) (old new : List ℕ) → IsListed old_keys.profile → IsListed new_keys.profile
-    → new_keys.profile.page_size ≡ old_keys.profile.page_size → new_keys.profile.reserve ≡ old_keys.profile.reserve
-    → fits old_keys (page_stored old_keys old 1) ≡ true → IsRekeyed old_keys new_keys count old new → IsRekeyedSo old_keys new_keys old new
-rekeyed_so old_keys new_keys count old new old_listed new_listed sizes reserves fit rekeyed =
-    let both = rekeyed_opens old_keys new_keys count old new old_listed new_listed sizes reserves fit rekeyed in
-    record { clean = both.0; opens = both.1; count = count; rekeyed = rekeyed }
+pub rekeyed_so : (old_keys : FileKeys) (profile : Profile) (secret : Secret) (count : ℕ) (salt old new : List ℕ) → IsListed old_keys.profile → IsListed profile
+    → profile.page_size ≡ old_keys.profile.page_size → profile.reserve ≡ old_keys.profile.reserve → fits old_keys (page_stored old_keys old 1) ≡ true
+    → IsRekeyed old_keys (keys_of profile secret new) count old new → salt_of new ≡ salt → IsRekeyedSo old_keys (keys_of profile secret new) salt old new
+rekeyed_so old_keys profile secret count salt old new old_listed new_listed sizes reserves fit rekeyed begins =
+    let both = rekeyed_opens old_keys (keys_of profile secret new) count old new old_listed new_listed sizes reserves (magic_stands profile secret new) fit rekeyed in
+    record { clean = both.0; opens = both.1; count = count; rekeyed = rekeyed; begins = begins }

@@ -3,8 +3,6 @@ use Rattle.std.proofs.Common.{◌≡◌, ◌⊎◌, ⊎_elim, inl, ◌≤◌, �
 use Rattle.std.specs.Bool.{beq}
 use Rattle.std.specs.Prelude.{◌==◌, nat_lt, unwrap_or}
 use Rattle.std.specs.List.{Contains, filter}
-use Rattle.std.specs.Str.{bytes_eq}
-use Rattle.std.proofs.lemmas.Slice.Eq.{bytes_eq-Decides}
 use Rattle.std.proofs.lemmas.List.Elements.{Contains-append_left, Contains-append_right}
 use Rattle.btree_model.specs.Parts.{first_faults, first_refusals, is_database, parts}
 use Rattle.btree_model.specs.Plain.{is_leaf}
@@ -20,7 +18,6 @@ use Rattle.cipher_profile.specs.declared.keys.Secret.{Secret}
 use Rattle.cipher_profile.specs.declared.profile.Profile.{Profile}
 use Rattle.page_codec.specs.Page.{FileKeys, keys_of, opened}
 use Rattle.pager.specs.Base.{base_of}
-use Rattle.cipher_profile.specs.Profile.{is_clear}
 use Rattle.pager.specs.Changed.{same_layout}
 use Rattle.pager.specs.Database.{count_by, count_of, counted}
 use Rattle.pager.specs.File.{page_stored}
@@ -133,12 +130,11 @@ rekey_late RekeyMemory = tt
 
 -- the layouts do not differ
 pub same_laid : (read write : FileKeys) → write.profile.page_size ≡ read.profile.page_size → write.profile.reserve ≡ read.profile.reserve
-    → write.profile.reads_log ≡ read.profile.reads_log → is_clear write.profile ≡ is_clear read.profile → write.salt ≡ read.salt → same_layout read write ≡ true
-same_laid read write sizes reserves settings clear salts =
-    all_five (read.profile.page_size == write.profile.page_size) (read.profile.reserve == write.profile.reserve) (beq read.profile.reads_log write.profile.reads_log)
-    (beq (is_clear read.profile) (is_clear write.profile)) (bytes_eq read.salt write.salt)
+    → write.profile.reads_log ≡ read.profile.reads_log → same_layout read write ≡ true
+same_laid read write sizes reserves settings =
+    all_three (read.profile.page_size == write.profile.page_size) (read.profile.reserve == write.profile.reserve) (beq read.profile.reads_log write.profile.reads_log)
     (equal read.profile.page_size write.profile.page_size (sym sizes)) (equal read.profile.reserve write.profile.reserve (sym reserves))
-    (same_bool read.profile.reads_log write.profile.reads_log (sym settings)) (same_bool (is_clear read.profile) (is_clear write.profile) (sym clear)) ((bytes_eq-Decides read.salt write.salt).1 (sym salts))
+    (same_bool read.profile.reads_log write.profile.reads_log (sym settings))
   where
     equal : (a b : ℕ) → a ≡ b → (a == b) ≡ true
     equal a b is = search (rules, is)
@@ -149,13 +145,8 @@ same_laid read write sizes reserves settings clear salts =
     same_bool false true is = cc
     same_bool false false is = refl
 
-    all_five : (a b d e f : Bool) → a ≡ true → b ≡ true → d ≡ true → e ≡ true → f ≡ true → (a && b && d && e && f) ≡ true
-    all_five true true true true true first second third fourth fifth = refl
-    all_five true true true true false first second third fourth fifth = fifth
-    all_five true true true false f first second third fourth fifth = fourth
-    all_five true true false e f first second third fourth fifth = third
-    all_five true false d e f first second third fourth fifth = second
-    all_five false b d e f first second third fourth fifth = first
+    all_three : (a b d : Bool) → a ≡ true → b ≡ true → d ≡ true → (a && b && d) ≡ true
+    all_three a b d one two three = search (rules, one, two, three)
 
 -- ---- the database
 

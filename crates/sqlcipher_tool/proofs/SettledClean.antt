@@ -37,7 +37,7 @@ use Rattle.sqlcipher_tool.specs.Tags.{numbers_where}
 use Rattle.sqlcipher_tool.proofs.ChangedFields.{byte_kept, changed_byte, changed_length, field_byte, field_length, field_outside}
 use Rattle.sqlcipher_tool.proofs.ChangedPages.{count_few}
 use Rattle.sqlcipher_tool.proofs.Databases.{counted_pages}
-use Rattle.sqlcipher_tool.proofs.FirstBytes.{first_of_page}
+use Rattle.pager.proofs.Resealed.{starts}
 use Rattle.sqlcipher_tool.proofs.FirstNode.{first_kind_same, first_page_same}
 use Rattle.sqlcipher_tool.proofs.Numbers.{true_le}
 use Rattle.sqlcipher_tool.proofs.OpenedParts.{ciphered_fits, fits_accepts, header_size, keyed, plain_fits}
@@ -319,7 +319,7 @@ module _ (passes : Bool) (keys : FileKeys) (before after : List ℕ) (listed : I
   size_some = let least = (IsListed-laid_out keys.profile listed).least in omega (arith, least)
 
   begins : take 16 (page_stored keys after 1) ≡ take 16 (page_stored keys before 1)
-  begins = first_of_page keys.profile.page_size after size_some ∙ (from.salt ∙ sym (first_of_page keys.profile.page_size before size_some))
+  begins = sym (starts keys.profile.page_size after size_some) ∙ (from.salt ∙ starts keys.profile.page_size before size_some)
 
   sign : bears_sign keys.profile (opened keys 1 (page_stored keys after 1)) ≡ bears_sign keys.profile (opened keys 1 (page_stored keys before 1))
   sign =

@@ -2,8 +2,6 @@
 use Rattle.std.proofs.Common.{◌≡◌, ◌≤◌, ◌*◌, ℕ, Bool, List, [], length, drop, Some, Result, Ok, Err, IsTrue, refl, sym, ap, subst, ◌∙◌, arith, rules}
 use Rattle.std.specs.Bool.{beq}
 use Rattle.std.specs.Prelude.{OnOk, if◌then◌else◌, ◌&&◌, ◌==◌, true, false}
-use Rattle.std.specs.Str.{bytes_eq}
-use Rattle.std.proofs.lemmas.Slice.Eq.{bytes_eq-Decides}
 use Rattle.fresh_disk.specs.Published.{IsAlone}
 use Rattle.cipher_profile.specs.Profile.{IsListed, is_clear, usable}
 use Rattle.cipher_profile.specs.declared.profile.Profile.{Profile}
@@ -168,15 +166,14 @@ refused_later tells first now a b d e f h AllPinned same accepted disk entropy w
 pub layout_same : (keys : FileKeys) → same_layout keys keys ≡ true
 layout_same keys =
     parts (keys.profile.page_size == keys.profile.page_size) (keys.profile.reserve == keys.profile.reserve) (beq keys.profile.reads_log keys.profile.reads_log)
-    (beq (is_clear keys.profile) (is_clear keys.profile)) (bytes_eq keys.salt keys.salt)
-    (search rules) (search rules) (same_bool keys.profile.reads_log) (same_bool (is_clear keys.profile)) ((bytes_eq-Decides keys.salt keys.salt).1 refl)
+    (search rules) (search rules) (same_bool keys.profile.reads_log)
   where
     same_bool : (a : Bool) → beq a a ≡ true
     same_bool true = refl
     same_bool false = refl
 
-    parts : (a b d e f : Bool) → a ≡ true → b ≡ true → d ≡ true → e ≡ true → f ≡ true → (a && b && d && e && f) ≡ true
-    parts a b d e f one two three four five = search (rules, one, two, three, four, five)
+    parts : (a b d : Bool) → a ≡ true → b ≡ true → d ≡ true → (a && b && d) ≡ true
+    parts a b d one two three = search (rules, one, two, three)
 
 -- ---- a file that does not open
 

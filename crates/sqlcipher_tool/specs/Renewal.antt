@@ -1,8 +1,8 @@
 -- What the new file of a command is to the old one.
-use Rattle.std.specs.Prelude.{ℕ, ◌==◌, Bool, IsTrue, List, [], ◌∷◌, Option, Some, None}
+use Rattle.std.specs.Prelude.{◌≡◌, ℕ, ◌==◌, Bool, IsTrue, List, [], ◌∷◌, Option, Some, None}
 use Rattle.cipher_profile.specs.declared.keys.Secret.{Secret}
 use Rattle.cipher_profile.specs.declared.profile.Profile.{Profile}
-use Rattle.page_codec.specs.Page.{FileKeys, keys_of}
+use Rattle.page_codec.specs.Page.{FileKeys, keys_of, salt_of}
 use Rattle.sqlcipher_tool.specs.declared.command.Command.{Command}
 use Rattle.sqlcipher_tool.specs.declared.command.Command.TheVariants.{Probe, Recover, Read, Change as ChangeFile, Make}
 use Rattle.sqlcipher_tool.specs.declared.change.Change.{Change}
@@ -15,6 +15,7 @@ use Rattle.rekey_job.specs.Draws.{FileDraws}
 use Rattle.sqlcipher_tool.specs.Migrate.{IsMigratedSo}
 use Rattle.sqlcipher_tool.specs.Opening.{page_count_of}
 use Rattle.sqlcipher_tool.specs.Plain.{IsClean, Opens}
+use Rattle.sqlcipher_tool.specs.Rekey.{rekeyed_salt}
 use Rattle.sqlcipher_tool.specs.Settle.{IsSettledFrom, SettledDraws}
 use Rattle.sqlcipher_tool.specs.Stamp.{IsStamped}
 use Rattle.sqlcipher_tool.specs.Words.{profile_after, profile_before}
@@ -66,13 +67,14 @@ old_keys renewal file = keys_of renewal.old_profile renewal.old_secret file
 abbrev pub new_keys : Renewal → List ℕ → FileKeys
 new_keys renewal file = keys_of renewal.new_profile renewal.new_secret file
 
--- The file `before` is clean under the old keys, and the file `after` opens under the new ones to its content: it is the same file, of
--- some pages, under these.
-pub record IsRekeyedSo (old new : FileKeys) (before after : List ℕ) : Type 0 where
+-- The file `before` is clean under the old keys, and the file `after`, which begins with this salt, opens under the new ones to its
+-- content: it is the same file, of some pages, under these.
+pub record IsRekeyedSo (old new : FileKeys) (salt before after : List ℕ) : Type 0 where
   pub clean : IsClean old before
   pub opens : Opens new after clean.held
   pub count : ℕ
   pub rekeyed : IsRekeyed old new count before after
+  pub begins : salt_of after ≡ salt
 
 -- how many pages the file has under the keys that the secret gives for it, 0 where it has no count
 abbrev pub pages_under : Profile → Secret → List ℕ → ℕ
@@ -85,7 +87,8 @@ IsMadeBy (Recover profile) renewal before after = ⊥
 IsMadeBy (Read profile reading) renewal before after = ⊥
 IsMadeBy (ChangeFile profile (Stamp field value)) renewal before after = IsStamped (old_keys renewal before) field value before after
 IsMadeBy (ChangeFile profile (Settle frames)) renewal before after = IsSettledFrom (old_keys renewal before) (new_keys renewal after) before after
-IsMadeBy (ChangeFile profile (Rekey new)) renewal before after = IsRekeyedSo (old_keys renewal before) (new_keys renewal after) before after
+IsMadeBy (ChangeFile profile (Rekey new)) renewal before after =
+    IsRekeyedSo (old_keys renewal before) (new_keys renewal after) (rekeyed_salt renewal.old_profile renewal.old_secret renewal.new_profile before) before after
 IsMadeBy (ChangeFile profile (Migrate new)) renewal before after = IsMigratedSo (old_keys renewal before) (new_keys renewal after) before after
 IsMadeBy (Make profile rows) renewal before after = IsMade renewal.new_profile renewal.new_secret rows after
 

@@ -27,7 +27,7 @@ use Rattle.std.specs.List.{list_all}
 use Rattle.std.specs.Option.{option_map, option_and_then}
 use Rattle.std.specs.Str.{bytes_eq}
 use Rattle.std.specs.Str.Parse.{digits_value, starts_with_minus}
-use Rattle.cipher_profile.specs.Profile.{IsListed, form_of, is_clear, is_plain, set_log}
+use Rattle.cipher_profile.specs.Profile.{IsListed, form_of, is_plain, set_log}
 use Rattle.profile_word.specs.Word.{named_without_log, profile_named}
 use Rattle.cipher_profile.specs.declared.profile.LineForm.{LineForm}
 use Rattle.cipher_profile.specs.declared.profile.Profile.{Profile}
@@ -164,12 +164,12 @@ is_in_place (Rekey new) = true
 is_in_place (Migrate new) = false
 
 -- it asks for new keys in place, of a profile whose pages have another size or reserve, or which has another setting, or of a plain
--- file, which has no key; or one of both files begins with its salt and the other does not
+-- file, which has no key
 abbrev pub changes_layout : Profile → Change → Bool
 changes_layout old (Stamp field value) = false
 changes_layout old (Settle frames) = false
 changes_layout old (Rekey new) =
-    is_plain old || not (old.page_size == new.page_size && old.reserve == new.reserve && beq old.reads_log new.reads_log && beq (is_clear old) (is_clear new))
+    is_plain old || not (old.page_size == new.page_size && old.reserve == new.reserve && beq old.reads_log new.reads_log)
 changes_layout old (Migrate new) = false
 
 -- it asks for tags that the profile has not

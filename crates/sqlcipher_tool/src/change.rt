@@ -95,7 +95,7 @@ impl Change {
     }
 
     /// Whether it asks for new keys in place, of a profile whose pages have another size or reserve, or which has another setting,
-    /// or of a plain file; or one of both files begins with its salt and the other does not.
+    /// or of a plain file.
     pub fn changes_layout(&self, old: &Profile) -> bool
         ensures { result ≡ changes_layout old.now self.now }
     {
@@ -104,8 +104,7 @@ impl Change {
                 old.is_plain()
                     || !(old.page_size == new.page_size
                         && old.reserve == new.reserve
-                        && old.reads_log == new.reads_log
-                        && old.is_clear() == new.is_clear())
+                        && old.reads_log == new.reads_log)
             }
             Change::Stamp { .. } | Change::Settle { .. } | Change::Migrate(_) => false,
         }

@@ -124,10 +124,10 @@ pub fn export_run_law()
 
 /// A rekeyed file opens under the new keys to the content that the old one had, which was clean, where the old key fits that.
 pub fn rekey_opens_law()
-    ensures { (old_keys new_keys : FileKeys) (count : ℕ) (old new : List ℕ) → IsListed old_keys.profile → IsListed new_keys.profile
-        → new_keys.profile.page_size ≡ old_keys.profile.page_size → new_keys.profile.reserve ≡ old_keys.profile.reserve
-        → fits old_keys (page_stored old_keys old 1) ≡ true → IsRekeyed old_keys new_keys count old new
-        → (clean : IsClean old_keys old) × Opens new_keys new clean.held }
+    ensures { (old_keys : FileKeys) (profile : Profile) (secret : Secret) (count : ℕ) (old new : List ℕ) → IsListed old_keys.profile → IsListed profile
+        → profile.page_size ≡ old_keys.profile.page_size → profile.reserve ≡ old_keys.profile.reserve
+        → fits old_keys (page_stored old_keys old 1) ≡ true → IsRekeyed old_keys (keys_of profile secret new) count old new
+        → (clean : IsClean old_keys old) × Opens (keys_of profile secret new) new clean.held }
 {}
 
 /// Of a file that opens and is clean nothing but the count of its pages is due to `rekey`.

@@ -1,14 +1,15 @@
 // `rekey`: every page is sealed under another key, in one transaction.
-ghost use Rattle.std.specs.Prelude.{◌≡◌, ◌≢◌, ◌≤◌, drop, length, Ok, Err, IfErr, IsErr, OnOk, IsTrue, Some};
+ghost use Rattle.std.specs.Prelude.{◌≡◌, ◌≢◌, ◌≤◌, drop, length, true, Ok, Err, IfErr, IsErr, OnOk, IsTrue, Some, if◌then◌else◌};
 ghost use Rattle.std.specs.List.{Contains};
 ghost use Rattle.fresh_disk.specs.OnlyFresh.{IsOld};
 ghost use Rattle.fresh_disk.specs.Published.{IsAlone};
 ghost use Rattle.edge_model.specs.Causes.{Rose};
 ghost use Rattle.edge_model.specs.Images.{Each, From, LeavesOnly};
 ghost use Rattle.edge_model.specs.OnlyRead.{OnlyRead};
-ghost use Rattle.cipher_profile.specs.Profile.{IsListed, is_clear};
+ghost use Rattle.cipher_profile.specs.Keys.{salt_or};
+ghost use Rattle.cipher_profile.specs.Profile.{IsListed, is_clear, is_plain};
 ghost use Rattle.db_format.specs.Source.{no_pins};
-ghost use Rattle.page_codec.specs.Page.{keys_of, salt_of};
+ghost use Rattle.page_codec.specs.Page.{keys_of, magic, salt_of};
 ghost use Rattle.edge_model.specs.Files.{main_of};
 ghost use Rattle.pager.specs.Held.{pins_of};
 ghost use Rattle.pager.specs.Opening.{file_opened};
@@ -21,7 +22,7 @@ ghost use Rattle.sqlcipher_tool.specs.Change.{IsLateChange, KeepsOrCommits, chan
 ghost use Rattle.rekey_job.specs.Draws.{FileDraws};
 ghost use Rattle.sqlcipher_tool.specs.Holding.{HoldsOnly, held_by};
 ghost use Rattle.sqlcipher_tool.specs.Opening.{AreRecovered, opened_with, page_count_of};
-ghost use Rattle.sqlcipher_tool.specs.Rekey.{rekey_answers, rekey_due};
+ghost use Rattle.sqlcipher_tool.specs.Rekey.{rekey_answers, rekey_due, rekeyed_salt};
 ghost use Rattle.sqlcipher_tool.specs.Renewal.{IsRekeyedSo, WithDraws};
 
 use crate::opening::{ChangeError, Stop, open_main};
@@ -29,7 +30,7 @@ use crate::status::Refusal;
 use crate::text::rekeyed_report;
 use cipher_profile::{Profile, Secret};
 use edge_model::{Disk, Entropy};
-use page_codec::Codec;
+use page_codec::{Codec, MAGIC};
 use pager::{OpenedFile, PageSource, Pager};
 use rekey_job::{RekeyError, rekey};
 use std::alloc::Global;
@@ -46,13 +47,14 @@ pub fn rekey_file<E: Entropy, D: Disk>(
     disk: &mut D,
 ) -> Result<Text, ChangeError>
     requires listed { IsListed old × IsListed new }
-    requires layout { (new.page_size ≡ old.page_size) × (new.reserve ≡ old.reserve) × (new.reads_log ≡ old.reads_log) × (is_clear new ≡ is_clear old) }
+    requires layout { (new.page_size ≡ old.page_size) × (new.reserve ≡ old.reserve) × (new.reads_log ≡ old.reads_log) }
     requires recovered { IsTrue D.tells → AreRecovered (D.reads disk.old) (D.images disk.old) }
     requires alone { IsTrue D.tells → old.page_size ≤ length (main_of (D.reads disk.old)) → Each (D.images disk.old) (IsAlone (main_of (D.reads disk.old))) }
     ensures told { IsTrue D.tells → (answer : Answer) → change_answer result ≡ Some answer → Contains (rekey_answers old first.now (main_of (D.reads disk.old))) answer }
     ensures safely { IsTrue D.tells → Each (D.images disk.old) (HoldsOnly (held_by (keys_of old first.now (main_of (D.reads disk.old))) (main_of (D.reads disk.old))))
         → KeepsOrCommits D.reads D.images D.moment D.since (change_status result)
-        (WithDraws (λ file. IsRekeyedSo (keys_of old first.now (main_of (D.reads disk.old))) (keys_of new second.now file) (main_of (D.reads disk.old)) file) E.tells
+        (WithDraws (λ file. IsRekeyedSo (keys_of old first.now (main_of (D.reads disk.old))) (keys_of new second.now file)
+        (rekeyed_salt old first.now new (main_of (D.reads disk.old))) (main_of (D.reads disk.old)) file) E.tells
         (λ file. FileDraws (keys_of new second.now file) file (is_page_number (page_count_of (keys_of new second.now file) file)) 0 (drop (length (E.drawn entropy.old)) (E.drawn entropy.new))))
         (HoldsOnly (held_by (keys_of old first.now (main_of (D.reads disk.old))) (main_of (D.reads disk.old))))
         (λ file. HoldsOnly (held_by (keys_of new second.now file) file)) disk.old disk.new }
@@ -73,12 +75,24 @@ pub fn rekey_file<E: Entropy, D: Disk>(
         Err(stop) => return Err(ChangeError::Stopped(stop)),
     };
     let pager = file.into_pager(disk, entropy);
-    let write = Codec::of_secret(new, second, pager.codec().salt());
+    let salt = rekeyed_salt(&new, first, &pager.codec().salt());
+    let write = Codec::of_secret(new, second, salt);
     let (disk, entropy, done) = rekey_pages(alloc, pager, write);
     // Both end here as they are, entropy first: the prover learns of each from these lines.
     let _ = entropy;
     let _ = disk;
     done
+}
+
+// What the new file begins with: the salt of the old keys, or the magic where it holds none.
+fn rekeyed_salt(new: &Profile, first: &Secret, salt: &[u8; 16]) -> [u8; 16]
+    ensures { result ≡ (if is_clear new.now then magic else salt_or first.now salt.now) }
+{
+    if new.is_clear() {
+        MAGIC
+    } else {
+        first.salt_or(salt)
+    }
 }
 
 // All pages are sealed under this codec. The disk and the entropy come back in any case.
@@ -88,9 +102,9 @@ fn rekey_pages<'d, D: Disk, E: Entropy>(
     write: Codec,
 ) -> (&'d mut D, &'d mut E, Result<Text, ChangeError>)
     requires layout { (write.profile.page_size ≡ pager.codec.profile.page_size) × (write.profile.reserve ≡ pager.codec.profile.reserve)
-        × (write.profile.reads_log ≡ pager.codec.profile.reads_log) × (is_clear write.profile ≡ is_clear pager.codec.profile) × (write.salt ≡ pager.codec.salt) }
+        × (write.profile.reads_log ≡ pager.codec.profile.reads_log) }
     requires unpinned { pins_of pager.cache.held ≡ no_pins }
-    requires salt { IsTrue D.tells → pager.codec.salt ≡ salt_of (main_of (D.reads pager.disk.now)) }
+    requires salt { IsTrue D.tells → is_plain write.profile ≡ true → write.salt ≡ salt_of (main_of (D.reads pager.disk.now)) }
     requires opened { IsTrue D.tells → file_opened pager.codec (main_of (D.reads pager.disk.now)) ≡ Ok (record { header = pager.header; count = pager.count }) }
     requires alone { IsTrue D.tells → Each (D.images pager.disk.now) (IsAlone (main_of (D.reads pager.disk.now))) }
     ensures disk { result.0.ghost_name ≡ pager.entry.disk.ghost_name }

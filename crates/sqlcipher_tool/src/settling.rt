@@ -50,6 +50,7 @@ use edge_model::{Disk, Entropy, Failed, Role, Sink, Source};
 use log_recovery::{LogLaid, settle_log};
 use log_view::ViewError;
 use map_pages::{MapRefusal, census_beside};
+use page_codec::MAGIC;
 use pager::{PageError, Pager, codec_of, file_length, read_main};
 use std::alloc::Global;
 
@@ -323,7 +324,7 @@ fn has_other_salt<D: Disk>(
     Ok(fits && codec.salt().as_slice() != salt.as_slice())
 }
 
-// Whether this is the salt with which Main begins, where it begins with one: then no key has to be derived.
+// Whether this is the salt with which Main begins, or the magic where it holds none: then no key has to be derived.
 fn begins_with<D: Disk>(profile: Profile, salt: &[u8; 16], disk: &mut D) -> Result<bool, Failed>
     requires long { IsTrue D.tells → 16 ≤ length (main_of (D.reads disk.old)) }
     ensures told { IfOk result (λ same. IsTrue D.tells → same ≡ true → codec_salt profile (main_of (D.reads disk.old)) ≡ salt.now) }
@@ -331,7 +332,7 @@ fn begins_with<D: Disk>(profile: Profile, salt: &[u8; 16], disk: &mut D) -> Resu
     ensures only_read { IsTrue D.tells → OnlyRead D.reads D.images D.moment D.since disk.old disk.new }
 {
     if profile.is_clear() {
-        return Ok(false);
+        return Ok(*salt == MAGIC);
     }
     let mut own = [0u8; 16];
     read_main(disk, 0, &mut own)?;

@@ -1,6 +1,5 @@
-use Rattle.std.proofs.Common.{◌≡◌, inl, inr, ℕ, ◌+◌, ◌≤◌, List, ap, refl, subst, sym, ◌∙◌, arith}
+use Rattle.std.proofs.Common.{◌≡◌, inl, inr, ℕ, ◌+◌, ◌≤◌, List, ap, subst, sym, ◌∙◌, arith}
 use Rattle.cipher_profile.proofs.Layouts.{IsListed-laid_out}
-use Rattle.edge_model.specs.Causes.{Rose}
 use Rattle.edge_model.specs.Files.{Files}
 use Rattle.log_view.specs.View.{viewed}
 use Rattle.sqlcipher_tool.specs.Answer.{Answer, IsStopStatus}

@@ -135,8 +135,8 @@ rekey_clean-requires g c =
     let yes : same_layout p.codec c.args.write ≡ true = search (rules, c.codec.ensures, c.is_same_layout.ensures, c.if-not-is_same_layout.false) in
     record {
       layout = subst (λ (k : FileKeys). same_layout k c.args.write ≡ true) (sym e.file.0) yes;
-      salt = λ told. by_names (λ k f n. k.salt ≡ salt_of f) q.codec p.codec (d.reads q.disk.now) (d.reads p.disk.now) q.count p.count
-          (sym e.file.0) (sym (e.disk.only_read told).stays) (sym e.file.1) (c.requires.salt told);
+      salt = λ told plain. by_names (λ k f n. c.args.write.salt ≡ salt_of f) q.codec p.codec (d.reads q.disk.now) (d.reads p.disk.now) q.count p.count
+          (sym e.file.0) (sym (e.disk.only_read told).stays) (sym e.file.1) (c.requires.salt told plain);
       begun = λ told. read_begun (base_of q.codec (main_of (d.reads q.disk.now)) q.count) (d.images p.disk.now) (d.images q.disk.now) (e.disk.only_read told).same_images
           (by_names (λ k f n. IsCommitBegun (base_of k f n) (d.images p.disk.now)) q.codec p.codec (d.reads q.disk.now) (d.reads p.disk.now) q.count p.count
           (sym e.file.0) (sym (e.disk.only_read told).stays) (sym e.file.1) (c.requires.begun told));

@@ -1,4 +1,4 @@
-use Rattle.std.proofs.Common.{refl, sym, ap, subst, ◌∙◌, arith}
+use Rattle.std.proofs.Common.{◌≡◌, length, refl, rules, sym, ap, subst, ◌∙◌, arith}
 use Rattle.cipher_profile.specs.declared.profile.Profile.{Profile}
 use Rattle.cipher_profile.specs.Profile.{IsLaidOut, IsListed}
 use Rattle.cipher_profile.proofs.Layouts.{IsListed-laid_out}
@@ -44,6 +44,7 @@ pub returns-clause-rekeyed : goal.returns-clause-rekeyed
 returns-clause-rekeyed g c =
     let p = c.args.pager in
     let r = c.requires in
+    let salt_long : length c.args.write.salt ≡ 16 = search rules in
     let laid_out : IsLaidOut c.args.write.profile × IsLaidOut p.codec.profile = (
       IsListed-laid_out c.args.write.profile (subst (λ (q : Profile). IsListed q) c.profile-new.ensures.value c.profile-new.ensures.listed),
       IsListed-laid_out p.codec.profile (subst (λ (q : Profile). IsListed q) (c.profile-old.ensures.value ∙ ap (λ (k : FileKeys). k.profile) c.codec.ensures) c.profile-old.ensures.listed),
@@ -51,20 +52,21 @@ returns-clause-rekeyed g c =
     let end = c.rewrite_pages.result.0.now in
     ok_two c.rewrite_pages.result.2 (λ changed new told. now_rekeyed g.D.Disk.tells p.codec c.args.write p.count (g.D.Disk.reads p.disk.now) (g.D.Disk.images p.disk.now)
     g.E.Entropy.tells (g.E.Entropy.drawn p.entropy.now) (g.E.Entropy.drawn c.rewrite_pages.result.1.now) r.layout p.some (omega (arith, p.lendable.least)) told (g.met.D.Disk.reads_now p.disk.now)
-    (r.salt told) (r.begun told) (r.clean told) laid_out (g.D.Disk.reads end) (g.D.Disk.images end) (g.met.D.Disk.reads_now end) (changed told) (new told))
+    (r.salt told) salt_long (r.begun told) (r.clean told) laid_out (g.D.Disk.reads end) (g.D.Disk.images end) (g.met.D.Disk.reads_now end) (changed told) (new told))
     c.rewrite_pages.ensures.changed c.rewrite_pages.ensures.new
 
 pub returns-clause-own_draws : goal.returns-clause-own_draws
 returns-clause-own_draws g c =
     let p = c.args.pager in
     let r = c.requires in
+    let salt_long : length c.args.write.salt ≡ 16 = search rules in
     let laid_out : IsLaidOut c.args.write.profile × IsLaidOut p.codec.profile = (
       IsListed-laid_out c.args.write.profile (subst (λ (q : Profile). IsListed q) c.profile-new.ensures.value c.profile-new.ensures.listed),
       IsListed-laid_out p.codec.profile (subst (λ (q : Profile). IsListed q) (c.profile-old.ensures.value ∙ ap (λ (k : FileKeys). k.profile) c.codec.ensures) c.profile-old.ensures.listed),
     ) in
     ok_map c.rewrite_pages.result.2 c.rewrite_pages.ensures.changed (λ changed told. now_drawn g.D.Disk.tells p.codec c.args.write p.count (g.D.Disk.reads p.disk.now) (g.D.Disk.images p.disk.now)
     g.E.Entropy.tells (g.E.Entropy.drawn p.entropy.now) (g.E.Entropy.drawn c.rewrite_pages.result.1.now) r.layout p.some (omega (arith, p.lendable.least)) told (g.met.D.Disk.reads_now p.disk.now)
-    (r.salt told) (r.begun told) (r.clean told) laid_out (g.D.Disk.reads c.rewrite_pages.result.0.now) (changed told))
+    (r.salt told) salt_long (r.begun told) (r.clean told) laid_out (g.D.Disk.reads c.rewrite_pages.result.0.now) (changed told))
 
 pub returns-clause-new : goal.returns-clause-new
 returns-clause-new g c =
@@ -77,13 +79,14 @@ pub returns-clause-any_moment : goal.returns-clause-any_moment
 returns-clause-any_moment g c told =
     let p = c.args.pager in
     let r = c.requires in
+    let salt_long : length c.args.write.salt ≡ 16 = search rules in
     let laid_out : IsLaidOut c.args.write.profile × IsLaidOut p.codec.profile = (
       IsListed-laid_out c.args.write.profile (subst (λ (q : Profile). IsListed q) c.profile-new.ensures.value c.profile-new.ensures.listed),
       IsListed-laid_out p.codec.profile (subst (λ (q : Profile). IsListed q) (c.profile-old.ensures.value ∙ ap (λ (k : FileKeys). k.profile) c.codec.ensures) c.profile-old.ensures.listed),
     ) in
     at_moments g.D.Disk.tells p.codec c.args.write p.count (g.D.Disk.reads p.disk.now) (g.D.Disk.images p.disk.now)
     g.E.Entropy.tells (g.E.Entropy.drawn p.entropy.now) (g.E.Entropy.drawn c.rewrite_pages.result.1.now) r.layout p.some (omega (arith, p.lendable.least)) told (g.met.D.Disk.reads_now p.disk.now)
-    (r.salt told) (r.begun told) (r.clean told) laid_out g.D.Disk.moment g.D.Disk.since p.disk.now c.rewrite_pages.result.0.now (c.rewrite_pages.ensures.any_moment told)
+    (r.salt told) salt_long (r.begun told) (r.clean told) laid_out g.D.Disk.moment g.D.Disk.since p.disk.now c.rewrite_pages.result.0.now (c.rewrite_pages.ensures.any_moment told)
 
 pub returns-clause-one_new : goal.returns-clause-one_new
 returns-clause-one_new g c =

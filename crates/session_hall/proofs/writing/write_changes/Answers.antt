@@ -1,6 +1,6 @@
 use Rattle.std.proofs.Common.{◌≡◌, ◌∙◌, inl, inr, ⊎_elim, IsTrue, ℕ, true, false, sym, ap, subst}
 use Rattle.std.proofs.lemmas.Result.{on_ok_weaker}
-use Rattle.cipher_profile.specs.Profile.{usable}
+use Rattle.cipher_profile.specs.Profile.{is_clear, usable}
 use Rattle.edge_model.specs.Files.{main_of}
 use Rattle.edge_model.specs.Images.{LeavesOnly}
 use Rattle.edge_model.specs.Moments.{started}
@@ -15,7 +15,7 @@ use Rattle.atomic_commit.proofs.Behind.{changed_weaker}
 use Rattle.session_hall.specs.Writing.{is_unwritten_answer}
 use Rattle.session_hall.specs.declared.step.Answer.{Answer}
 use Rattle.session_hall.specs.declared.step.Answer.TheVariants.{OutOfMemory}
-use Rattle.session_hall.proofs.Written.{begun_layout, err_at, from_begun, usable_same}
+use Rattle.session_hall.proofs.Written.{begin_alike, begun_layout, err_at, from_begun, usable_same}
 use Rattle.session_hall.proofs.Fresh.{still_fresh}
 use Rattle.session_hall.proofs.writing.write_changes.Goals as goal
 
@@ -61,9 +61,12 @@ returns-in-Ok-clause-changed g c =
     let t = c.in-Ok.txn in
     let e = c.in-Ok.ensures in
     let layout : same_layout p.codec c.args.write ≡ true = begun_layout _ (same_layout p.codec c.args.write) c.begin.result t c.in-Ok.is c.begin.ensures.differs in
+    let alike : is_clear c.args.write.profile ≡ is_clear p.codec.profile =
+    begin_alike p.codec c.args.write c.profile.result.now c.profile-2.result.now c.is_clear.result c.is_clear-2.result (c.profile.ensures.value ∙ ap (λ (k : FileKeys). k.profile) c.codec.ensures) c.profile-2.ensures.value
+    c.is_clear.ensures c.is_clear-2.ensures c.if-is_clear.false in
     on_ok_weaker c.write_all.result.2 (λ has told. from_begun g.start p.codec c.args.write c.args.session.now (d.reads p.disk.now) p.count t.read t.write (d.reads t.disk.now) t.count
     t.written t.changed.held g.E.Entropy.tells (g.E.Entropy.drawn c.write_all.result.1.now) (main_of (d.reads c.write_all.result.0.now))
-    layout e.file.0 e.file.1 (ap (λ (x : _). d.reads x) e.disk.1) e.file.2 e.unchanged.0 e.untouched (has told)) c.write_all.ensures.changed
+    alike layout e.file.0 e.file.1 (ap (λ (x : _). d.reads x) e.disk.1) e.file.2 e.unchanged.0 e.untouched (has told)) c.write_all.ensures.changed
 
 pub returns-in-Ok-clause-any_moment : goal.returns-in-Ok-clause-any_moment
 returns-in-Ok-clause-any_moment g c = λ told.
@@ -72,17 +75,20 @@ returns-in-Ok-clause-any_moment g c = λ told.
     let t = c.in-Ok.txn in
     let e = c.in-Ok.ensures in
     let layout : same_layout p.codec c.args.write ≡ true = begun_layout _ (same_layout p.codec c.args.write) c.begin.result t c.in-Ok.is c.begin.ensures.differs in
+    let alike : is_clear c.args.write.profile ≡ is_clear p.codec.profile =
+    begin_alike p.codec c.args.write c.profile.result.now c.profile-2.result.now c.is_clear.result c.is_clear-2.result (c.profile.ensures.value ∙ ap (λ (k : FileKeys). k.profile) c.codec.ensures) c.profile-2.ensures.value
+    c.is_clear.ensures c.is_clear-2.ensures c.if-is_clear.false in
     changed_weaker (λ main has. from_begun g.start p.codec c.args.write c.args.session.now (d.reads p.disk.now) p.count t.read t.write (d.reads t.disk.now) t.count
     t.written t.changed.held g.E.Entropy.tells (g.E.Entropy.drawn c.write_all.result.1.now) main
-    layout e.file.0 e.file.1 (ap (λ (x : _). d.reads x) e.disk.1) e.file.2 e.unchanged.0 e.untouched has)
+    alike layout e.file.0 e.file.1 (ap (λ (x : _). d.reads x) e.disk.1) e.file.2 e.unchanged.0 e.untouched has)
     (rw (sym e.disk.1) (c.write_all.ensures.any_moment told))
 
 pub returns-in-Err-clause-any_moment : goal.returns-in-Err-clause-any_moment
 returns-in-Err-clause-any_moment g c = λ told.
     let d = g.D.Disk in
     let p = c.args.pager in
-    let same = c.into_parts-disk.ensures.disk.1 ∙ c.in-Err.ensures.back.1 in
-    let run : LeavesOnly d.moment d.since p.disk.now c.into_parts-disk.result.0.now (HoldsOld g.start.base) =
+    let same = c.into_parts-disk-in-Err.ensures.disk.1 ∙ c.in-Err.ensures.back.1 in
+    let run : LeavesOnly d.moment d.since p.disk.now c.into_parts-disk-in-Err.result.0.now (HoldsOld g.start.base) =
     rw same (started g.met.D.Disk.only_now p.disk.now (HoldsOld g.start.base) (λ files here. (c.requires.1.1.1.1.1.0 told).holds files here)) in
     inl run
 
@@ -96,10 +102,25 @@ returns-in-Ok-clause-settled g c =
 pub returns-in-Err-clause-fresh : goal.returns-in-Err-clause-fresh
 returns-in-Err-clause-fresh g c = λ told.
     let d = g.D.Disk in
-    still_fresh d.images d.moment d.since g.met.D.Disk.counts_now g.met.D.Disk.only_now c.args.pager.disk.now c.into_parts-disk.result.0.now
-    (c.into_parts-disk.ensures.disk.1 ∙ c.in-Err.ensures.back.1)
+    still_fresh d.images d.moment d.since g.met.D.Disk.counts_now g.met.D.Disk.only_now c.args.pager.disk.now c.into_parts-disk-in-Err.result.0.now
+    (c.into_parts-disk-in-Err.ensures.disk.1 ∙ c.in-Err.ensures.back.1)
 
 pub returns-in-Ok-clause-unwritten : goal.returns-in-Ok-clause-unwritten
 returns-in-Ok-clause-unwritten g c = λ is told.
     let written : true ≡ false = err_at (λ (e : Answer). IsTrue g.D.Disk.tells → is_unwritten_answer e ≡ false) c.write_all.result.2 OutOfMemory is c.write_all.ensures.failed told in
     cc
+
+-- ---- files that begin otherwise
+
+pub returns-then-is_clear-clause-any_moment : goal.returns-then-is_clear-clause-any_moment
+returns-then-is_clear-clause-any_moment g c = λ told.
+    let d = g.D.Disk in
+    let run : LeavesOnly d.moment d.since c.args.pager.disk.now c.into_parts-disk.result.0.now (HoldsOld g.start.base) =
+    rw c.into_parts-disk.ensures.disk.1 (started g.met.D.Disk.only_now c.args.pager.disk.now (HoldsOld g.start.base) (λ files here. (c.requires.1.1.1.1.1.0 told).holds files here)) in
+    inl run
+
+pub returns-then-is_clear-clause-fresh : goal.returns-then-is_clear-clause-fresh
+returns-then-is_clear-clause-fresh g c = λ told.
+    let d = g.D.Disk in
+    still_fresh d.images d.moment d.since g.met.D.Disk.counts_now g.met.D.Disk.only_now c.args.pager.disk.now c.into_parts-disk.result.0.now
+    c.into_parts-disk.ensures.disk.1

@@ -35,7 +35,7 @@ pub rekey_error-requires : goal.rekey_error-requires
 rekey_error-requires g c = λ differs.
     let layout = c.requires.layout in
     let other = c.rekey-disk.ensures.layout (c.in-Err.is ∙ ap (λ (e : RekeyError). Err e) differs) in
-    let no : true ≡ false = sym (same_laid c.args.pager.codec c.args.write layout.0 layout.1 layout.2 layout.3 layout.4) ∙ other in cc
+    let no : true ≡ false = sym (same_laid c.args.pager.codec c.args.write layout.0 layout.1 layout.2) ∙ other in cc
 
 pub returns-in-Ok-clause-told : goal.returns-in-Ok-clause-told
 returns-in-Ok-clause-told g c = λ told answer is.

@@ -23,10 +23,11 @@ returns-clause-opens_to c =
     let key : c.self.inside.keys.enc ≡ file.keys.enc = ap (λ (f : FileKeys). f.keys.enc) c.self.view_is in
     let head_long : length head ≡ start =
     omega (arith, c.put_head.auto.head, c.split_at_mut-head.ensures.front_len, c.cipher_start-start.ensures.value) in
-    let head_is : head ≡ stored_head file n c.args.plain.now = c.put_head.ensures in
+    let salt_long : length file.salt ≡ 16 = c.put_head.ensures.salt in
+    let head_is : head ≡ stored_head file n c.args.plain.now = c.put_head.ensures.value in
     let heads : plain_head file.profile n page ≡ plain_head file.profile n c.args.plain.now =
     ap (λ (first : List ℕ). plain_head file.profile n (first ++ text ++ reserve)) head_is
-    ∙ head_opens file n c.args.plain.now text reserve (ap length (sym head_is) ∙ head_long) in
+    ∙ head_opens file n c.args.plain.now text reserve salt_long (ap length (sym head_is) ∙ head_long) in
     let text_long : length head + length text ≡ usable file.profile = omega (arith, head_long, at) in
     let body : ciphertext file.profile n page ≡ text =
     part_between head text reserve start (usable file.profile) head_long text_long in

@@ -8,7 +8,7 @@ use Rattle.atomic_commit.proofs.Batched.{count_none, ready_first}
 use Rattle.pager.specs.Changed.{Changed, same_layout}
 use Rattle.pager.specs.UnderWay.{IsUnderWay}
 use Rattle.pager.proofs.EndingLemmas.{listed_small}
-use Rattle.pager.proofs.TxnLemmas.{clear_same, count_small, layout_same, listed_large}
+use Rattle.pager.proofs.TxnLemmas.{count_small, layout_same, listed_large}
 use Rattle.pager.proofs.UnderWayLemmas.{none_touched, under_way_first}
 use Rattle.pager.proofs.pager.Pager.begin.Goals.{then-self-frames, else-self-frames}
 use Rattle.pager.proofs.pager.Pager.begin.Goals as goal
@@ -24,11 +24,6 @@ pub invariant_of-result-clause-layout : goal.invariant_of-result-clause-layout
 invariant_of-result-clause-layout g c =
     let yes : same_layout c.args.self.codec c.args.write ≡ true = search (rules, c.is_same_layout.ensures, c.if-not-is_same_layout.false) in
     layout_same c.args.self.codec c.args.write yes
-
-pub invariant_of-result-clause-alike : goal.invariant_of-result-clause-alike
-invariant_of-result-clause-alike g c =
-    let yes : same_layout c.args.self.codec c.args.write ≡ true = search (rules, c.is_same_layout.ensures, c.if-not-is_same_layout.false) in
-    λ hidden. sym (clear_same c.args.self.codec c.args.write yes) ∙ hidden
 
 pub invariant_of-result-clause-fits : goal.invariant_of-result-clause-fits
 invariant_of-result-clause-fits g c =

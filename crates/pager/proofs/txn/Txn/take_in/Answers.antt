@@ -1,7 +1,10 @@
 use Rattle.std.proofs.Common.{◌≡◌, ◌==◌, ◌<◌, ◌∙◌, ℕ, Bool, true, false, List, if◌then◌else◌, length, take, ap, sym, subst, refl}
 use Rattle.edge_model.specs.Files.{Files, main_of}
-use Rattle.cipher_profile.specs.Profile.{is_clear}
+use Rattle.cipher_profile.specs.declared.profile.Profile.{Profile}
+use Rattle.cipher_profile.specs.Profile.{IsListed, is_plain}
+use Rattle.cipher_profile.proofs.Layouts.{IsListed-laid_out}
 use Rattle.page_codec.specs.Page.{FileKeys}
+use Rattle.pager.proofs.TxnLemmas.{ciphered_alike}
 use Rattle.pager.specs.Changed.{Changed}
 use Rattle.pager.specs.Pages.{is_page_number}
 use Rattle.pager.specs.Reads.{disk_then_read, then_untouched, untouched_read}
@@ -61,9 +64,13 @@ returns-clause-seen g c told m =
     let mid = c.make_room.new.self in
     let n = c.args.n in
     let page = c.in_ok-make_room.ensures.plain ∙ c.in_ok-read_in.ensures.told told in
+    let listed_read = subst (λ (p : Profile). IsListed p) c.profile-read.ensures.value c.profile-read.ensures.listed in
+    let listed_write = subst (λ (p : Profile). IsListed p) c.profile-write.ensures.value c.profile-write.ensures.listed in
+    let encrypted = ciphered_alike s.read.profile s.write.profile listed_read listed_write s.layout.0 s.layout.1 in
     let written : mid.write ≡ s.write = c.make_room.ensures.file.1 ∙ c.read_in.ensures.file.1 in
-    let bytes = c.place.ensures.bytes (λ is hidden. ap (λ (l : List ℕ). take 16 l) page ∙ seen_begins s.read s.write _ s.count n s.written s.changed.held
-    (s.alike (subst (λ (k : FileKeys). is_clear k.profile ≡ false) written hidden)) (subst (λ (k : FileKeys). is_clear k.profile ≡ false) written hidden) is (number_is s.count n r.0.0 r.0.1) r.1.0) in
+    let bytes = c.place.ensures.bytes (λ is ciphered. ap (λ (l : List ℕ). take 16 l) page ∙ seen_begins s.read s.write _ s.count n s.written s.changed.held
+    (IsListed-laid_out s.read.profile listed_read) (IsListed-laid_out s.write.profile listed_write)
+    (encrypted (subst (λ (k : FileKeys). is_plain k.profile ≡ false) written ciphered)) (subst (λ (k : FileKeys). is_plain k.profile ≡ false) written ciphered) is (number_is s.count n r.0.0 r.0.1) r.1.0) in
     let p = c.place.new.self in
     let file : main_of (g.D.Disk.reads p.disk.now) ≡ main_of (g.D.Disk.reads mid.disk.now) = ap (λ (d : g.row.D.Denot). main_of (g.D.Disk.reads d)) c.place.ensures.disk.value in
     seen_put p.read p.write (main_of (g.D.Disk.reads p.disk.now)) p.count p.written mid.changed.held p.changed.held n mid.plain.items bytes m
