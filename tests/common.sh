@@ -117,6 +117,14 @@ total() { # total NAME FILES..: the sum of the counts NAME=N in these files
     awk -F'\t' -v name="$name" '{ for (i = 1; i <= NF; i++) if (index($i, name "=") == 1) sum += substr($i, length(name) + 2) } END { print sum + 0 }' "$@"
 }
 
+# turn_bit FILE BYTE: the lowest bit of this byte is turned. So a byte that is drawn at random changes too, where one written over it may be the same.
+turn_bit() {
+    local byte
+    byte=$(od -An -tu1 -j "$2" -N 1 "$1") || return
+    # shellcheck disable=SC2059
+    printf "\\x$(printf %02x $((byte ^ 1)))" | dd of="$1" bs=1 seek="$2" conv=notrunc status=none
+}
+
 # The calls that change a file or a folder, or sync one. An open counts where it may make a file.
 writing=openat,open,creat,write,pwrite64,writev,pwritev,ftruncate,fsync,fdatasync,unlink,unlinkat,rename,renameat,renameat2,link,linkat
 

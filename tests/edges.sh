@@ -229,7 +229,7 @@ row 3 'key refused' 'Where the first page is damaged, `salvage 4`' '"$tool" brok
 row 0 'page 1: tag refused' "salvaged: 40 rows, 0 lost, 1 refused pages$told" '"$tool" broken.db salvage 4 < key > found; head -n 1 found'
 row 0 '' '' 'grep "^row " exported | cmp - <(sed -E "1d; \$d; s/^row [0-9]+ /row /" found)'
 row 4 '' $'broken.db: another run of sqlcipher-tool has the file\nbroken.db: it was not touched' 'flock broken.db "$tool" broken.db salvage 4 < key'
-printf x | dd of=broken.db conv=notrunc status=none
+turn_bit broken.db 0
 row 3 'key refused' "$no_page 4" '"$tool" broken.db salvage 4 < key'
 rm -f found exported broken.db
 kept

@@ -46,18 +46,6 @@ compare_with() { # compare_with FILE KEYFILE WORDS..
     fi
 }
 
-flip() { # flip FILE OFFSET: turns the lowest bit of a byte
-    python3 - "$1" "$2" <<'PY'
-import sys
-path, at = sys.argv[1], int(sys.argv[2])
-with open(path, "r+b") as file:
-    file.seek(at)
-    byte = file.read(1)[0]
-    file.seek(at)
-    file.write(bytes([byte ^ 1]))
-PY
-}
-
 pages() { echo $(($(stat -c %s "$1") / 4096)); }
 
 # A file with a journal: besides the lines, the files that the program leaves have to be those that the reference recovers.
@@ -121,7 +109,7 @@ reference_files() {
     damaged=$scratch/damaged.db
     cp "$sound" "$damaged"
     for at in 5000 $((4096 * 9 + 4020)) $((4096 * 10 + 4032)) $((4096 * 57 + 4095)) $((4096 * 100)) $(($(stat -c %s "$sound") - 1)); do
-        flip "$damaged" "$at"
+        turn_bit "$damaged" "$at"
     done
     compare "$damaged" "$k0" tags 4
     compare "$damaged" "$k0" verify 4
@@ -131,7 +119,7 @@ reference_files() {
     all=$scratch/all.db
     cp "$sound" "$all"
     for n in $(seq 1 $(($(pages "$sound") - 1))); do
-        flip "$all" $((4096 * n + 77))
+        turn_bit "$all" $((4096 * n + 77))
     done
     compare "$all" "$k0" tags 4
     compare "$all" "$k0" verify 4
@@ -156,7 +144,7 @@ reference_files() {
     # Page 1 damaged: the key does not fit.
     unfit=$scratch/unfit.db
     cp "$sound" "$unfit"
-    flip "$unfit" 3000
+    turn_bit "$unfit" 3000
     compare "$unfit" "$k0" tags 4
 
     # Each profile under a raw key and a passphrase, with the command for the header and the search for the profile.

@@ -34,18 +34,11 @@ row() { # row STATUS OUTPUT FILE [VERSION [KEY]]
     [ "$found" = "$2"$'\n'"$1" ] || say "$3: wanted $2 with $1, found $found"
 }
 
-turn() { # turn FILE OFFSET: the lowest bit of a byte
-    local byte
-    byte=$(od -An -tu1 -j "$2" -N 1 "$scratch/$1")
-    # shellcheck disable=SC2059
-    printf "\\x$(printf %02x $((byte ^ 1)))" | dd of="$scratch/$1" bs=1 seek="$2" conv=notrunc status=none
-}
-
 asked none make 4 0 > /dev/null || say "make 4 0 fails: $(cat "$scratch/errors")"
 row 0 "$schema"$'\nsalvaged: 4 rows, 0 lost, 0 refused pages' none
-cp "$scratch/none" "$scratch/turned" && turn turned 12224
+cp "$scratch/none" "$scratch/turned" && turn_bit "$scratch/turned" 12224
 row 0 "$schema"$'\npage 3: tag refused\nsalvaged: 4 rows, 0 lost, 1 refused pages' turned
-cp "$scratch/none" "$scratch/first" && turn first 4032
+cp "$scratch/none" "$scratch/first" && turn_bit "$scratch/first" 4032
 row 0 $'page 1: tag refused\nsalvaged: 0 rows, 0 lost, 1 refused pages' first
 row 3 'key refused' none 4 "x'$(printf 'f%.0s' {1..64})'"
 asked one make 1 0 > /dev/null || say "make 1 0 fails: $(cat "$scratch/errors")"
@@ -53,7 +46,7 @@ row 0 "$schema"$'\nsalvaged: 4 rows, 0 lost, 0 refused pages' one 1
 # Of page 1 the salt is enough, and of it nothing can be spared.
 cp "$scratch/none" "$scratch/salt" && dd if=/dev/zero of="$scratch/salt" bs=16 seek=1 count=255 conv=notrunc status=none
 row 0 $'page 1: tag refused\nsalvaged: 0 rows, 0 lost, 1 refused pages' salt
-cp "$scratch/none" "$scratch/unsalted" && turn unsalted 3
+cp "$scratch/none" "$scratch/unsalted" && turn_bit "$scratch/unsalted" 3
 row 3 'key refused' unsalted
 head -c 4095 "$scratch/none" > "$scratch/short"
 row 2 'file is short: 4095 bytes' short

@@ -189,12 +189,9 @@ keep_text() { # keep_text WORD FILE TEXT: what `export` prints of the file, to i
     [ "$(tail -n 1 "$3")" = end ] || say "export $1: it does not come to its end"
 }
 
-turn_bit() { # turn_bit FILE BYTE: a copy, FILE-turned, of which the lowest bit of this byte is turned
-    local byte
-    byte=$(od -An -tu1 -j "$2" -N 1 "$1")
+turn_copy() { # turn_copy FILE BYTE: a copy, FILE-turned, of which the lowest bit of this byte is turned
     cp "$1" "$1-turned"
-    # shellcheck disable=SC2059
-    printf "\\x$(printf %02x $((byte ^ 1)))" | dd of="$1-turned" bs=1 seek="$2" conv=notrunc status=none
+    turn_bit "$1-turned" "$2"
 }
 
 refuse_lines() { # refuse_lines WORD FILE: lines of another form, which are refused as such
@@ -227,27 +224,27 @@ turn_header() { # turn_header WORD FILE DUMP
     read -r version size rounds kdf hmac header form <<< "$(settings_of "$word")"
     [ "$header" != 0 ] || return
     for byte in 0 15 "$header"; do
-        turn_bit "$file" "$byte"
+        turn_copy "$file" "$byte"
         answers 3 '^key refused$' "$old" "$turned" verify "$word"
     done
     [ "$header" -gt 16 ] || return
     asked "$old" "$file" tags "$word" > "$scratch/tags"
     keep_text "$word" "$file" "$scratch/text"
-    turn_bit "$file" $((header - 1))
+    turn_copy "$file" $((header - 1))
     asked "$old" "$turned" tags "$word" | cmp -s - "$scratch/tags" || say "tags $word: byte $((header - 1)) is covered by a tag"
     for byte in 24 27; do
-        turn_bit "$file" "$byte"
+        turn_copy "$file" "$byte"
         answers 0 '^ok: ' "$old" "$turned" verify "$word"
         asked "$old" "$turned" export "$word" | cmp -s - "$scratch/text" || say "export $word: byte $byte is turned, and the rows are others"
         is_sound "$word" "$old" "$turned" "$3" "$word with byte $byte turned"
     done
-    turn_bit "$file" 28
+    turn_copy "$file" 28
     answers 2 "^file is too large: $(((1 << 24) + $(stat -c %s "$file") / size)) pages\$" "$old" "$turned" verify "$word"
-    turn_bit "$file" 30
+    turn_copy "$file" 30
     answers 2 "^file is short: $(stat -c %s "$file") bytes\$" "$old" "$turned" verify "$word"
     asked "$old" "$turned" tags "$word" | cmp -s - "$scratch/tags" || say "tags $word: byte 30 is covered by a tag"
     # One page more or one fewer: the file ends too soon, or a page of a tree is not in it.
-    turn_bit "$file" 31
+    turn_copy "$file" 31
     answers 2 '^(file is short|.* fault|.*page)' "$old" "$turned" verify "$word"
 }
 

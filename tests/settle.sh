@@ -253,14 +253,7 @@ PAIRS
 # ---- a log without a commit that holds: to the product it has nothing. It is removed, and standard error says so
 key=$raw
 place "$scratch/pairs/3-commits"
-python3 - "$scratch/now/file-wal" <<'PYTHON'
-import sys
-with open(sys.argv[1], "r+b") as log:
-    log.seek(20)
-    byte = log.read(1)[0] ^ 1
-    log.seek(20)
-    log.write(bytes([byte]))
-PYTHON
+turn_bit "$scratch/now/file-wal" 20
 told 3 settle 3 > "$scratch/lines"
 [ "$(cat "$scratch/lines")" = "settled: 0 log frames, 0 map pages" ] && grep -q 'no commit in it holds' "$scratch/errors" ||
     say "a log with a damaged header: '$(cat "$scratch/lines" "$scratch/errors")'"
