@@ -181,7 +181,7 @@ for document, test in (("docs/PROOFS.md", r"`{}`"), ("docs/ARCHITECTURE.md", r"`
     wrong += [f"{document}: the crate {name} is not in it" for name in crates if not re.search(test.format(name), text)]
 if os.path.exists("docs/PROOFS.md"):
     headings = set(re.findall(r"^### (\w+)$", read("docs/PROOFS.md"), flags=re.M))
-    wrong += [f"docs/PROOFS.md: no section on {name}" for name in crates if name not in headings and not name.endswith(("bench_loops", "_tests"))]
+    wrong += [f"docs/PROOFS.md: no section on {name}" for name in crates if name not in headings and not name.endswith(("bench_loops", "command_runs", "_tests"))]
 
 # Each command of the help has its row in the README, its paragraph in the manual page, what is said of its words, its completion, its place in the
 # script that asks for keys, and its row for the scripts of tests/; and none of these has a command that the help does not have.

@@ -33,7 +33,7 @@ products='([*/]=? *(256|65_?536|16_?777_?216|0x1_?00|0x1_?00_?00|0x1_?00_?00_?00
 
 # by_another_way FOLDER: PATH:LINE:TEXT of each such place in the crates of the folder, but for clauses and comments.
 by_another_way() {
-    (cd "$1" && find . -path '*/src/*.rt' ! -path '*/out/*' ! -path './*_tests/*' ! -path './bench_loops/*' -printf '%P\n' | sort \
+    (cd "$1" && find . -path '*/src/*.rt' ! -path '*/out/*' ! -path './*_tests/*' ! -path './command_runs/*' ! -path './bench_loops/*' -printf '%P\n' | sort \
         | xargs grep -nHE "$calls|$shifts|$products" | grep -vE ':[0-9]+: *(//|ensures|requires|ghost)|≡')
 }
 

@@ -1,7 +1,7 @@
 // The rows of `agree` on a sealed file of four pages, whose table has an index.
-use crate::pages::{Change, sealed, turn};
 use crate::rows::TABLE;
-use crate::served::{KEY, Step, disk_with, made, serve_all, told};
+use command_runs::pages::{Change, sealed, turn};
+use command_runs::served::{KEY, Step, disk_with, made, serve_all, told};
 use std::test::Fail;
 
 // The index on the first column of the table: its row of the schema on page 1, and its two entries on page 3.
@@ -104,13 +104,13 @@ fn answers_each_row_of_an_index(rt: HostRuntime) -> Result<(), Fail> {
         all.extend_from_slice(&TABLE)?;
         all.extend_from_slice(&INDEX)?;
         all.extend_from_slice(changes)?;
-        let mut file = sealed(&rt, alloc, "4", KEY, 4, all.as_slice())?;
+        let mut file = sealed(alloc, "4", KEY, 4, all.as_slice())?;
         if let Some(at) = turned {
             turn(&mut file, *at);
         }
         let mut disk = disk_with(alloc, file.as_slice())?;
         let step: Step<'_> = (&["agree", "4"], &[KEY], Some(*text), *code);
-        serve_all(&rt, alloc, &mut disk, 0, &[step])?;
+        serve_all(alloc, &mut disk, 0, &[step])?;
     }
     Ok(())
 }
@@ -120,7 +120,7 @@ fn answers_each_row_of_an_index(rt: HostRuntime) -> Result<(), Fail> {
 fn agrees_without_an_index_and_on_a_made_file(rt: HostRuntime) -> Result<(), Fail> {
     let alloc = rt.alloc();
     let none = b"ok: 0 indexes, 0 entries, 0 not checked\n".as_slice();
-    let file = sealed(&rt, alloc, "4", KEY, 4, &TABLE)?;
+    let file = sealed(alloc, "4", KEY, 4, &TABLE)?;
     let said = told(alloc, &["agree", "4"], KEY, file.as_slice())?;
     assert_eq!(rt; said.as_slice(), none);
     let file = made(alloc, "4", "700")?;

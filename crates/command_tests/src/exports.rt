@@ -1,14 +1,14 @@
 // An export that is disturbed prints nothing before all is checked.
-use crate::pages::sealed;
 use crate::rows::{TABLE, TABLE_TEXT};
-use crate::served::{Given, KEY, disk_with, serve};
+use command_runs::pages::sealed;
+use command_runs::served::{Given, KEY, disk_with, serve};
 use sqlcipher_tool::Status;
 use std::test::Fail;
 
 #[test]
 fn prints_nothing_where_a_call_fails_before_all_is_checked(rt: HostRuntime) -> Result<(), Fail> {
     let alloc = rt.alloc();
-    let main = sealed(&rt, alloc, "4", KEY, 4, &TABLE)?;
+    let main = sealed(alloc, "4", KEY, 4, &TABLE)?;
     let given = Given {
         words: &["export", "4"],
         lines: &[KEY],

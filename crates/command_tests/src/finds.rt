@@ -1,5 +1,5 @@
 // The rows of `find` on a made file of a thousand rows.
-use crate::served::{KEY, Step, disk_with, made, serve_all};
+use command_runs::served::{KEY, Step, disk_with, made, serve_all};
 use std::test::Fail;
 
 const NONE: Option<&str> = Some("found: 0 rows\n");
@@ -40,5 +40,6 @@ fn finds_the_rows_of_a_range_of_rowids(rt: HostRuntime) -> Result<(), Fail> {
     let alloc = rt.alloc();
     let main = made(alloc, "4", "1000")?;
     let mut disk = disk_with(alloc, main.as_slice())?;
-    serve_all(&rt, alloc, &mut disk, 0, &STEPS)
+    serve_all(alloc, &mut disk, 0, &STEPS)?;
+    Ok(())
 }

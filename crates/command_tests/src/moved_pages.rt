@@ -1,6 +1,6 @@
 // Two files of one key and one salt, as an older and a newer state of one file are. A whole page of the older one is put into the newer
 // one, at its own number and at number 2.
-use crate::served::{KEY, made, told};
+use command_runs::served::{KEY, made, told};
 use std::alloc::{AllocError, Global};
 use std::test::Fail;
 

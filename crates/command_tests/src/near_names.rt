@@ -1,6 +1,6 @@
 // The names that are near that of `find`, on a made file of a hundred rows.
-use crate::served::{KEY, OTHER_KEY, disk_with, made};
 use cipher_profile::{LineForm, read_key};
+use command_runs::served::{KEY, OTHER_KEY, disk_with, made};
 use edge_memory::{MemEntropy, MemSource, SilentDisk};
 use schema_names::{NearName, SchemaKind};
 use sqlcipher_tool::near_names;

@@ -1,6 +1,6 @@
 // The rows of `header`, `verify`, `export`, `tags` and `probe` on sealed files of four pages.
-use crate::pages::{Change, sealed, turn};
-use crate::served::{KEY, OTHER_KEY, Step, disk_with, serve_all, told};
+use command_runs::pages::{Change, sealed, turn};
+use command_runs::served::{KEY, OTHER_KEY, Step, disk_with, serve_all, told};
 use std::alloc::Global;
 use std::process::Abort;
 use std::test::Fail;
@@ -347,7 +347,7 @@ const DEEP: [Change; 21] = [
 // Each of these rows holds under the first key.
 fn all_hold(rt: &impl Abort, alloc: Global, rows: &[Row]) -> Result<(), Fail> {
     for (words, changes, then, text, code) in rows {
-        let mut file = sealed(rt, alloc, words[1], KEY, 4, changes)?;
+        let mut file = sealed(alloc, words[1], KEY, 4, changes)?;
         match then {
             Then::Whole => {}
             Then::Turned(at) => turn(&mut file, *at),
@@ -355,7 +355,7 @@ fn all_hold(rt: &impl Abort, alloc: Global, rows: &[Row]) -> Result<(), Fail> {
         }
         let mut disk = disk_with(alloc, file.as_slice())?;
         let step: Step<'_> = (words, &[KEY], Some(*text), *code);
-        serve_all(rt, alloc, &mut disk, 0, &[step])?;
+        serve_all(alloc, &mut disk, 0, &[step])?;
     }
     Ok(())
 }
@@ -373,7 +373,7 @@ fn answers_each_row_of_a_sealed_file(rt: HostRuntime) -> Result<(), Fail> {
 #[test]
 fn a_path_of_21_pages_is_too_deep(rt: HostRuntime) -> Result<(), Fail> {
     let alloc = rt.alloc();
-    let file = sealed(&rt, alloc, "3", KEY, 22, &DEEP)?;
+    let file = sealed(alloc, "3", KEY, 22, &DEEP)?;
     let said = told(alloc, &HOSTILE, KEY, file.as_slice())?;
     assert_eq!(rt; said.as_slice(), b"page 21: too deep\n".as_slice());
     Ok(())
@@ -392,10 +392,10 @@ const OLDER: [(&str, &[u8], &[&str], &[u8], &str, u8); 5] = [
 fn answers_each_row_of_the_older_profiles(rt: HostRuntime) -> Result<(), Fail> {
     let alloc = rt.alloc();
     for (profile, sealed_by, words, key, text, code) in OLDER {
-        let file = sealed(&rt, alloc, profile, sealed_by, 4, &[])?;
+        let file = sealed(alloc, profile, sealed_by, 4, &[])?;
         let mut disk = disk_with(alloc, file.as_slice())?;
         let step: Step<'_> = (words, &[key], Some(text), code);
-        serve_all(&rt, alloc, &mut disk, 0, &[step])?;
+        serve_all(alloc, &mut disk, 0, &[step])?;
     }
     Ok(())
 }

@@ -1,6 +1,6 @@
 // The rows of `salvage` on a made file whose pages are whole, or have a bit of a tag turned.
-use crate::pages::turn;
-use crate::served::{KEY, OTHER_KEY, Step, disk_with, made, serve_all};
+use command_runs::pages::turn;
+use command_runs::served::{KEY, OTHER_KEY, Step, disk_with, made, serve_all};
 use std::test::Fail;
 
 const WHOLE: &str =
@@ -38,7 +38,7 @@ fn prints_the_rows_of_the_pages_that_are_whole(rt: HostRuntime) -> Result<(), Fa
         }
         let mut disk = disk_with(alloc, file.as_slice())?;
         let step: Step<'_> = (&["salvage", "4"], &[key], Some(text), code);
-        serve_all(&rt, alloc, &mut disk, 0, &[step])?;
+        serve_all(alloc, &mut disk, 0, &[step])?;
     }
     Ok(())
 }

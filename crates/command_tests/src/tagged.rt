@@ -2,8 +2,8 @@
 //
 // In the tagged file, page n has 4,032 bytes n. Its tags were computed with Python's hmac and hashlib, for profile 4 and the raw key of
 // the bytes 0 to 31.
-use crate::pages::turn;
-use crate::served::{Given, KEY, Step, disk_with, serve_all, serve_failing};
+use command_runs::pages::turn;
+use command_runs::served::{Given, KEY, Step, disk_with, serve_all, serve_failing};
 use edge_memory::MemDisk;
 use edge_model::Role;
 use sqlcipher_tool::Status;
@@ -68,7 +68,7 @@ fn answers_each_row_of_tags(rt: HostRuntime) -> Result<(), Fail> {
     for (form, text, code) in ROWS {
         let mut disk = disk_with(alloc, tagged(alloc, form)?.as_slice())?;
         let step: Step<'_> = (&["tags", "4"], &[KEY], Some(text), code);
-        serve_all(&rt, alloc, &mut disk, 0, &[step])?;
+        serve_all(alloc, &mut disk, 0, &[step])?;
     }
     Ok(())
 }
@@ -125,7 +125,7 @@ fn recovers_before_it_answers(rt: HostRuntime) -> Result<(), Fail> {
         };
         let mut disk = MemDisk::with_files(alloc, Some(damaged.as_slice()), journal, None)?;
         let step: Step<'_> = (words, &[KEY], Some(text), code);
-        serve_all(&rt, alloc, &mut disk, 0, &[step])?;
+        serve_all(alloc, &mut disk, 0, &[step])?;
         assert_eq!(rt; disk.bytes(Role::Journal).is_some(), code == 2);
     }
     Ok(())
@@ -187,7 +187,7 @@ fn answers_each_refusal_of_the_words_and_of_a_key_line(rt: HostRuntime) -> Resul
         let mut disk = MemDisk::new(alloc);
         disk.stop_after(0);
         let step: Step<'_> = (words, &[line], Some(text), code);
-        serve_all(&rt, alloc, &mut disk, 0, &[step])?;
+        serve_all(alloc, &mut disk, 0, &[step])?;
     }
     Ok(())
 }

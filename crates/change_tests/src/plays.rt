@@ -1,7 +1,9 @@
 // Scripts of sessions on the file that `make` makes in version 4 without a row: page 1 is the schema, pages 2 to 4 are the empty roots of a
 // table, an index and a table without rowids. What the forms of a line are is tried in `session_play`, and stops of a script in `stops`.
-use crate::pages::turn;
-use crate::served::{AMPLE, Given, KEY, OTHER_KEY, disk_with, file_in, made, serve, serve_failing};
+use command_runs::pages::turn;
+use command_runs::served::{
+    AMPLE, Given, KEY, OTHER_KEY, disk_with, file_in, made, serve, serve_failing,
+};
 use edge_memory::MemDisk;
 use edge_model::Role;
 use sqlcipher_tool::Status;

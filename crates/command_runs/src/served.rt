@@ -3,8 +3,6 @@ use edge_memory::{ImagePick, MemDisk, MemEntropy, MemSink, MemSource};
 use edge_model::Role;
 use sqlcipher_tool::{Status, run};
 use std::alloc::{AllocError, Global};
-use std::process::Abort;
-use std::test::Fail;
 
 pub const KEY: &[u8] = b"x'000102030405060708090a0b0c0d0e0f101112131415161718191a1b1c1d1e1f'\n";
 
@@ -71,31 +69,55 @@ pub fn serve_failing(
     })
 }
 
+/// Which of several commands did not end as it says, counted from 0, and what it printed.
+#[derive(Debug, Drop)]
+pub enum Differs {
+    /// Its status is this.
+    Status(usize, u8, Vec<u8>),
+    /// Its text is another.
+    Text(usize, Vec<u8>),
+    /// Memory was wanted, or a call of the disk had none.
+    OutOfMemory,
+}
+
+impl From<AllocError> for Differs {
+    fn from(_: AllocError) -> Differs {
+        Differs::OutOfMemory
+    }
+}
+
 /// A command, its key lines, what it prints, where that is known, and its status.
 pub type Step<'a> = (&'a [&'a str], &'a [&'a [u8]], Option<&'a str>, u8);
 
 /// Runs these commands one after another on this disk, each of which ends as it says. So many zeros are there for each.
 pub fn serve_all(
-    rt: &impl Abort,
     alloc: Global,
     disk: &mut MemDisk,
     drawn: usize,
     steps: &[Step<'_>],
-) -> Result<(), Fail> {
-    for (words, lines, says, code) in steps {
+) -> Result<(), Differs> {
+    for (number, (words, lines, says, code)) in steps.iter().enumerate() {
         let given = Given {
             words,
             lines,
             drawn,
         };
         let served = serve(alloc, &given, disk)?;
-        assert_eq!(rt; served.status.code(), *code, "{words:?}");
+        let status = served.status.code();
+        if status != *code {
+            return Err(Differs::Status(number, status, served.text));
+        }
         if let Some(text) = says {
-            assert_eq!(rt; served.text.as_slice(), text.as_bytes(), "{words:?}");
+            if served.text.as_slice() != text.as_bytes() {
+                return Err(Differs::Text(number, served.text));
+            }
         }
     }
-    assert_eq!(rt; disk.starved(), 0);
-    Ok(())
+    if disk.starved() == 0 {
+        Ok(())
+    } else {
+        Err(Differs::OutOfMemory)
+    }
 }
 
 /// What a command prints of this file.

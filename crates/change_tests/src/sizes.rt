@@ -1,5 +1,7 @@
 // Version 4 with pages of other sizes: what is made in one is found, read and written anew by its word alone.
-use crate::served::{AMPLE, KEY, OTHER_KEY, Step, disk_with, file_in, made, serve_all, told};
+use command_runs::served::{
+    AMPLE, KEY, OTHER_KEY, Step, disk_with, file_in, made, serve_all, told,
+};
 use edge_memory::MemDisk;
 use edge_model::Role;
 use std::test::Fail;
@@ -99,7 +101,7 @@ fn a_page_size_of_version_4_is_part_of_its_word(rt: HostRuntime) -> Result<(), F
     let alloc = rt.alloc();
     for (steps, bytes) in SCRIPTS {
         let mut disk = MemDisk::with_files(alloc, None, None, None)?;
-        serve_all(&rt, alloc, &mut disk, AMPLE, steps)?;
+        serve_all(alloc, &mut disk, AMPLE, steps)?;
         if let Some(bytes) = bytes {
             assert_eq!(rt; file_in(alloc, &disk, Role::Main)?.len(), bytes);
         }
@@ -130,7 +132,6 @@ fn each_damaged_page_is_named(rt: HostRuntime) -> Result<(), Fail> {
         let mut disk = disk_with(alloc, file.as_slice())?;
         let says = "page 4: tag refused\npage 5: tag refused\n";
         serve_all(
-            &rt,
             alloc,
             &mut disk,
             0,
@@ -153,7 +154,6 @@ fn rows_go_from_size_to_size(rt: HostRuntime) -> Result<(), Fail> {
     let mut from = "4";
     for to in words {
         serve_all(
-            &rt,
             alloc,
             &mut disk,
             AMPLE,

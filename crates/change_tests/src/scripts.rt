@@ -1,6 +1,6 @@
 // Several commands on one disk: what one command leaves is looked at with the others, whose own rows compare with values from outside.
-use crate::pages::{Change, sealed};
-use crate::served::{AMPLE, KEY, OTHER_KEY, Step, disk_with, file_in, serve_all};
+use command_runs::pages::{Change, sealed};
+use command_runs::served::{AMPLE, KEY, OTHER_KEY, Step, disk_with, file_in, serve_all};
 use edge_memory::MemDisk;
 use edge_model::Role;
 use std::test::Fail;
@@ -82,7 +82,7 @@ fn a_made_database_is_whole_and_is_not_made_again(rt: HostRuntime) -> Result<(),
     let alloc = rt.alloc();
     for (steps, pages) in SCRIPTS {
         let mut disk = MemDisk::with_files(alloc, None, None, Some(&[7; 100]))?;
-        serve_all(&rt, alloc, &mut disk, AMPLE, steps)?;
+        serve_all(alloc, &mut disk, AMPLE, steps)?;
         assert!(rt; disk.bytes(Role::Fresh).is_none());
         let length = file_in(alloc, &disk, Role::Main)?.len();
         if let Some(pages) = pages {
@@ -120,12 +120,13 @@ fn every_page_has_the_second_key_and_a_leaf_of_the_freelist_is_zeros(
     rt: HostRuntime,
 ) -> Result<(), Fail> {
     let alloc = rt.alloc();
-    let mut old = sealed(&rt, alloc, "3", KEY, 4, &TRUNK)?;
+    let mut old = sealed(alloc, "3", KEY, 4, &TRUNK)?;
     for byte in old.iter_mut().skip(2048).take(1024) {
         *byte = 0;
     }
     let mut disk = disk_with(alloc, old.as_slice())?;
-    serve_all(&rt, alloc, &mut disk, 192, &REKEY)
+    serve_all(alloc, &mut disk, 192, &REKEY)?;
+    Ok(())
 }
 
 const STAMP_WORDS: &[&str] = &["stamp", "4", "user-version", "7"];
@@ -164,9 +165,9 @@ const STAMP: [Step<'static>; 5] = [
 #[test]
 fn a_stamp_changes_the_counter_and_the_field_alone(rt: HostRuntime) -> Result<(), Fail> {
     let alloc = rt.alloc();
-    let old = sealed(&rt, alloc, "4", KEY, 4, &[])?;
+    let old = sealed(alloc, "4", KEY, 4, &[])?;
     let mut disk = disk_with(alloc, old.as_slice())?;
-    serve_all(&rt, alloc, &mut disk, 80, &STAMP)?;
+    serve_all(alloc, &mut disk, 80, &STAMP)?;
     let new = file_in(alloc, &disk, Role::Main)?;
     assert_eq!(rt; new.len(), old.len());
     assert!(rt; new.iter().skip(4096).eq(old.iter().skip(4096)));
@@ -204,12 +205,12 @@ const REFUSALS: [(bool, bool, usize, Step<'static>); 8] = [
 #[test]
 fn a_refusal_leaves_the_files(rt: HostRuntime) -> Result<(), Fail> {
     let alloc = rt.alloc();
-    let old = sealed(&rt, alloc, "3", KEY, 4, &[])?;
+    let old = sealed(alloc, "3", KEY, 4, &[])?;
     for (has_main, has_journal, drawn, step) in REFUSALS {
         let main = if has_main { Some(old.as_slice()) } else { None };
         let journal = if has_journal { Some(COLD) } else { None };
         let mut disk = MemDisk::with_files(alloc, main, journal, None)?;
-        serve_all(&rt, alloc, &mut disk, drawn, &[step])?;
+        serve_all(alloc, &mut disk, drawn, &[step])?;
         assert!(rt; disk.bytes(Role::Main) == main);
     }
     Ok(())

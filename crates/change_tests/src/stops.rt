@@ -1,8 +1,10 @@
 // What a stop, a failure of one call and an end of the entropy leave of each command that writes: the old file or the new one, byte by
 // byte. By which key these open, and to what, is asked once.
-use crate::pages::sealed;
 use crate::plays::REKEYED;
-use crate::served::{Given, KEY, OTHER_KEY, disk_with, file_in, made, recovered, serve, told};
+use command_runs::pages::sealed;
+use command_runs::served::{
+    Given, KEY, OTHER_KEY, disk_with, file_in, made, recovered, serve, told,
+};
 use edge_memory::{ImagePick, MemDisk};
 use edge_model::Role;
 use sqlcipher_tool::Status;
@@ -198,7 +200,7 @@ fn each_call_leaves_one(rt: &impl Abort, alloc: Global, trial: &Trial) -> Result
 #[test]
 fn a_stamp_leaves_the_old_file_or_the_stamped_one(rt: HostRuntime) -> Result<(), Fail> {
     let alloc = rt.alloc();
-    let old = sealed(&rt, alloc, "4", KEY, 4, &[])?;
+    let old = sealed(alloc, "4", KEY, 4, &[])?;
     let stamp = trial_on(alloc, STAMP, "4", old)?;
     each_call_leaves_one(&rt, alloc, &stamp)
 }
@@ -405,7 +407,7 @@ fn starves(
 #[test]
 fn an_entropy_that_ends_at_any_page_leaves_the_old_file(rt: HostRuntime) -> Result<(), Fail> {
     let alloc = rt.alloc();
-    let stamped = sealed(&rt, alloc, "4", KEY, 4, &[])?;
+    let stamped = sealed(alloc, "4", KEY, 4, &[])?;
     starves(&rt, alloc, &STAMP, "4", stamped.as_slice(), 79)?;
     let shared = made(alloc, "4", "0")?;
     for drawn in [0, 79, 80, 319] {

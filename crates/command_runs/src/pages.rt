@@ -1,14 +1,31 @@
 // Files of empty table leaves, changed and sealed by page_codec, which its own tests compare with pages from outside.
 ghost use Rattle.cipher_profile.specs.Profile.{usable};
-ghost use Rattle.std.specs.Prelude.{◌≡◌, length};
+ghost use Rattle.std.specs.Prelude.{◌≡◌, ◌≤◌, length};
 
 use cipher_profile::{Profile, derive, read_key};
 use edge_memory::MemSource;
 use page_codec::Codec;
 use profile_word::profile_of;
-use std::alloc::Global;
-use std::process::Abort;
-use std::test::Fail;
+use std::alloc::{AllocError, Global};
+
+/// Why no file is laid.
+#[derive(Clone, Copy, Debug, PartialEq, Eq)]
+pub enum Unlaid {
+    /// The word names no profile of an encrypted file.
+    Word,
+    /// The line is no key line of its form.
+    Key,
+    /// Page 1 does not begin as a database does.
+    Magic,
+    /// Memory was wanted.
+    OutOfMemory,
+}
+
+impl From<AllocError> for Unlaid {
+    fn from(_: AllocError) -> Unlaid {
+        Unlaid::OutOfMemory
+    }
+}
 
 /// Bytes that are put into a plain page: the page, where, and what.
 pub type Change = (u32, usize, &'static [u8]);
@@ -54,27 +71,32 @@ fn lay(profile: &Profile, pages: u32, n: u32, changes: &[Change], plain: &mut [u
     }
 }
 
-fn seal(rt: &impl Abort, codec: &Codec, n: u32, plain: &[u8], stored: &mut [u8])
+fn seal(codec: &Codec, n: u32, plain: &[u8], stored: &mut [u8]) -> Result<(), Unlaid>
+    requires number { 1 ≤ n }
     requires plain_size { length plain.now ≡ usable codec.now.profile }
     requires stored_size { length stored.old ≡ codec.now.profile.page_size }
+    ensures { length stored.new ≡ length stored.old }
 {
-    assert!(rt; n >= 1 && plain.len() >= 16);
-    assert!(rt; n != 1 || plain[..16] == MAGIC[..]);
+    if plain.len() < 16 || n == 1 && plain[..16] != MAGIC[..] {
+        return Err(Unlaid::Magic);
+    }
     let _usable = codec.profile().usable();
     let zeros = [0u8; 255];
     codec.seal_page(n, plain, &zeros[..codec.profile().reserve as usize], stored);
+    Ok(())
 }
 
 // The codec of the profile under a key line, for a salt of zeros where the file holds one.
-fn codec_of(rt: &impl Abort, alloc: Global, word: &str, key: &[u8]) -> Result<Codec, Fail> {
+fn codec_of(alloc: Global, word: &str, key: &[u8]) -> Result<Codec, Unlaid> {
     let Some(profile) = profile_of(word) else {
-        panic!(rt; "no profile {word}");
+        return Err(Unlaid::Word);
     };
     let Some(form) = profile.line_form() else {
-        panic!(rt; "a plain file has no key");
+        return Err(Unlaid::Word);
     };
-    let Ok(secret) = read_key(form, &mut MemSource::new(alloc, key, &[])?) else {
-        panic!(rt; "no key");
+    let mut source = MemSource::new(alloc, key, &[]).map_err(|_| Unlaid::OutOfMemory)?;
+    let Ok(secret) = read_key(form, &mut source) else {
+        return Err(Unlaid::Key);
     };
     let salt = if profile.is_clear() {
         page_codec::MAGIC
@@ -87,14 +109,13 @@ fn codec_of(rt: &impl Abort, alloc: Global, word: &str, key: &[u8]) -> Result<Co
 
 /// The file of so many pages of the profile under a key line, with these changes.
 pub fn sealed(
-    rt: &impl Abort,
     alloc: Global,
     word: &str,
     key: &[u8],
     pages: u32,
     changes: &[Change],
-) -> Result<Vec<u8>, Fail> {
-    let codec = codec_of(rt, alloc, word, key)?;
+) -> Result<Vec<u8>, Unlaid> {
+    let codec = codec_of(alloc, word, key)?;
     let profile = *codec.profile();
     let mut file = Vec::new(alloc);
     for n in 1..=pages {
@@ -103,7 +124,7 @@ pub fn sealed(
         let mut stored = [0u8; 65536];
         let stored = &mut stored[..profile.page_size as usize];
         lay(&profile, pages, n, changes, plain);
-        seal(rt, &codec, n, plain, stored);
+        seal(&codec, n, plain, stored)?;
         file.extend_from_slice(stored)?;
     }
     Ok(file)

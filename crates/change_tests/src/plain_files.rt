@@ -1,5 +1,5 @@
 // The rows of plain files, which take no key line and no drawn byte: where none is given the first call for one fails.
-use crate::served::{Given, KEY, disk_with, file_in, made, serve_failing};
+use command_runs::served::{Given, KEY, disk_with, file_in, made, serve_failing};
 use edge_memory::MemDisk;
 use edge_model::Role;
 use std::alloc::Global;

@@ -1,5 +1,5 @@
 // To which rows a file is rekeyed and migrated, and that a migration is streamed.
-use crate::served::{AMPLE, Given, KEY, OTHER_KEY, disk_with, file_in, made, serve, told};
+use command_runs::served::{AMPLE, Given, KEY, OTHER_KEY, disk_with, file_in, made, serve, told};
 use edge_model::Role;
 use sqlcipher_tool::Status;
 use std::alloc::{AllocError, Global};
