@@ -193,7 +193,7 @@ def commands_of_help():
 COMMANDS_IN = {
     "README.md": r"^\| `FILE ([a-z]+)\b",
     "docs/sqlcipher-tool.1": r"^\.(?:TP|TQ)\n\.BI? \"?([a-z]+)\b",
-    "crates/sqlcipher_cli/src/usage.rt": r"(?<=[\[ ])\"([a-z]+)\"",
+    "crates/sqlcipher_cli/src/commands.rt": r"^ +\"([a-z]+)\" =>",
     "tools/sqlcipher-tool.bash-completion": r"(?<=compgen -W ')([a-z ]+) --help(?=')",
     "tools/sqlcipher-tool-ask": r"^        ([a-z |]+)\) (?:\[ |false)",
     "tests/commands.tsv": r"^([a-z]+)\t(?!words)",

@@ -1,2 +1,4 @@
 pub mod Exit
+pub mod KeyLines
+pub mod Named
 pub mod Plain

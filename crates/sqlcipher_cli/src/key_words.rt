@@ -1,7 +1,9 @@
 // What is said of key lines: which is asked for, what one may have been meant as, why a key was refused. No byte of a key is printed.
-use crate::advice::Ended;
-use crate::plain::{self, OLD_ROWS, decrypts, encrypts, is_plain_word};
-use cipher_profile::LineForm;
+use crate::asked::Asked;
+use crate::commands::{Lines, Word};
+use crate::ended::Ended;
+use crate::plain::{self, OLD_ROWS};
+use crate::version::{form_of, has_plain_header, is_plain_word, is_same_profile};
 use edge_files::{Folder, InputSource, KeyLine, Prompt, say};
 use profile_word::profile_of;
 
@@ -63,16 +65,15 @@ const NO_TAGS: &str =
     "under hmac=off pages have no tags: a page that is changed later is not noticed";
 
 /// What one is asked for who types the lines of this command.
-pub fn prompt_of(words: &[&str]) -> Prompt {
-    match words {
-        ["play", ..] => one("the script, a step a line, and Ctrl-D behind the last one"),
-        ["make", ..] => one(NEW_KEY),
-        ["migrate", ..] if encrypts(words) => one(NEW_KEY),
-        ["rekey" | "migrate", ..] if !decrypts(words) => Prompt {
+pub fn prompt_of(asked: &Asked) -> Prompt {
+    match asked.lines() {
+        Lines::Script => one("the script, a step a line, and Ctrl-D behind the last one"),
+        Lines::New | Lines::NewAlone => one(NEW_KEY),
+        Lines::Both => Prompt {
             first: OLD_KEY,
             second: Some(NEW_KEY),
         },
-        _ => one(OLD_KEY),
+        Lines::Nothing | Lines::Old | Lines::OldAlone => one(OLD_KEY),
     }
 }
 
@@ -84,18 +85,13 @@ fn one(first: &'static str) -> Prompt {
 }
 
 /// How many key lines were to come, and which. A plain file has none.
-pub fn missing_key(words: &[&str]) -> &'static str {
-    match words {
-        ["migrate", ..] if encrypts(words) => NEW_KEY_MISSING,
-        ["migrate", ..] if decrypts(words) => OLD_KEY_MISSING,
-        ["rekey" | "migrate", ..] => TWO_KEYS_MISSING,
-        _ => KEY_MISSING,
+pub fn missing_key(asked: &Asked) -> &'static str {
+    match asked.lines() {
+        Lines::NewAlone => NEW_KEY_MISSING,
+        Lines::OldAlone => OLD_KEY_MISSING,
+        Lines::Both => TWO_KEYS_MISSING,
+        Lines::Nothing | Lines::Script | Lines::Old | Lines::New => KEY_MISSING,
     }
-}
-
-// The form of the key line of a word's files.
-fn form_of(word: &str) -> Option<LineForm> {
-    profile_of(word)?.line_form()
 }
 
 // What is said of a line as it was taken under this word: in hex, or with its salt, it has one form alone.
@@ -141,31 +137,19 @@ fn remark_on_blanks(line: &KeyLine) -> Option<&'static str> {
 
 /// Says what the new key of a command that was done was taken as. A key that was set otherwise than it was meant opens the
 /// file to nobody who does not know that.
-pub fn explain_new_key(rt: &HostRuntime, words: &[&str], input: &InputSource) {
-    match words {
-        ["rekey", old, new] => {
+pub fn explain_new_key(rt: &HostRuntime, asked: &Asked, input: &InputSource) {
+    let new = asked.new_version();
+    match asked.lines() {
+        Lines::New => explain_line(rt, new, &input.line),
+        Lines::NewAlone => {
+            explain_line(rt, new, &input.line);
+            explain_renewed(rt, asked, input);
+        }
+        Lines::Both => {
             explain_line(rt, new, &input.second);
-            if is_same_profile(old, new) && input.line.is_same_key(&input.second) {
-                say(rt, SAME_KEY);
-            }
+            explain_renewed(rt, asked, input);
         }
-        ["migrate", old, new] if !is_plain_word(new) => {
-            // A plain file has no key, so the first line is the new one's.
-            let line = if is_plain_word(old) {
-                &input.line
-            } else {
-                &input.second
-            };
-            explain_line(rt, new, line);
-            if encrypts(words) {
-                say(rt, OLD_ROWS);
-            }
-            if let Some(words) = untagged(new) {
-                say(rt, words);
-            }
-        }
-        ["make", new, ..] if !is_plain_word(new) => explain_line(rt, new, &input.line),
-        _ => return,
+        Lines::Nothing | Lines::Script | Lines::Old | Lines::OldAlone => return,
     }
     if input.goes_on() {
         say(
@@ -175,11 +159,20 @@ pub fn explain_new_key(rt: &HostRuntime, words: &[&str], input: &InputSource) {
     }
 }
 
-// Whether both words are of files of one profile: under another one the same line may be another key.
-fn is_same_profile(old: &str, new: &str) -> bool {
-    match (profile_of(old), profile_of(new)) {
-        (Some(one), Some(other)) => one == other,
-        _ => false,
+// Says of a file with a new key what is the same, what is gone from it, or what it lacks.
+fn explain_renewed(rt: &HostRuntime, asked: &Asked, input: &InputSource) {
+    let (old, new) = (asked.version(), asked.new_version());
+    if asked.is(Word::Rekey) {
+        if is_same_profile(old, new) && input.line.is_same_key(&input.second) {
+            say(rt, SAME_KEY);
+        }
+        return;
+    }
+    if asked.encrypts() {
+        say(rt, OLD_ROWS);
+    }
+    if let Some(words) = untagged(new) {
+        say(rt, words);
     }
 }
 
@@ -221,7 +214,7 @@ pub fn explain_key(rt: &HostRuntime, run: &Ended, input: &InputSource, folder: &
         plain::explain_unencrypted(rt, run.version(), head);
     } else if let Some(words) = remark_under(run.version(), &input.line) {
         say(rt, words);
-    } else if run.words.first() == Some(&"probe") {
+    } else if run.asked.is(Word::Probe) {
         say(
             rt,
             "the key fits under no version that is tried: it is wrong, or the file has settings of its own. They are what the program that wrote \
@@ -229,7 +222,7 @@ pub fn explain_key(rt: &HostRuntime, run: &Ended, input: &InputSource, folder: &
             the dialog of DB Browser for SQLite shows: give them behind the version, as 4:rounds=4000:hmac=sha1. The README's section \"When \
             the key is refused\" lists what else it may be",
         );
-    } else if run.words.first() == Some(&"salvage") {
+    } else if run.asked.is(Word::Salvage) {
         say(
             rt,
             format_args!(
@@ -240,10 +233,14 @@ pub fn explain_key(rt: &HostRuntime, run: &Ended, input: &InputSource, folder: &
         );
     } else {
         let version = run.version();
-        let order = match run.words {
-            ["rekey", ..] => " The first line is the old key.",
-            ["migrate", _, new] if !is_plain_word(new) => " The first line is the old key.",
-            _ => "",
+        let order = match run.asked.lines() {
+            Lines::Both => " The first line is the old key.",
+            Lines::Nothing
+            | Lines::Script
+            | Lines::Old
+            | Lines::New
+            | Lines::OldAlone
+            | Lines::NewAlone => "",
         };
         say(
             rt,
@@ -263,14 +260,6 @@ fn whose_settings(version: &str) -> &'static str {
         pages"
     } else {
         "`probe` finds the version and the size of its pages"
-    }
-}
-
-// Whether a word names files whose first bytes are in the clear.
-fn has_plain_header(word: &str) -> bool {
-    match profile_of(word) {
-        Some(profile) => profile.plain_header > 0,
-        None => false,
     }
 }
 

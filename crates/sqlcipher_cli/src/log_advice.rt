@@ -1,17 +1,13 @@
 // What is said of a write-ahead log, and of the setting `:wal`, under which a file is read with it.
-use crate::advice::Ended;
-use crate::plain::{self, is_plain_word};
+use crate::commands::Word;
+use crate::ended::Ended;
+use crate::plain;
 use crate::settle_advice::say_settle;
+use crate::version::{is_plain_word, log_setting, without_log};
 use cipher_profile::Profile;
 use edge_files::{Conflict, Folder, say};
-use profile_word::{probed_profiles, profile_of};
-use sqlcipher_tool::{Refusal, Status, profile_to_settle, profile_with_log};
-use std::fmt::{self, Display, Formatter};
-
-/// The commands that only read, which the setting is for.
-const READING: [&str; 7] = [
-    "tags", "header", "verify", "export", "agree", "find", "salvage",
-];
+use profile_word::probed_profiles;
+use sqlcipher_tool::{Refusal, Status};
 
 const TAKE_IN: &str =
     "to take the log in, open and close the database with the program that wrote it, or copy FILE and FILE-wal together and do so there; \
@@ -55,51 +51,9 @@ const LACKS_LOG: &str =
 const UNTAGGED: &str =
     "pages of FILE-wal were read in the place of FILE's, and these have no tags: a log that is another file's is not noticed";
 
-// Whether a command of this name only reads.
-fn is_reading(name: &str) -> bool {
-    READING.iter().any(|reading| *reading == name)
-}
-
-// The command that reads what these words name: their own, or `export`.
-fn reading_name<'w>(words: &[&'w str]) -> &'w str {
-    let name = words.first().copied().unwrap_or("");
-    if is_reading(name) { name } else { "export" }
-}
-
-/// The setting that a word has, as it is written.
-pub fn setting_of(word: &str) -> &'static str {
-    match profile_of(word) {
-        Some(profile) if profile.reads_log => ":wal",
-        _ => "",
-    }
-}
-
-// A word without this setting: what stands before it, and what behind.
-#[derive(Clone, Copy)]
-struct Unset<'w> {
-    front: &'w str,
-    back: &'w str,
-}
-
-impl<'w> Display for Unset<'w> {
-    fn fmt<W: fmt::Write>(&self, f: &mut Formatter<W>) -> fmt::Result {
-        write!(f, "{}{}", self.front, self.back)
-    }
-}
-
-fn without_setting(word: &str) -> Unset<'_> {
-    match word.split_once(":wal") {
-        Some((front, back)) => Unset { front, back },
-        None => Unset {
-            front: word,
-            back: "",
-        },
-    }
-}
-
 /// Says how a file is read beside whose log, or in whose mode, the words don't serve it.
 pub fn say_reader(rt: &HostRuntime, run: &Ended, what: &str) {
-    let name = reading_name(run.words);
+    let name = run.asked.reader().name();
     let version = run.version();
     say(
         rt,
@@ -115,7 +69,7 @@ pub fn explain_log_conflict(rt: &HostRuntime, run: &Ended, conflict: Conflict) {
         TAKE_IN
     };
     match conflict {
-        Conflict::Log if run.words.first() == Some(&"make") => say(rt, cure),
+        Conflict::Log if run.asked.is(Word::Make) => say(rt, cure),
         Conflict::Log => {
             say_reader(rt, run, "the file with its log");
             say_settle(rt, run);
@@ -126,10 +80,10 @@ pub fn explain_log_conflict(rt: &HostRuntime, run: &Ended, conflict: Conflict) {
             format_args!(
                 "SQLite plays the journal back first, and reads the log then: on a copy of the files move FILE-wal away, if it is there, give \
                 `recover {}`, put FILE-wal back, and give this command again",
-                without_setting(run.version())
+                without_log(run.version())
             ),
         ),
-        Conflict::Changed | Conflict::Replaced if profile_with_log(run.words).is_some() => {
+        Conflict::Changed | Conflict::Replaced if run.asked.profile_with_log().is_some() => {
             say(rt, ONE_MOMENT);
         }
         _ => {}
@@ -152,17 +106,19 @@ pub fn is_log_explained(rt: &HostRuntime, run: &Ended, refusal: Refusal) -> bool
 
 // A command that changes a file, or makes one, under the setting.
 fn explain_only_read(rt: &HostRuntime, run: &Ended) {
-    let version = without_setting(run.version());
-    match run.words {
-        ["make", ..] => say(rt, NO_LOG_MADE),
-        ["settle", ..] => say(
+    let version = without_log(run.version());
+    match run.asked.command() {
+        Some(Word::Make) => say(rt, NO_LOG_MADE),
+        Some(Word::Settle) => say(
             rt,
             format_args!(
                 "`settle {version}` takes the log in: the setting is for commands that change nothing"
             ),
         ),
-        ["migrate" | "rekey", old, _] if setting_of(old).is_empty() => say(rt, NO_LOG_MADE),
-        _ => say(
+        Some(Word::Rekey | Word::Migrate) if log_setting(run.version()).is_empty() => {
+            say(rt, NO_LOG_MADE);
+        }
+        Some(_) | None => say(
             rt,
             format_args!(
                 "`export {version}:wal` reads it. To change it, give `settle {version}`, which takes the log in, and then this command with {version}"
@@ -206,7 +162,7 @@ fn is_size_of_4(found: u32) -> bool {
 
 /// Says what the log, or the want of one, may have to do with how a run over both ended.
 pub fn explain_view(rt: &HostRuntime, run: &Ended, folder: &Folder) {
-    let Some(profile) = profile_of_pair(run.words) else {
+    let Some(profile) = run.asked.profile_beside_log() else {
         return;
     };
     if run.status == Status::DiskFault && run.failure.is_none() {
@@ -225,18 +181,10 @@ fn said_of_salt(run: &Ended) -> Option<&'static str> {
     if !run.signs.has_other_salt || run.status == Status::Refused(Refusal::LogOfOther) {
         return None;
     }
-    if run.words.first() == Some(&"settle") && run.status == Status::Done {
+    if run.asked.is(Word::Settle) && run.status == Status::Done {
         Some(TORN_PAGE)
     } else {
         Some(OTHER_SALT)
-    }
-}
-
-// The profile by which these words have a file read with its log.
-fn profile_of_pair(words: &[&str]) -> Option<Profile> {
-    match profile_with_log(words) {
-        None => profile_to_settle(words),
-        profile => profile,
     }
 }
 

@@ -11,33 +11,43 @@ ghost use Rattle.sqlcipher_tool.specs.Play.{AreNoWords, DrawsBytes, TakesInput};
 ghost use Rattle.sqlcipher_tool.specs.Settling.{settled_by};
 ghost use Rattle.sqlcipher_tool.specs.WithLog.{viewed_by};
 ghost use Rattle.sqlcipher_tool.specs.Words.{form, texts};
-ghost use Rattle.sqlcipher_tool.specs.declared.command.Command.{Command as Asked};
+ghost use Rattle.sqlcipher_tool.specs.declared.command.Command.{Command as Formed};
 ghost use Rattle.sqlcipher_tool.specs.declared.status.Refusal.{Refusal as Refused};
 
 mod advice;
+mod asked;
+mod commands;
+mod ended;
+mod fresh;
 mod help;
 mod key_words;
 mod log_advice;
 mod log_signs;
 mod near;
+mod others;
+mod outcome;
 mod plain;
+mod playback;
 mod refusals;
 mod settings;
 mod settle;
 mod settle_advice;
 mod usage;
+mod version;
+mod which_file;
 
-use advice::Ended;
+use asked::Asked;
 use cipher_profile::Profile;
+use commands::Word;
 use edge_files::{
     DeviceEntropy, FolderDisk, InputSource, OutputSink, Paths, Progress, Purpose, StandIns, failed,
     say,
 };
+use ended::Ended;
 use key_words::{explain_session_key, prompt_of};
 use log_run::run_with_log;
 use log_signs::{LogSigns, differ, salt_of};
 use near::names_near;
-use plain::decrypts;
 use schema_names::NearName;
 use settle::settle_with_log;
 use settle_advice::explain_unlaid;
@@ -279,12 +289,12 @@ fn serve_files<'a>(
 }
 
 // What the first run does to the files.
-fn purpose_of(words: &[&str], reads_log: bool, settles: bool) -> Purpose {
+fn purpose_of(asked: &Asked, reads_log: bool, settles: bool) -> Purpose {
     if reads_log {
         Purpose::ReadLog
     } else if settles {
         Purpose::RecoverBesideLog
-    } else if words.first() == Some(&"probe") {
+    } else if asked.is(Word::Probe) {
         Purpose::Probe
     } else {
         Purpose::Command
@@ -294,7 +304,7 @@ fn purpose_of(words: &[&str], reads_log: bool, settles: bool) -> Purpose {
 // A command on the file, and what is to be said of it. The clauses are those of `run` that go by the words alone.
 fn serve(rt: &HostRuntime, file: &str, words: &[&str]) -> Status
     ensures usage { AreNoWords (texts words.now) → EndsAs Status.Usage result }
-    ensures refused { (command : Asked) (refusal : Refused) → form (texts words.now) ≡ Some command → word_refusal command ≡ Some refusal
+    ensures refused { (command : Formed) (refusal : Refused) → form (texts words.now) ≡ Some command → word_refusal command ≡ Some refusal
         → EndsAs (Status.Refused refusal) result }
     ensures no_usage { result ≡ Status.Usage → AreNoWords (texts words.now) }
     ensures input_fault { result ≡ Status.InputFault → TakesInput (texts words.now) }
@@ -306,13 +316,14 @@ fn serve(rt: &HostRuntime, file: &str, words: &[&str]) -> Status
     let progress = Progress::new(rt);
     let with_log = profile_with_log(words);
     let settles = profile_to_settle(words);
-    let purpose = purpose_of(words, with_log.is_some(), settles.is_some());
+    let asked = Asked::new(words);
+    let purpose = purpose_of(&asked, with_log.is_some(), settles.is_some());
     let Ok(mut files) = FolderDisk::new(rt, &paths, &progress, purpose) else {
         return out_of_memory(rt);
     };
-    files.folder.is_decrypting = decrypts(words);
-    let is_play = words.first() == Some(&"play");
-    let mut input = InputSource::new(rt, is_play, prompt_of(words));
+    files.folder.is_decrypting = asked.decrypts();
+    let is_play = asked.is(Word::Play);
+    let mut input = InputSource::new(rt, is_play, prompt_of(&asked));
     let mut out = OutputSink::new(rt, &progress);
     let mut entropy = DeviceEntropy::new(rt);
     let alloc = rt.alloc();
@@ -339,14 +350,14 @@ fn serve(rt: &HostRuntime, file: &str, words: &[&str]) -> Status
     let run = Ended {
         status,
         path: file,
-        words,
+        asked,
         failure,
         near: served.near.unwrap_or(Vec::new(alloc)),
         signs: served.signs,
     };
     advice::explain(rt, &run, &input, &mut disk.folder);
     explain_unlaid(rt, &run, &disk.folder);
-    if status == Status::Done && words.first() == Some(&"salvage") {
+    if status == Status::Done && asked.is(Word::Salvage) {
         advice::explain_salvaged(rt, out.last_line());
     }
     if out.has_refused_key && is_play {

@@ -2,6 +2,7 @@
 ghost use Rattle.std.specs.Prelude.{IsTrue};
 ghost use Rattle.sqlcipher_tool.specs.Opening.{AreRecovered};
 
+use crate::asked::Asked;
 use cipher_profile::{Secret, read_key};
 use edge_files::{DeviceEntropy, KeptLine, KeyLine, Shown, say};
 use edge_model::Disk;
@@ -29,20 +30,18 @@ pub fn names_near<D: Disk>(
     if status != Status::Refused(Refusal::NoTable) {
         return None;
     }
-    let version = words.get(1).copied().unwrap_or("");
-    let secret = match profile_of(version)?.line_form() {
+    let secret = match profile_of(Asked::new(words).version())?.line_form() {
         Some(form) => read_key(form, &mut KeptLine::new(line)).ok()?,
         None => Secret::NoKey,
     };
     near_names(rt.alloc(), words, &secret, entropy, disk).ok()
 }
 
-/// Says what is there in the place of the table.
-pub fn explain_names(rt: &HostRuntime, words: &[&str], names: &[NearName]) {
+/// Says what is there in the place of the table of this name.
+pub fn explain_names(rt: &HostRuntime, sought: &str, names: &[NearName]) {
     if names.is_empty() {
         say(rt, NO_TABLE);
     }
-    let sought = words.get(2).copied().unwrap_or("");
     for near in names {
         if let Ok(stored) = str::from_utf8(near.name.as_slice()) {
             explain_name(rt, near, stored, stored == sought);

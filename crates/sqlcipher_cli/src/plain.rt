@@ -1,13 +1,8 @@
-// Plain SQLite files: which words name them, and what is said where one is refused, or takes the place of an encrypted file.
-ghost use Rattle.std.specs.Prelude.{◌≡◌};
-ghost use Rattle.sqlcipher_cli.specs.Plain.{decrypts, encrypts, names_plain};
-ghost use Rattle.sqlcipher_tool.specs.Words.{texts};
-
-use crate::log_advice::setting_of;
+// What is said of plain SQLite files: where one is refused, or takes the place of an encrypted file.
+use crate::version::log_setting;
 use cipher_profile::Profile;
 use edge_files::{PlainHead, say};
 use profile_word::profile_of;
-use std::fmt::Display;
 
 /// Why the words of a plain file fit no file that does not begin with them.
 pub const NO_MAGIC: &str =
@@ -44,36 +39,6 @@ const RESERVED: &str =
     salt, x' and 96 hex digits and '; where SQLite wrote it, `sqlite3 FILE .dump | sqlite3 NEW` gives a file without them (VACUUM keeps them, \
     and the user version has to be set anew)";
 
-/// Whether a word names plain files.
-pub fn is_plain_word(word: &str) -> bool
-    ensures { result ≡ names_plain word.now }
-{
-    match profile_of(word) {
-        Some(profile) => profile.is_plain(),
-        None => false,
-    }
-}
-
-/// Whether the words write the rows of an encrypted file in the clear.
-pub fn decrypts(words: &[&str]) -> bool
-    ensures { result ≡ decrypts (texts words.now) }
-{
-    match words {
-        [name, old, new] => *name == "migrate" && !is_plain_word(old) && is_plain_word(new),
-        _ => false,
-    }
-}
-
-/// Whether the words write the rows of a plain file under a key.
-pub fn encrypts(words: &[&str]) -> bool
-    ensures { result ≡ encrypts (texts words.now) }
-{
-    match words {
-        [name, old, new] => *name == "migrate" && is_plain_word(old) && !is_plain_word(new),
-        _ => false,
-    }
-}
-
 // The profile of a file that begins so, where its pages have a size of SQLite's.
 fn profile_at(head: PlainHead) -> Option<Profile> {
     sized(head.field)
@@ -102,7 +67,7 @@ fn of_size(size: u32) -> Option<Profile> {
 /// Says how a plain file is served, under which the key of an encrypted one was refused.
 pub fn explain_unencrypted(rt: &HostRuntime, word: &str, head: PlainHead) {
     let begins = "the file begins with `SQLite format 3`";
-    let setting = setting_of(word);
+    let setting = log_setting(word);
     let reserve = head.reserve;
     match profile_at(head) {
         Some(profile) if reserve == 0 => {
@@ -162,7 +127,7 @@ pub fn explain_other_size(rt: &HostRuntime, word: &str, head: Option<PlainHead>)
 }
 
 fn explain_size(rt: &HostRuntime, word: &str, size: u32) {
-    let setting = setting_of(word);
+    let setting = log_setting(word);
     say(
         rt,
         format_args!("the pages of this file have {size} bytes: give plain:{size}{setting}"),
@@ -183,15 +148,4 @@ pub fn explain_journal(rt: &HostRuntime, found: u32) {
             format_args!("{beside}, and no file has such pages; {unwritten}"),
         ),
     }
-}
-
-/// Says how to tell which of two files it is after `migrate`, where one of them is plain.
-pub fn explain_which<O: Display + Drop, N: Display + Drop>(rt: &HostRuntime, old: O, new: N) {
-    say(
-        rt,
-        format_args!(
-            "unless another program changed it meanwhile, the file is whole, the old one or the new one: `recover {old}`, then `verify {old}` \
-            and `verify {new}`, each with its own key"
-        ),
-    );
 }

@@ -1,11 +1,14 @@
 // What is said of a refusal beside its line: which word, journal or copy cures it.
-use crate::advice::Ended;
+use crate::asked::Asked;
+use crate::commands::Word;
+use crate::ended::Ended;
 use crate::key_words::missing_key;
 use crate::log_advice::{is_log_explained, say_reader};
 use crate::near::explain_names;
-use crate::plain::{self, is_plain_word};
+use crate::plain;
 use crate::settings::Pragmas;
 use crate::settle_advice::say_settle;
+use crate::version::is_plain_word;
 use edge_files::{Folder, say};
 use profile_word::probed_profiles;
 use sqlcipher_tool::Refusal;
@@ -73,9 +76,9 @@ pub fn explain_refusal(rt: &HostRuntime, run: &Ended, refusal: Refusal, folder: 
         return;
     }
     match refusal {
-        Refusal::KeyMissing => say(rt, missing_key(run.words)),
-        Refusal::LayoutDiffers => say(rt, other_layout(run.words)),
-        Refusal::NoTable => explain_names(rt, run.words, run.near.as_slice()),
+        Refusal::KeyMissing => say(rt, missing_key(&run.asked)),
+        Refusal::LayoutDiffers => say(rt, other_layout(&run.asked)),
+        Refusal::NoTable => explain_names(rt, run.asked.third(), run.near.as_slice()),
         Refusal::JournalPageSize { found } => explain_journal(rt, run.version(), found, folder),
         Refusal::WalMode | Refusal::AutoVacuum => {
             explain_mode(rt, run);
@@ -94,12 +97,12 @@ pub fn explain_refusal(rt: &HostRuntime, run: &Ended, refusal: Refusal, folder: 
             rt,
             "the script goes on after its first 100,000 lines, which were played: the others are a script of their own",
         ),
-        _ => explain_briefly(rt, run.words, refusal, folder.deeds.laid > 0),
+        _ => explain_briefly(rt, &run.asked, refusal, folder.deeds.laid > 0),
     }
 }
 
 // A refusal of which always the same is said.
-fn explain_briefly(rt: &HostRuntime, asked: &[&str], refusal: Refusal, is_played: bool) {
+fn explain_briefly(rt: &HostRuntime, asked: &Asked, refusal: Refusal, is_played: bool) {
     let words = match refusal {
         Refusal::KeyEmpty => KEY_EMPTY,
         Refusal::KeyTooLong => KEY_TOO_LONG,
@@ -113,7 +116,7 @@ fn explain_briefly(rt: &HostRuntime, asked: &[&str], refusal: Refusal, is_played
         Refusal::Ragged { .. } => RAGGED,
         // After a playback it was said already what it may be.
         Refusal::PageTag { .. } | Refusal::Defect(_) if is_played => return,
-        Refusal::PageTag { .. } if asked.first() == Some(&"tags") => TAGS_REFUSED,
+        Refusal::PageTag { .. } if asked.is(Word::Tags) => TAGS_REFUSED,
         Refusal::PageTag { .. } | Refusal::Defect(_) => DAMAGED,
         _ => return,
     };
@@ -121,11 +124,10 @@ fn explain_briefly(rt: &HostRuntime, asked: &[&str], refusal: Refusal, is_played
 }
 
 // What two profiles are whose pages differ, or of which one has no key.
-fn other_layout(words: &[&str]) -> &'static str {
-    if words.iter().any(|word| is_plain_word(word)) {
-        plain::NO_KEY
-    } else {
-        LAYOUT_DIFFERS
+fn other_layout(asked: &Asked) -> &'static str {
+    match asked.pair() {
+        Some(pair) if pair.has_plain() => plain::NO_KEY,
+        Some(_) | None => LAYOUT_DIFFERS,
     }
 }
 

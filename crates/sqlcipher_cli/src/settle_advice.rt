@@ -1,5 +1,6 @@
 // What is said of `settle`: that it serves a file in WAL mode, what a stop has left of the log, and what of it was not laid.
-use crate::advice::Ended;
+use crate::commands::Word;
+use crate::ended::Ended;
 use edge_files::{Folder, Shown, say};
 use sqlcipher_tool::Status;
 
@@ -17,7 +18,7 @@ pub fn say_settle(rt: &HostRuntime, run: &Ended) {
 /// Says where a log stands that was not laid whole, or that was laid into a file which is not out of WAL mode. Answers whether it is so.
 pub fn is_part_settled(rt: &HostRuntime, run: &Ended, folder: &Folder) -> bool {
     let deeds = folder.deeds;
-    if run.words.first() != Some(&"settle") || run.status == Status::Done || deeds.has_changed {
+    if !run.asked.is(Word::Settle) || run.status == Status::Done || deeds.has_changed {
         return false;
     }
     let version = run.version();

@@ -1,48 +1,41 @@
 // Why the words are no command.
+use crate::asked::Asked;
+use crate::commands::Form;
 use crate::settings::explain_word;
+use crate::version::is_version;
 use edge_files::{Shown, say};
-use profile_word::profile_of;
-
-/// The commands that take a version and nothing else.
-const ON_ONE_VERSION: [&str; 9] = [
-    "tags", "header", "verify", "export", "agree", "salvage", "recover", "settle", "play",
-];
 
 /// Says what is missing, or which word is none.
-pub fn explain_usage(rt: &HostRuntime, words: &[&str]) {
-    match words {
-        [] => say(
+pub fn explain_usage(rt: &HostRuntime, asked: &Asked) {
+    let Some(word) = asked.command() else {
+        explain_unknown(rt, asked);
+        return;
+    };
+    let name = word.name();
+    match word.form() {
+        Form::Alone => say(
             rt,
-            "these words are no command, or one of them is not UTF-8; --help lists the commands",
+            format_args!("`{name}` takes no further word; --help lists the commands"),
         ),
-        ["probe", ..] => say(
-            rt,
-            "`probe` takes no further word; --help lists the commands",
-        ),
-        ["stamp", rest @ ..] => explain_form(
-            rt,
-            rest.first(),
-            "`stamp` takes a version, `user-version` or `application-id`, and a number up to 4294967295",
-        ),
-        ["find", rest @ ..] => explain_form(
-            rt,
-            rest.first(),
-            "`find` takes a version, the name of a table, and the lowest and the highest rowid, each of at most 19 digits and of 64 bits",
-        ),
-        ["make", rest @ ..] => explain_form(
-            rt,
-            rest.first(),
-            "`make` takes a version, and how many rows, up to 4294967295",
-        ),
-        ["rekey", rest @ ..] => explain_pair(rt, "rekey", rest),
-        ["migrate", rest @ ..] => explain_pair(rt, "migrate", rest),
-        [name, rest @ ..] if ON_ONE_VERSION.contains(name) => explain_one(rt, name, rest),
-        [name, ..] => say(
+        Form::Version => explain_one(rt, name, asked.behind()),
+        Form::Versions => explain_pair(rt, name, asked.behind()),
+        Form::More(form) => explain_form(rt, asked.behind().first(), form),
+    }
+}
+
+// The first word is the name of no command, or there is none.
+fn explain_unknown(rt: &HostRuntime, asked: &Asked) {
+    match asked.name() {
+        Some(name) => say(
             rt,
             format_args!(
                 "unknown command `{}`; --help lists the commands",
                 Shown(name)
             ),
+        ),
+        None => say(
+            rt,
+            "these words are no command, or one of them is not UTF-8; --help lists the commands",
         ),
     }
 }
@@ -104,8 +97,4 @@ fn explain_version(rt: &HostRuntime, word: &str) {
 // Whether a word was to name the setting of a file that is read with its log.
 fn speaks_of_log(word: &str) -> bool {
     word.contains("wal") || word.contains("WAL")
-}
-
-fn is_version(word: &str) -> bool {
-    profile_of(word).is_some()
 }
