@@ -52,6 +52,7 @@ pub mod Rekeying
 pub mod Migrating
 pub mod RekeyedFile
 pub mod Asked
+pub mod Carrying
 pub mod Numbers
 pub mod Rowids
 pub mod Served

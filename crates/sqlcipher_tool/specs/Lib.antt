@@ -1,6 +1,7 @@
 pub mod Agree
 pub mod Answer
 pub mod Behind
+pub mod Carried
 pub mod Change
 pub mod Crash
 pub mod Plain

@@ -1,17 +1,17 @@
 // The top call.
-ghost use Rattle.std.specs.Prelude.{◌≡◌, ◌⊎◌, ◌≤◌, ◌∷◌, ℕ, List, [], drop, length, true, false, None, Some, Ok, Err, IsTrue, IsErr};
+ghost use Rattle.std.specs.Prelude.{◌≡◌, ◌⊎◌, ◌≤◌, ◌∷◌, [], drop, length, true, false, None, Some, Ok, Err, IsTrue, IsErr};
 ghost use Rattle.cipher_profile.specs.declared.key_line.KeyError.{KeyError as KeyRefusal};
-ghost use Rattle.cipher_profile.specs.declared.keys.Secret.{Secret as Key};
 ghost use Rattle.edge_model.specs.Causes.{Rose};
 ghost use Rattle.edge_model.specs.Files.{main_of};
-ghost use Rattle.sqlcipher_tool.specs.Answer.{IsEarly, Puts, PutsLine, HasDrawnCauses, is_defect_status};
+ghost use Rattle.sqlcipher_tool.specs.Answer.{IsEarly, Puts, PutsLine, is_defect_status};
 ghost use Rattle.sqlcipher_tool.specs.Behind.{LeavesRecovered};
+ghost use Rattle.sqlcipher_tool.specs.Carried.{CarriesOut, Serves, device_run, stream_run};
 ghost use Rattle.sqlcipher_tool.specs.Crash.{Keeps, KeepsFresh, ChangesBy, GaveKeys, DrewOwn};
-ghost use Rattle.sqlcipher_tool.specs.Due.{due, key_answer, key_lines, word_refusal, asked_answers, secret_answers};
+ghost use Rattle.sqlcipher_tool.specs.Due.{due, key_answer, key_lines, word_refusal};
 ghost use Rattle.sqlcipher_tool.specs.Holding.{disk_run};
 ghost use Rattle.cipher_profile.specs.declared.profile.Profile.{Profile as Played};
 ghost use Rattle.sqlcipher_tool.specs.Play.{AreNoWords, CanBePlayed, DrawsBytes, IsPlay, PlaysScript, TakesInput};
-ghost use Rattle.sqlcipher_tool.specs.Promises.{AnswersOne, AreWordsThat, ComesLate, IsAnsweredEarly, IsUnrecovered, TakesLines, TellsKeys, is_in_the_way, WhereTaken, secrets_of, takes_keys};
+ghost use Rattle.sqlcipher_tool.specs.Promises.{AnswersOne, AreWordsThat, ComesLate, IsAnsweredEarly, IsUnrecovered, TakesLines, TellsKeys, is_in_the_way, WhereTaken, secrets_of};
 ghost use Rattle.sqlcipher_tool.specs.Servable.{CanBeServed, IsDoneOrStarved, NoneRose};
 ghost use Rattle.sqlcipher_tool.specs.Text.{usage_line};
 ghost use Rattle.sqlcipher_tool.specs.Recovered.{recovery_of};
@@ -19,7 +19,7 @@ ghost use Rattle.sqlcipher_tool.specs.Untouched.{IsUnwritten, LeavesAlone};
 ghost use Rattle.sqlcipher_tool.specs.declared.command.Command.{Command as Asked};
 ghost use Rattle.sqlcipher_tool.specs.declared.status.Refusal.{Refusal as Refused};
 ghost use Rattle.sqlcipher_tool.specs.declared.status.Refusal.TheVariants.{OnlyRead as ReadAlone};
-ghost use Rattle.sqlcipher_tool.specs.Words.{alters, draws, finds, form, play_form, plays_with_log, texts, asked_keys, recovers_by, takes_memory, writes_beside, IsServed};
+ghost use Rattle.sqlcipher_tool.specs.Words.{alters, draws, finds, form, play_form, plays_with_log, texts, asked_keys, recovers_by, writes_beside, IsServed};
 
 use crate::change::change_file;
 use crate::command::{Command, parse_words, played_profile, plays_with_log};
@@ -138,41 +138,9 @@ fn serve<K: Source, S: Sink, E: Entropy, D: Disk>(
     disk: &mut D,
 ) -> Status
     requires { IsServed command }
-    ensures word_refusals { (refusal : Refused) → word_refusal command.entry ≡ Some refusal → (result ≡ Status.Refused refusal) ⊎ (result ≡ Status.OutputFault) }
-    ensures key_refusals { IsTrue K.tells → word_refusal command.entry ≡ None → (error : KeyRefusal)
-        → key_lines (asked_keys command.entry) (K.left input.old) ≡ Err error → IsAnsweredEarly result (key_answer error) }
-    ensures answer { (takes_keys command.entry ≡ true → IsTrue K.tells) → IsTrue D.tells
-        → AnswersOne (asked_answers (word_refusal command.entry) command.entry (K.left input.old) (D.reads disk.old) (D.reads disk.new)) result S.tells (S.taken out.old) (S.taken out.new) }
-    ensures no_usage { result ≡ Status.Usage → ⊥ }
-    ensures input_fault { result ≡ Status.InputFault → Rose (K.faults input.old) (K.faults input.new) × (takes_keys command.entry ≡ true) }
-    ensures output_fault { result ≡ Status.OutputFault → Rose (S.faults out.old) (S.faults out.new) }
-    ensures disk_fault { result ≡ Status.DiskFault → Rose (D.faults disk.old) (D.faults disk.new) }
-    ensures entropy_fault { result ≡ Status.EntropyFault → Rose (E.faults entropy.old) (E.faults entropy.new) × (draws command.entry ≡ true) }
-    ensures memory { result ≡ Status.OutOfMemory → (takes_memory command.entry ≡ true) × (word_refusal command.entry ≡ None)
-        × (IsTrue K.tells → (secrets : List Key) × (key_lines (asked_keys command.entry) (K.left input.old) ≡ Ok secrets)) }
-    ensures line { IsTrue S.tells → (finds command.entry ≡ true → is_defect_status result ≡ false) → PutsLine result (S.taken out.old) (S.taken out.new) }
-    ensures input_text { result ≡ Status.InputFault → out.new ≡ out.old }
-    ensures refused_first { (refusal : Refused) → word_refusal command.entry ≡ Some refusal → (input.new ≡ input.old) × (disk.new ≡ disk.old) }
-    ensures key_first { IsTrue K.tells → word_refusal command.entry ≡ None → IsErr (key_lines (asked_keys command.entry) (K.left input.old)) → disk.new ≡ disk.old }
-    ensures early_first { IsEarly result → disk.new ≡ disk.old }
-    ensures fault_first { result ≡ Status.InputFault → disk.new ≡ disk.old }
-    ensures takes { IsTrue K.tells → word_refusal command.entry ≡ None → TakesLines result (asked_keys command.entry) (K.left input.old) (K.left input.new) }
-    ensures takes_none { takes_keys command.entry ≡ false → input.new ≡ input.old }
-    ensures draws { draws command.entry ≡ false → entropy.new ≡ entropy.old }
-    ensures undrawn { IsTrue D.tells → is_in_the_way command.entry (D.reads disk.old) ≡ true → entropy.new ≡ entropy.old }
-    ensures own_draws { IsTrue D.tells → IsTrue E.tells → result ≡ Status.Done
-        → DrewOwn command.entry (GaveKeys K.tells (asked_keys command.entry) (K.left input.old)) (main_of (D.reads disk.new)) (drop (length (E.drawn entropy.old)) (E.drawn entropy.new)) }
-    ensures unrecovered { IsTrue D.tells → IsUnrecovered result → D.reads disk.new ≡ D.reads disk.old }
-    ensures recovered { IsTrue D.tells → LeavesRecovered result (alters command.entry) (recovers_by command.entry) (disk_run D.reads D.images D.moment D.since disk.old disk.new) }
-    ensures untouched { IsTrue D.tells → LeavesAlone (recovers_by command.entry) (disk_run D.reads D.images D.moment D.since disk.old disk.new) }
-    ensures fresh_gone { IsTrue D.tells → result ≡ Status.Done → writes_beside command.entry ≡ true → (D.reads disk.new).fresh ≡ None }
-    ensures keeps { IsTrue D.tells → Keeps command.entry (disk_run D.reads D.images D.moment D.since disk.old disk.new) }
-    ensures changes { IsTrue D.tells
-        → ChangesBy result command.entry (GaveKeys K.tells (asked_keys command.entry) (K.left input.old)) E.tells (drop (length (E.drawn entropy.old)) (E.drawn entropy.new)) (disk_run D.reads D.images D.moment D.since disk.old disk.new) }
-    ensures input_later { K.faults input.old ≤ K.faults input.new }
-    ensures output_later { S.faults out.old ≤ S.faults out.new }
-    ensures disk_later { D.faults disk.old ≤ D.faults disk.new }
-    ensures entropy_later { E.faults entropy.old ≤ E.faults entropy.new }
+    ensures { Serves command.entry result
+        (stream_run K.tells K.faults K.left input.old input.new) (stream_run S.tells S.faults S.taken out.old out.new)
+        (stream_run E.tells E.faults E.drawn entropy.old entropy.new) (device_run D.tells D.faults D.reads D.images D.moment D.since disk.old disk.new) }
 {
     if let Some(refusal) = command.refusal() {
         return conclude_refusal(out, refusal);
@@ -195,25 +163,9 @@ fn serve_with_secrets<S: Sink, E: Entropy, D: Disk>(
 ) -> Status
     requires served { IsServed command }
     requires unrefused { word_refusal command ≡ None }
-    ensures answer { IsTrue D.tells
-        → AnswersOne (secret_answers command.entry (secrets_of secrets.now) (D.reads disk.old) (D.reads disk.new))
-        result S.tells (S.taken out.old) (S.taken out.new) }
-    ensures line { IsTrue S.tells → (finds command.entry ≡ true → is_defect_status result ≡ false) → PutsLine result (S.taken out.old) (S.taken out.new) }
-    ensures memory { result ≡ Status.OutOfMemory → takes_memory command.entry ≡ true }
-    ensures causes { HasDrawnCauses result (draws command.entry) (D.faults disk.old) (D.faults disk.new) (S.faults out.old) (S.faults out.new) (E.faults entropy.old) (E.faults entropy.new) }
-    ensures draws { draws command.entry ≡ false → entropy.new ≡ entropy.old }
-    ensures undrawn { IsTrue D.tells → is_in_the_way command.entry (D.reads disk.old) ≡ true → entropy.new ≡ entropy.old }
-    ensures own_draws { IsTrue D.tells → IsTrue E.tells → result ≡ Status.Done
-        → DrewOwn command.entry (λ given. given ≡ secrets_of secrets.now) (main_of (D.reads disk.new))
-        (drop (length (E.drawn entropy.old)) (E.drawn entropy.new)) }
-    ensures unrecovered { IsTrue D.tells → IsUnrecovered result → D.reads disk.new ≡ D.reads disk.old }
-    ensures recovered { IsTrue D.tells → LeavesRecovered result (alters command.entry) (recovers_by command.entry) (disk_run D.reads D.images D.moment D.since disk.old disk.new) }
-    ensures untouched { IsTrue D.tells → LeavesAlone (recovers_by command.entry) (disk_run D.reads D.images D.moment D.since disk.old disk.new) }
-    ensures fresh_gone { IsTrue D.tells → result ≡ Status.Done → writes_beside command.entry ≡ true → (D.reads disk.new).fresh ≡ None }
-    ensures keeps { IsTrue D.tells → Keeps command.entry (disk_run D.reads D.images D.moment D.since disk.old disk.new) }
-    ensures changes { IsTrue D.tells
-        → ChangesBy result command.entry (λ given. given ≡ secrets_of secrets.now) E.tells
-        (drop (length (E.drawn entropy.old)) (E.drawn entropy.new)) (disk_run D.reads D.images D.moment D.since disk.old disk.new) }
+    ensures { CarriesOut command.entry (draws command.entry) (secrets_of secrets.now) result
+        (stream_run S.tells S.faults S.taken out.old out.new) (stream_run E.tells E.faults E.drawn entropy.old entropy.new)
+        (device_run D.tells D.faults D.reads D.images D.moment D.since disk.old disk.new) }
 {
     if command.draws() {
         carry_out(alloc, command, secrets, out, entropy, disk)
@@ -233,24 +185,9 @@ fn carry_out<S: Sink, E: Entropy, D: Disk>(
 ) -> Status
     requires served { IsServed command }
     requires unrefused { word_refusal command ≡ None }
-    ensures answer { IsTrue D.tells
-        → AnswersOne (secret_answers command.entry (secrets_of secrets.now) (D.reads disk.old) (D.reads disk.new))
-        result S.tells (S.taken out.old) (S.taken out.new) }
-    ensures line { IsTrue S.tells → (finds command.entry ≡ true → is_defect_status result ≡ false) → PutsLine result (S.taken out.old) (S.taken out.new) }
-    ensures memory { result ≡ Status.OutOfMemory → takes_memory command.entry ≡ true }
-    ensures causes { HasDrawnCauses result (alters command.entry) (D.faults disk.old) (D.faults disk.new) (S.faults out.old) (S.faults out.new) (E.faults entropy.old) (E.faults entropy.new) }
-    ensures undrawn { IsTrue D.tells → is_in_the_way command.entry (D.reads disk.old) ≡ true → entropy.new ≡ entropy.old }
-    ensures own_draws { IsTrue D.tells → IsTrue E.tells → result ≡ Status.Done
-        → DrewOwn command.entry (λ given. given ≡ secrets_of secrets.now) (main_of (D.reads disk.new))
-        (drop (length (E.drawn entropy.old)) (E.drawn entropy.new)) }
-    ensures unrecovered { IsTrue D.tells → IsUnrecovered result → D.reads disk.new ≡ D.reads disk.old }
-    ensures recovered { IsTrue D.tells → LeavesRecovered result (alters command.entry) (recovers_by command.entry) (disk_run D.reads D.images D.moment D.since disk.old disk.new) }
-    ensures untouched { IsTrue D.tells → LeavesAlone (recovers_by command.entry) (disk_run D.reads D.images D.moment D.since disk.old disk.new) }
-    ensures fresh_gone { IsTrue D.tells → result ≡ Status.Done → writes_beside command.entry ≡ true → (D.reads disk.new).fresh ≡ None }
-    ensures keeps { IsTrue D.tells → Keeps command.entry (disk_run D.reads D.images D.moment D.since disk.old disk.new) }
-    ensures changes { IsTrue D.tells
-        → ChangesBy result command.entry (λ given. given ≡ secrets_of secrets.now) E.tells
-        (drop (length (E.drawn entropy.old)) (E.drawn entropy.new)) (disk_run D.reads D.images D.moment D.since disk.old disk.new) }
+    ensures { CarriesOut command.entry (alters command.entry) (secrets_of secrets.now) result
+        (stream_run S.tells S.faults S.taken out.old out.new) (stream_run E.tells E.faults E.drawn entropy.old entropy.new)
+        (device_run D.tells D.faults D.reads D.images D.moment D.since disk.old disk.new) }
 {
     match command {
         Command::Probe => probe(&secrets.first, out, disk),

@@ -441,7 +441,7 @@ returns-in-Some-parse_words-clause-draws g c =
     let unplayed : play_form words ≡ None = sym c.played_profile.ensures.form ∙ none_by c.played_profile.result c.in_default.not-Some in
     let command = c.in-Some-parse_words.command in
     let formed = sym c.parse_words.ensures.form ∙ c.in-Some-parse_words.is in
-    λ never. c.serve.ensures.draws (not_true (draws command) (λ is. never (inl (command, formed, is))))
+    λ never. c.serve.ensures.drawn.draws (not_true (draws command) (λ is. never (inl (command, formed, is))))
 
 pub returns-in-Some-parse_words-clause-plays : goal.returns-in-Some-parse_words-clause-plays
 returns-in-Some-parse_words-clause-plays g c =
