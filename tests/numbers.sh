@@ -25,7 +25,7 @@ hash_lanes/src/sha1_message.rt: the length and the digest of a message, in a has
 hash_lanes/src/sha1_words.rt: the words of a message, in a hash
 hash_lanes/src/words.rt: the words of a message, in a hash
 hmac_core/src/key_derivation.rt: the number of a block of PBKDF2
-edge_files/src/identity.rt: the number of a device, as the kernel packs it
+system_calls/src/found.rt: the number of a device, as the kernel packs it
 '
 calls='(from|to)_(be|le|ne)_bytes\('
 shifts='(<<|>>)=? *(8|16|24|32|40|48|56)([^0-9]|$)'

@@ -3,7 +3,7 @@ ghost use Rattle.std.specs.Prelude.{◌≡◌, false};
 
 use Role::{Fresh, Journal, Main};
 use Step::{Create, Cut, Remove, Rename, Sync, SyncFolder, Write};
-use edge_files::{Conflict, DeviceEntropy, FolderDisk, Paths, Progress, Purpose};
+use edge_files::{Conflict, DeviceEntropy, HostDisk, Paths, Progress, Purpose};
 use edge_memory::{MemDisk, MemSink, MemSource, SilentDisk};
 use edge_model::{Disk, Failed, Role};
 use sqlcipher_tool::{Status, run};
@@ -30,7 +30,7 @@ fn page(alloc: Global) -> Result<Vec<u8>, Fail> {
 fn answer(rt: &HostRuntime, alloc: Global, path: &str) -> Result<(Status, Vec<u8>), Fail> {
     let paths = Paths::new(rt, path)?;
     let progress = Progress::new(rt);
-    let mut disk = FolderDisk::new(rt, &paths, &progress, Purpose::Command)?;
+    let mut disk = HostDisk::new(rt, &paths, &progress, Purpose::Command)?;
     let mut input = MemSource::new(alloc, KEY, &[])?;
     let mut out = MemSink::new(alloc, &[])?;
     let mut entropy = DeviceEntropy::new(rt);
@@ -45,10 +45,13 @@ fn answer(rt: &HostRuntime, alloc: Global, path: &str) -> Result<(Status, Vec<u8
     Ok((status, out.bytes().to_vec(alloc)?))
 }
 
-/// A call of a disk that changes it, as data.
+/// What a step writes, or its first bytes.
+const BYTES: &[u8] = b"after a gap";
+
+/// A call of a disk that changes it, as data. A write is of so many bytes, at an offset.
 #[derive(Clone, Copy, Debug)]
 enum Step {
-    Write(Role, u64, &'static [u8]),
+    Write(Role, u64, usize),
     Cut(Role, u64),
     Sync(Role),
     Create(Role),
@@ -61,7 +64,7 @@ fn take<D: Disk>(disk: &mut D, step: Step) -> Result<(), Failed>
     requires { D.tells ≡ false }
 {
     match step {
-        Write(role, at, bytes) => disk.write_at(role, at, bytes),
+        Write(role, at, count) => disk.write_at(role, at, &BYTES[..count.min(BYTES.len())]),
         Cut(role, len) => disk.cut(role, len),
         Sync(role) => disk.sync(role),
         Create(role) => disk.create(role),
@@ -81,33 +84,33 @@ fn seen<D: Disk>(disk: &mut D, role: Role, at: u64) -> Seen {
     (length, count, bytes)
 }
 
-/// Writes in, at and past the end, cuts, changes of names, and calls on roles without a file.
 // The header of a journal with one page of 1,024 bytes.
 const HOT: &[u8] =
     b"\xd9\xd5\x05\xf9\x20\xa1\x63\xd7\x00\x00\x00\x01\x00\x00\x00\x00\x00\x00\x00\x01\x00\x00\x02\x00\x00\x00\x04\x00";
 
+/// Writes in, at and past the end, cuts, changes of names, and calls on roles without a file.
 const STEPS: [Step; 24] = [
-    Write(Main, 2, b"middle"),
-    Write(Main, 17, b"after a gap"),
-    Write(Main, 90, b""),
+    Write(Main, 2, 6),
+    Write(Main, 17, 11),
+    Write(Main, 90, 0),
     Cut(Main, 90),
     Cut(Main, 21),
     Sync(Main),
-    Write(Journal, 0, b"none"),
+    Write(Journal, 0, 4),
     Cut(Journal, 0),
     Sync(Journal),
     Remove(Journal),
     Rename,
     Create(Journal),
-    Write(Journal, 5, b"late"),
+    Write(Journal, 5, 4),
     Sync(Journal),
     SyncFolder,
     Create(Fresh),
-    Write(Fresh, 0, b"fresh bytes"),
+    Write(Fresh, 0, 11),
     Sync(Fresh),
     Remove(Journal),
     Rename,
-    Write(Main, 3, b"new"),
+    Write(Main, 3, 3),
     Cut(Main, 0),
     Remove(Main),
     Sync(Main),
@@ -123,7 +126,7 @@ fn answers_as_in_memory(
     fs::write(rt, path, b"twelve bytes")?;
     let paths = Paths::new(rt, path)?;
     let progress = Progress::new(rt);
-    let mut real = FolderDisk::new(rt, &paths, &progress, Purpose::Command)?;
+    let mut real = HostDisk::new(rt, &paths, &progress, Purpose::Command)?;
     let inner = MemDisk::with_files(alloc, Some(b"twelve bytes"), None, None);
     let mut told = SilentDisk {
         inner: inner.map_err(|_| AllocError)?,
@@ -134,7 +137,7 @@ fn answers_as_in_memory(
         if outcome.is_err() {
             // After a change that failed nothing more is called.
             assert_eq!(test; real.length(Main), Err(Failed));
-            real = FolderDisk::new(rt, &paths, &progress, Purpose::Command)?;
+            real = HostDisk::new(rt, &paths, &progress, Purpose::Command)?;
         }
         for role in [Main, Journal, Fresh] {
             for at in [0, 6, 30] {
@@ -163,10 +166,10 @@ fn makes_files_as_main(
 ) -> Result<(), Fail> {
     let paths = Paths::new(rt, link)?;
     let progress = Progress::new(rt);
-    let mut disk = FolderDisk::new(rt, &paths, &progress, Purpose::Command)?;
+    let mut disk = HostDisk::new(rt, &paths, &progress, Purpose::Command)?;
     assert_eq!(test; disk.create(Journal), Ok(()));
     assert_eq!(test; disk.create(Journal), Err(Failed));
-    disk = FolderDisk::new(rt, &paths, &progress, Purpose::Command)?;
+    disk = HostDisk::new(rt, &paths, &progress, Purpose::Command)?;
     assert_eq!(test; mode_of(rt, paths.journal.as_str())?, 0o640);
     assert_eq!(test; disk.create(Fresh), Ok(()));
     // A journal beside Main would be played into the new file.
@@ -185,7 +188,7 @@ fn keeps_the_link(test: &impl Abort, rt: &HostRuntime, path: &str, link: &str) -
     fs::remove_file(rt, path)?;
     let paths = Paths::new(rt, link)?;
     let progress = Progress::new(rt);
-    let mut disk = FolderDisk::new(rt, &paths, &progress, Purpose::Command)?;
+    let mut disk = HostDisk::new(rt, &paths, &progress, Purpose::Command)?;
     assert_eq!(test; disk.length(Main), Err(Failed));
     assert_eq!(test; disk.create(Main), Err(Failed));
     Ok(())
@@ -212,7 +215,7 @@ fn refuses(test: &impl Abort, rt: &HostRuntime, path: &str) -> Result<(), Fail> 
     fs::write(rt, path, b"twelve bytes")?;
     let paths = Paths::new(rt, path)?;
     let progress = Progress::new(rt);
-    let mut disk = FolderDisk::new(rt, &paths, &progress, Purpose::Command)?;
+    let mut disk = HostDisk::new(rt, &paths, &progress, Purpose::Command)?;
     let mut buf = [0u8; 10];
     assert_eq!(test; disk.length(Main), Ok(Some(12)));
     fs::write(rt, path, b"twelve")?;
@@ -229,13 +232,13 @@ fn reads_alone(test: &impl Abort, rt: &HostRuntime, path: &str) -> Result<(), Fa
     fs::set_permissions(rt, path, permissions)?;
     let paths = Paths::new(rt, path)?;
     let progress = Progress::new(rt);
-    let mut disk = FolderDisk::new(rt, &paths, &progress, Purpose::Command)?;
+    let mut disk = HostDisk::new(rt, &paths, &progress, Purpose::Command)?;
     // A privileged process may write it all the same.
     let denied = OpenOptions::new().write(true).open(rt, path).is_err();
     assert_eq!(test; disk.write_at(Main, 0, b"x").is_err(), denied);
-    disk = FolderDisk::new(rt, &paths, &progress, Purpose::Command)?;
+    disk = HostDisk::new(rt, &paths, &progress, Purpose::Command)?;
     assert_eq!(test; disk.create(Journal).is_err(), denied);
-    disk = FolderDisk::new(rt, &paths, &progress, Purpose::Command)?;
+    disk = HostDisk::new(rt, &paths, &progress, Purpose::Command)?;
     let journal = if denied { None } else { Some(0) };
     assert_eq!(test; disk.length(Journal), Ok(journal));
     assert_eq!(test; disk.remove(Journal).is_err(), denied);
@@ -248,7 +251,7 @@ fn keeps_others_out(test: &impl Abort, rt: &HostRuntime, path: &str) -> Result<(
     fs::write(rt, path, b"twelve bytes")?;
     let paths = Paths::new(rt, path)?;
     let progress = Progress::new(rt);
-    let mut disk = FolderDisk::new(rt, &paths, &progress, Purpose::Command)?;
+    let mut disk = HostDisk::new(rt, &paths, &progress, Purpose::Command)?;
     assert_eq!(test; disk.length(Main), Ok(Some(12)));
     assert_eq!(test;
         conflict_at(rt, &paths, &progress, Purpose::Command),
@@ -294,28 +297,28 @@ fn lays_logs(test: &impl Abort, rt: &HostRuntime, path: &str) -> Result<(), Fail
     let progress = Progress::new(rt);
     fs::write(rt, paths.log.as_str(), [7u8; 40].as_slice())?;
     fs::write(rt, paths.index.as_str(), b"index")?;
-    let mut disk = FolderDisk::new(rt, &paths, &progress, Purpose::RecoverBesideLog)?;
+    let mut disk = HostDisk::new(rt, &paths, &progress, Purpose::RecoverBesideLog)?;
     assert_eq!(test; disk.length(Main), Ok(Some(12)));
     assert_eq!(test; disk.length(Journal), Ok(None));
-    disk.folder.turn_to(Purpose::LayLog);
+    disk.turn_to(Purpose::LayLog);
     assert_eq!(test; disk.length(Journal), Err(Failed));
-    disk.folder.turn_to(Purpose::ReadLog);
+    disk.turn_to(Purpose::ReadLog);
     assert_eq!(test; disk.length(Journal), Ok(Some(40)));
     assert_eq!(test; disk.write_at(Main, 0, b"T"), Err(Failed));
     assert_eq!(test; disk.remove(Journal), Err(Failed));
-    disk.folder.turn_to(Purpose::LayLog);
+    disk.turn_to(Purpose::LayLog);
     assert_eq!(test; disk.write_at(Main, 0, b"T"), Ok(()));
     fs::write(rt, paths.log.as_str(), [8u8; 40].as_slice())?;
     assert_eq!(test; disk.write_at(Main, 0, b"U"), Err(Failed));
     assert!(test; disk.last.and_then(|last| last.conflict()) == Some(Conflict::Changed));
-    disk = FolderDisk::new(rt, &paths, &progress, Purpose::RecoverBesideLog)?;
-    disk.folder.turn_to(Purpose::ReadLog);
+    disk = HostDisk::new(rt, &paths, &progress, Purpose::RecoverBesideLog)?;
+    disk.turn_to(Purpose::ReadLog);
     assert_eq!(test; disk.length(Journal), Ok(Some(40)));
-    disk.folder.turn_to(Purpose::LayLog);
+    disk.turn_to(Purpose::LayLog);
     assert_eq!(test; disk.remove(Journal), Ok(()));
     assert_eq!(test; disk.sync_folder(), Ok(()));
     assert!(test; !fs::exists(rt, paths.log.as_str())? && !fs::exists(rt, paths.index.as_str())?);
-    disk.folder.turn_to(Purpose::Command);
+    disk.turn_to(Purpose::Command);
     assert_eq!(test; disk.length(Main), Ok(Some(12)));
     assert_eq!(test; disk.length(Journal), Ok(None));
     fs::remove_file(rt, path)?;
@@ -328,7 +331,7 @@ fn conflict_at(
     progress: &Progress,
     purpose: Purpose,
 ) -> Option<Conflict> {
-    let mut disk = FolderDisk::new(rt, paths, progress, purpose).ok()?;
+    let mut disk = HostDisk::new(rt, paths, progress, purpose).ok()?;
     let _ = disk.length(Main);
     disk.last?.conflict()
 }

@@ -1,10 +1,13 @@
 // What stands beside a file: a log, and a journal that would be played back.
-use crate::failure::{Failure, called};
-use crate::identity::Mark;
+ghost use Rattle.std.specs.Prelude.{◌≤◌, length, IfOk};
+
+use crate::failure::{Failure, called, failed};
 use crate::role_file::RoleFile;
 use journal_format::{read_header, sector_ok};
-use std::fs;
-use std::io::ErrorKind;
+use std::fs::{self, File};
+use std::io::{self, ErrorKind};
+use std::os::unix::fs::FileExt;
+use system_calls::{Calls, Mark};
 
 /// The length of a log's header, in bytes. Its salts are among them, and are other ones whenever the log is begun anew.
 const LOG_HEADER: usize = 32;
@@ -26,18 +29,22 @@ impl SeenLog {
     }
 
     /// The one that is open, as it is now.
-    pub fn of<'a>(rt: &HostRuntime, log: &mut RoleFile<'a>) -> Result<SeenLog, Failure<'a>> {
+    pub fn of<'a, C: Calls>(calls: &C, log: &RoleFile<'a>) -> Result<SeenLog, Failure<'a>> {
         let mut seen = SeenLog::none();
-        seen.mark = log.mark()?;
+        seen.mark = log.mark(calls)?;
         if seen.mark.is_some() {
-            log.read_at(rt, 0, &mut seen.header)?;
+            log.read_at(calls, 0, &mut seen.header)?;
         }
         Ok(seen)
     }
 
     /// Whether nobody has written to the log since.
-    pub fn is_unwritten<'a>(&self, log: &RoleFile<'a>) -> Result<bool, Failure<'a>> {
-        Ok(log.mark()? == self.mark)
+    pub fn is_unwritten<'a, C: Calls>(
+        &self,
+        calls: &C,
+        log: &RoleFile<'a>,
+    ) -> Result<bool, Failure<'a>> {
+        Ok(log.mark(calls)? == self.mark)
     }
 
     /// Whether it is the same in all of this.
@@ -48,7 +55,7 @@ impl SeenLog {
     /// Whether it has a byte.
     pub fn has_byte(&self) -> bool {
         match self.mark {
-            Some(mark) => mark.length() > 0,
+            Some(mark) => mark.length > 0,
             None => false,
         }
     }
@@ -63,17 +70,43 @@ pub fn has_log<'a>(rt: &HostRuntime, path: &'a str) -> Result<bool, Failure<'a>>
     }
 }
 
-/// Whether this journal would be played back.
-pub fn is_hot<'a>(rt: &HostRuntime, journal: &mut RoleFile<'a>) -> Result<bool, Failure<'a>> {
-    if journal.length(rt)?.is_none() {
-        return Ok(false);
+/// Whether the journal with this path would be played back.
+pub fn is_hot<'a>(rt: &HostRuntime, path: &'a str) -> Result<bool, Failure<'a>> {
+    match fs::symlink_metadata(rt, path) {
+        Ok(found) if found.is_file() => {}
+        Ok(_) => {
+            let words = "it is no regular file";
+            return Err(failed(path, "open", io::Error::new(ErrorKind::Unsupported, words)));
+        }
+        Err(error) if error.kind() == ErrorKind::NotFound => return Ok(false),
+        Err(error) => return Err(failed(path, "look up", error)),
     }
+    let file = called(path, "open", File::open(rt, path))?;
     let mut head = [0u8; 28];
-    let count = journal.read_at(rt, 0, &mut head)?;
+    let count = called(path, "read", read_beside(&file, &mut head))?;
     match read_header(&head[..count]) {
         Some(header) => Ok(sector_ok(header.sector)),
         None => Ok(false),
     }
+}
+
+// Reads from the start until the buffer is full or the file ends.
+fn read_beside(file: &File, buf: &mut [u8]) -> io::Result<usize>
+    ensures { IfOk result (λ count. count ≤ length buf.old) }
+{
+    let mut count = 0;
+    for _ in 0..u64::MAX {
+        if count == buf.len() {
+            return Ok(count);
+        }
+        match file.read_at(&mut buf[count..], count as u64) {
+            Ok(0) => return Ok(count),
+            Ok(more) => count += more,
+            Err(error) if error.kind() == ErrorKind::Interrupted => {}
+            Err(error) => return Err(error),
+        }
+    }
+    Err(ErrorKind::Interrupted.into())
 }
 
 /// Removes the index of a log where it is there: it is of use beside its log alone.

@@ -1,12 +1,13 @@
 // SQLite's own lock on Main, where the launcher has taken it: it belongs to an open file that this process has inherited, so it lasts to
 // the end of the run. It is believed only where the system shows it.
-use crate::identity::Identity;
+use crate::host_calls::found_in;
 use crate::lock_table::{FIRST, Lock, SHARED, lock_on};
 use std::alloc::AllocError;
 use std::env::{self, VarError};
 use std::fs::{self, File};
 use std::os::unix::fs::FileExt;
 use std::str;
+use system_calls::Identity;
 
 /// The variable in which the launcher says what it has done.
 const VARIABLE: &str = "SQLCIPHER_TOOL_LOCK";
@@ -84,7 +85,7 @@ impl HeldLock {
             return Held::Nothing;
         }
         match fs::metadata(rt, paths.file.as_str()) {
-            Ok(found) if Identity::of(&found) == identity => held,
+            Ok(found) if found_in(&found).identity == identity => held,
             Ok(_) => Held::Elsewhere,
             Err(_) => Held::Nothing,
         }

@@ -1,14 +1,19 @@
 //! The outside as the system has it: the three files of a folder, the standard streams and the system's random bytes, and who else
-//! is at the files. The traits are those of `edge_model`; the implementations here tell nothing of their bytes.
+//! is at the files. The traits are those of `edge_model`. The files are a disk over any calls that meet `system_calls`; the calls of the system
+//! that runs this program, the streams and the random bytes tell nothing.
 #![tactic(auto)]
 
+mod attending;
+mod behind;
 mod beside;
 mod deeds;
+mod ending;
 mod failure;
 mod folder;
 mod folder_disk;
+mod guards;
 mod held_lock;
-mod identity;
+mod host_calls;
 mod key_line;
 mod lock_table;
 mod paths;
@@ -21,10 +26,12 @@ mod standard_error;
 mod streams;
 mod undo;
 
+pub use behind::Behind;
 pub use deeds::Deeds;
 pub use failure::{Conflict, Failure, Shown, failed};
 pub use folder::Folder;
-pub use folder_disk::FolderDisk;
+pub use folder_disk::{FolderDisk, HostDisk};
+pub use host_calls::HostCalls;
 pub use key_line::{KeptLine, KeyLine};
 pub use paths::Paths;
 pub use plain_head::PlainHead;

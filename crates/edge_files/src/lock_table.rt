@@ -1,8 +1,8 @@
 // Who holds SQLite's locks on a file, as the system's table of locks tells. It is read by its text, without memory.
-use crate::identity::Place;
 use std::fs::File;
 use std::os::unix::fs::FileExt;
 use std::{io, str};
+use system_calls::Place;
 
 /// The table. Each line is a lock: its number, its kind, its owner, its file, and its first and last byte.
 const TABLE: &str = "/proc/locks";

@@ -9,34 +9,34 @@ use crate::playback::explain_playback;
 use crate::refusals::explain_refusal;
 use crate::settle_advice::explain_dead_log;
 use crate::usage::explain_usage;
-use edge_files::{Folder, InputSource, Shown, say};
+use edge_files::{Behind, InputSource, Shown, say};
 use sqlcipher_tool::{Refusal, Status};
 
 /// Memory was refused.
 pub const OUT_OF_MEMORY: &str = "memory ran out";
 
 /// Says what the status and the lines of the output leave open.
-pub fn explain(rt: &HostRuntime, run: &Ended, input: &InputSource, folder: &mut Folder) {
+pub fn explain(rt: &HostRuntime, run: &Ended, input: &InputSource, files: &mut Behind) {
     if let Some(failure) = run.failure {
         say(rt, failure);
     }
     explain_conflict(rt, run);
-    explain_others(rt, run, folder);
-    explain_playback(rt, run, folder);
-    explain_status(rt, run, input, folder);
-    explain_view(rt, run, folder);
-    explain_dead_log(rt, run, folder);
-    explain_state(rt, run, folder);
-    explain_fresh(rt, run, folder);
+    explain_others(rt, run, &files.folder);
+    explain_playback(rt, run, &files.folder);
+    explain_status(rt, run, input, files);
+    explain_view(rt, run, &files.folder);
+    explain_dead_log(rt, run, &files.folder);
+    explain_state(rt, run, files);
+    explain_fresh(rt, run, files);
     if run.status == Status::Done {
         explain_new_key(rt, &run.asked, input);
     }
 }
 
 // What the status alone tells, and why the key may have been refused.
-fn explain_status(rt: &HostRuntime, run: &Ended, input: &InputSource, folder: &mut Folder) {
+fn explain_status(rt: &HostRuntime, run: &Ended, input: &InputSource, files: &mut Behind) {
     let is_sought = run.status == Status::Done || run.status == Status::Refused(Refusal::Empty);
-    if is_sought && folder.lacks_main() {
+    if is_sought && files.folder.lacks_main() {
         say(
             rt,
             format_args!("{}: there is no such file", Shown(run.path)),
@@ -45,8 +45,8 @@ fn explain_status(rt: &HostRuntime, run: &Ended, input: &InputSource, folder: &m
     match run.status {
         Status::Usage => explain_usage(rt, &run.asked),
         Status::OutOfMemory => say(rt, OUT_OF_MEMORY),
-        Status::KeyRefused => explain_key(rt, run, input, folder),
-        Status::Refused(refusal) => explain_refusal(rt, run, refusal, folder),
+        Status::KeyRefused => explain_key(rt, run, input, files),
+        Status::Refused(refusal) => explain_refusal(rt, run, refusal, files),
         _ => {}
     }
 }

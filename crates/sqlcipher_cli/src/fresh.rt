@@ -1,14 +1,16 @@
 // What is said of FILE-migrated, which `migrate` and `make` write.
 use crate::ended::Ended;
-use edge_files::{Folder, Shown, say};
+use edge_files::{Behind, Shown, say};
 use sqlcipher_tool::Status;
 
 /// Says what a new file is that has not taken the place of the old one.
-pub fn explain_fresh(rt: &HostRuntime, run: &Ended, folder: &mut Folder) {
-    if run.status == Status::Usage || !run.asked.tells_leftovers() && !folder.has_own_fresh() {
+pub fn explain_fresh(rt: &HostRuntime, run: &Ended, files: &mut Behind) {
+    if run.status == Status::Usage
+        || !run.asked.tells_leftovers() && !files.folder.has_own_fresh()
+    {
         return;
     }
-    let Some((path, is_unfinished)) = folder.left_fresh() else {
+    let Some((path, is_unfinished)) = files.left_fresh() else {
         return;
     };
     let path = Shown(path);

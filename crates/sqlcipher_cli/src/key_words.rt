@@ -4,7 +4,7 @@ use crate::commands::{Lines, Word};
 use crate::ended::Ended;
 use crate::plain::{self, OLD_ROWS};
 use crate::version::{form_of, has_plain_header, is_plain_word, is_same_profile};
-use edge_files::{Folder, InputSource, KeyLine, Prompt, say};
+use edge_files::{Behind, InputSource, KeyLine, Prompt, say};
 use profile_word::profile_of;
 
 const OLD_KEY: &str =
@@ -205,12 +205,12 @@ fn explain_line(rt: &HostRuntime, version: &str, line: &KeyLine) {
 }
 
 /// Says why the key may have been refused.
-pub fn explain_key(rt: &HostRuntime, run: &Ended, input: &InputSource, folder: &mut Folder) {
+pub fn explain_key(rt: &HostRuntime, run: &Ended, input: &InputSource, files: &mut Behind) {
     if is_plain_word(run.version()) {
         say(rt, plain::NO_MAGIC);
     } else if has_plain_header(run.version()) {
         say(rt, PLAIN_HEADER);
-    } else if let Some(head) = folder.plain_head() {
+    } else if let Some(head) = files.plain_head() {
         plain::explain_unencrypted(rt, run.version(), head);
     } else if let Some(words) = remark_under(run.version(), &input.line) {
         say(rt, words);

@@ -40,7 +40,7 @@ use asked::Asked;
 use cipher_profile::Profile;
 use commands::Word;
 use edge_files::{
-    DeviceEntropy, FolderDisk, InputSource, OutputSink, Paths, Progress, Purpose, StandIns, failed,
+    DeviceEntropy, HostDisk, InputSource, OutputSink, Paths, Progress, Purpose, StandIns, failed,
     say,
 };
 use ended::Ended;
@@ -203,8 +203,8 @@ fn serve_with_log<'a>(
     out: &mut OutputSink,
     entropy: &mut DeviceEntropy,
     profile: Profile,
-    disk: FolderDisk<'a>,
-) -> (FolderDisk<'a>, Served)
+    disk: HostDisk<'a>,
+) -> (HostDisk<'a>, Served)
     requires listed { IsListed profile }
     requires asked { viewed_by (form (texts words.now)) ≡ Some profile }
     ensures { EndsCommand (texts words.now) result.1.status }
@@ -212,7 +212,7 @@ fn serve_with_log<'a>(
     let (status, seen) = run_with_log(rt.alloc(), profile, words, input, out, entropy, disk);
     match seen {
         Ok(mut view) => {
-            let near = names_near(rt, status, words, &input.line, entropy, &mut view);
+            let near = names_near(rt.alloc(), status, words, &input.line, entropy, &mut view);
             let salt = salt_of(&mut view);
             let mut disk = view.into_disk();
             let signs = LogSigns {
@@ -248,8 +248,8 @@ fn serve_files<'a>(
     entropy: &mut DeviceEntropy,
     with_log: Option<Profile>,
     settles: Option<Profile>,
-    mut disk: FolderDisk<'a>,
-) -> (FolderDisk<'a>, Served)
+    mut disk: HostDisk<'a>,
+) -> (HostDisk<'a>, Served)
     requires listed { IfSome with_log IsListed }
     requires asked { with_log ≡ viewed_by (form (texts words.now)) }
     requires settled { IfSome settles IsListed }
@@ -277,7 +277,7 @@ fn serve_files<'a>(
         Some(profile) => serve_with_log(rt, words, input, out, entropy, profile, disk),
         None => {
             let status = run(rt.alloc(), words, input, out, entropy, &mut disk);
-            let near = names_near(rt, status, words, &input.line, entropy, &mut disk);
+            let near = names_near(rt.alloc(), status, words, &input.line, entropy, &mut disk);
             let served = Served {
                 status,
                 near,
@@ -318,7 +318,7 @@ fn serve(rt: &HostRuntime, file: &str, words: &[&str]) -> Status
     let settles = profile_to_settle(words);
     let asked = Asked::new(words);
     let purpose = purpose_of(&asked, with_log.is_some(), settles.is_some());
-    let Ok(mut files) = FolderDisk::new(rt, &paths, &progress, purpose) else {
+    let Ok(mut files) = HostDisk::new(rt, &paths, &progress, purpose) else {
         return out_of_memory(rt);
     };
     files.folder.is_decrypting = asked.decrypts();
@@ -327,7 +327,7 @@ fn serve(rt: &HostRuntime, file: &str, words: &[&str]) -> Status
     let mut out = OutputSink::new(rt, &progress);
     let mut entropy = DeviceEntropy::new(rt);
     let alloc = rt.alloc();
-    let (mut disk, served) = serve_files(
+    let (disk, served) = serve_files(
         rt,
         words,
         &mut input,
@@ -338,10 +338,11 @@ fn serve(rt: &HostRuntime, file: &str, words: &[&str]) -> Status
         files,
     );
     progress.clear();
-    disk.folder.settle();
+    let last = disk.last;
+    let mut files = disk.settle();
     let status = served.status;
     let failure = match status {
-        Status::DiskFault => disk.last,
+        Status::DiskFault => last,
         Status::OutputFault => out.last,
         Status::InputFault => input.last,
         Status::EntropyFault => entropy.last,
@@ -355,8 +356,8 @@ fn serve(rt: &HostRuntime, file: &str, words: &[&str]) -> Status
         near: served.near.unwrap_or(Vec::new(alloc)),
         signs: served.signs,
     };
-    advice::explain(rt, &run, &input, &mut disk.folder);
-    explain_unlaid(rt, &run, &disk.folder);
+    advice::explain(rt, &run, &input, &mut files);
+    explain_unlaid(rt, &run, &files.folder);
     if status == Status::Done && asked.is(Word::Salvage) {
         advice::explain_salvaged(rt, out.last_line());
     }

@@ -4,11 +4,12 @@ ghost use Rattle.sqlcipher_tool.specs.Opening.{AreRecovered};
 
 use crate::asked::Asked;
 use cipher_profile::{Secret, read_key};
-use edge_files::{DeviceEntropy, KeptLine, KeyLine, Shown, say};
-use edge_model::Disk;
+use edge_files::{KeptLine, KeyLine, Shown, say};
+use edge_model::{Disk, Entropy};
 use profile_word::profile_of;
 use schema_names::{NearName, SchemaKind};
 use sqlcipher_tool::{Refusal, Status, near_names};
+use std::alloc::Global;
 use std::str;
 
 const NO_TABLE: &str =
@@ -17,12 +18,12 @@ const NO_TABLE: &str =
 
 /// Where a `find` ended for want of its table, the names of the schema that are that of its words but for case. The key line is that of
 /// the run, and the files are read as it left them. Where the names can't be had there are none, which is no fault of the run.
-pub fn names_near<D: Disk>(
-    rt: &HostRuntime,
+pub fn names_near<E: Entropy, D: Disk>(
+    alloc: Global,
     status: Status,
     words: &[&str],
     line: &KeyLine,
-    entropy: &mut DeviceEntropy,
+    entropy: &mut E,
     disk: &mut D,
 ) -> Option<Vec<NearName>>
     requires { IsTrue D.tells → AreRecovered (D.reads disk.old) (D.images disk.old) }
@@ -34,7 +35,7 @@ pub fn names_near<D: Disk>(
         Some(form) => read_key(form, &mut KeptLine::new(line)).ok()?,
         None => Secret::NoKey,
     };
-    near_names(rt.alloc(), words, &secret, entropy, disk).ok()
+    near_names(alloc, words, &secret, entropy, disk).ok()
 }
 
 /// Says what is there in the place of the table of this name.

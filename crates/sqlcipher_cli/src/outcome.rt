@@ -4,7 +4,7 @@ use crate::ended::Ended;
 use crate::settle_advice::is_part_settled;
 use crate::version::is_plain_word;
 use crate::which_file::explain_either;
-use edge_files::{Conflict, Folder, Shown, say};
+use edge_files::{Behind, Conflict, Folder, Shown, say};
 use sqlcipher_tool::{Refusal, Status};
 
 const COMMITS_STAY: &str = "what was committed stays in the file";
@@ -12,7 +12,8 @@ const COMMITS_STAY: &str = "what was committed stays in the file";
 const NO_COMMIT: &str = "no line of the script has changed the file";
 
 /// Says what the files are where a fault leaves it open.
-pub fn explain_state(rt: &HostRuntime, run: &Ended, folder: &Folder) {
+pub fn explain_state(rt: &HostRuntime, run: &Ended, files: &Behind) {
+    let folder = &files.folder;
     let deeds = folder.deeds;
     if run.asked.is(Word::Play) && is_cut_off(run.status) {
         say(
@@ -39,7 +40,7 @@ pub fn explain_state(rt: &HostRuntime, run: &Ended, folder: &Folder) {
     } else if folder.has_own_journal() && run.conflict() == Some(Conflict::Replaced)
         || deeds.has_dropped_orphan
     {
-        explain_replaced(rt, run, folder);
+        explain_replaced(rt, run, files);
     } else if deeds.has_changed || deeds.has_renamed {
         explain_either(rt, run, folder);
     } else if matches!(run.status, Status::DiskFault | Status::EntropyFault) {
@@ -92,7 +93,8 @@ fn explain_taken(rt: &HostRuntime, run: &Ended, folder: &Folder) {
 }
 
 // Another file has the name, beside the journal of the one that was being changed.
-fn explain_replaced(rt: &HostRuntime, run: &Ended, folder: &Folder) {
+fn explain_replaced(rt: &HostRuntime, run: &Ended, files: &Behind) {
+    let folder = &files.folder;
     if folder.deeds.has_dropped_orphan {
         let path = Shown(folder.main_path());
         say(
@@ -103,7 +105,7 @@ fn explain_replaced(rt: &HostRuntime, run: &Ended, folder: &Folder) {
         );
         return;
     }
-    match folder.whereabouts() {
+    match files.whereabouts() {
         Some(place) => explain_journal_of(rt, run, folder, place.as_path().as_str()),
         None => explain_journal_of(rt, run, folder, "the file that was being changed"),
     }

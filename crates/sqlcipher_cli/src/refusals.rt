@@ -9,7 +9,7 @@ use crate::plain;
 use crate::settings::Pragmas;
 use crate::settle_advice::say_settle;
 use crate::version::is_plain_word;
-use edge_files::{Folder, say};
+use edge_files::{Behind, say};
 use profile_word::probed_profiles;
 use sqlcipher_tool::Refusal;
 
@@ -69,9 +69,9 @@ const SCRIPT_FORMS: &str =
     `release S` or `stop`, its words parted by one space; --help says what they are";
 
 /// Says what the line of a refusal leaves open.
-pub fn explain_refusal(rt: &HostRuntime, run: &Ended, refusal: Refusal, folder: &mut Folder) {
+pub fn explain_refusal(rt: &HostRuntime, run: &Ended, refusal: Refusal, files: &mut Behind) {
     if is_log_explained(rt, run, refusal)
-        || is_plain_word(run.version()) && is_plain_explained(rt, run, refusal, folder)
+        || is_plain_word(run.version()) && is_plain_explained(rt, run, refusal, files)
     {
         return;
     }
@@ -79,7 +79,7 @@ pub fn explain_refusal(rt: &HostRuntime, run: &Ended, refusal: Refusal, folder: 
         Refusal::KeyMissing => say(rt, missing_key(&run.asked)),
         Refusal::LayoutDiffers => say(rt, other_layout(&run.asked)),
         Refusal::NoTable => explain_names(rt, run.asked.third(), run.near.as_slice()),
-        Refusal::JournalPageSize { found } => explain_journal(rt, run.version(), found, folder),
+        Refusal::JournalPageSize { found } => explain_journal(rt, run.version(), found, files),
         Refusal::WalMode | Refusal::AutoVacuum => {
             explain_mode(rt, run);
             say_settle(rt, run);
@@ -97,7 +97,7 @@ pub fn explain_refusal(rt: &HostRuntime, run: &Ended, refusal: Refusal, folder: 
             rt,
             "the script goes on after its first 100,000 lines, which were played: the others are a script of their own",
         ),
-        _ => explain_briefly(rt, &run.asked, refusal, folder.deeds.laid > 0),
+        _ => explain_briefly(rt, &run.asked, refusal, files.folder.deeds.laid > 0),
     }
 }
 
@@ -132,12 +132,7 @@ fn other_layout(asked: &Asked) -> &'static str {
 }
 
 // Whether a refusal of a plain file was explained otherwise than one of an encrypted file. The word is that of its profile.
-fn is_plain_explained(
-    rt: &HostRuntime,
-    run: &Ended,
-    refusal: Refusal,
-    folder: &mut Folder,
-) -> bool {
+fn is_plain_explained(rt: &HostRuntime, run: &Ended, refusal: Refusal, files: &mut Behind) -> bool {
     let word = run.version();
     match refusal {
         Refusal::NoTags => say(rt, plain::NO_TAGS),
@@ -150,15 +145,15 @@ fn is_plain_explained(
             explain_plain_mode(rt, run, WITH_MAPS, plain::VACUUM);
             say_settle(rt, run);
         }
-        Refusal::Short { .. } => return plain::explain_other_size(rt, word, folder.plain_head()),
+        Refusal::Short { .. } => return plain::explain_other_size(rt, word, files.plain_head()),
         _ => return false,
     }
     true
 }
 
 // A journal whose pages have another size than those of the version that was given: of a plain file or of an encrypted one.
-fn explain_journal(rt: &HostRuntime, version: &str, found: u32, folder: &mut Folder) {
-    if is_plain_word(version) || folder.plain_head().is_some() {
+fn explain_journal(rt: &HostRuntime, version: &str, found: u32, files: &mut Behind) {
+    if is_plain_word(version) || files.plain_head().is_some() {
         plain::explain_journal(rt, found);
     } else {
         explain_journal_pages(rt, found);

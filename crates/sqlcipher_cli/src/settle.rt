@@ -9,7 +9,7 @@ ghost use Rattle.sqlcipher_tool.specs.Words.{form, texts};
 
 use crate::log_signs::{LogSigns, differ, own_frames, salt_of};
 use cipher_profile::Profile;
-use edge_files::{DeviceEntropy, FolderDisk, InputSource, OutputSink, Purpose};
+use edge_files::{DeviceEntropy, HostDisk, InputSource, OutputSink, Purpose};
 use edge_model::Disk;
 use log_view::LogView;
 use sqlcipher_tool::{
@@ -52,8 +52,8 @@ pub fn settle_with_log<'a>(
     out: &mut OutputSink,
     entropy: &mut DeviceEntropy,
     profile: Profile,
-    disk: FolderDisk<'a>,
-) -> (FolderDisk<'a>, Settled)
+    disk: HostDisk<'a>,
+) -> (HostDisk<'a>, Settled)
     requires listed { IsListed profile }
     requires asked { settled_by (form (texts words.now)) ≡ Some profile }
     ensures { EndsCommand (texts words.now) result.1.status }
@@ -65,7 +65,7 @@ pub fn settle_with_log<'a>(
     let (mut disk, laid) = take_log_in(alloc, profile, &secrets, out, disk);
     match laid {
         Ok(laid) => {
-            disk.folder.turn_to(Purpose::Command);
+            disk.turn_to(Purpose::Command);
             let status = settle_marks(
                 alloc,
                 profile,
@@ -91,8 +91,8 @@ fn take_log_in<'a>(
     profile: Profile,
     secrets: &Secrets,
     out: &mut OutputSink,
-    mut disk: FolderDisk<'a>,
-) -> (FolderDisk<'a>, Result<Laid, Settled>)
+    mut disk: HostDisk<'a>,
+) -> (HostDisk<'a>, Result<Laid, Settled>)
     requires listed { IsListed profile }
     ensures { IfErr result.1 (λ settled. IsStopStatus settled.status) }
 {
@@ -108,7 +108,7 @@ fn take_log_in<'a>(
     let Ok(own) = own_frames(&mut disk, profile.page_size) else {
         return (disk, Err(Settled::stopped(Status::DiskFault)));
     };
-    disk.folder.turn_to(Purpose::LayLog);
+    disk.turn_to(Purpose::LayLog);
     match lay_log(alloc, profile, out, &mut disk) {
         Ok(frames) => {
             let signs = LogSigns {
@@ -130,13 +130,13 @@ fn check_pair<'a>(
     profile: Profile,
     secrets: &Secrets,
     out: &mut OutputSink,
-    mut disk: FolderDisk<'a>,
-) -> (FolderDisk<'a>, Result<bool, Settled>)
+    mut disk: HostDisk<'a>,
+) -> (HostDisk<'a>, Result<bool, Settled>)
     requires listed { IsListed profile }
     ensures { IfErr result.1 (λ settled. IsStopStatus settled.status) }
 {
     let _usable = profile.usable();
-    disk.folder.turn_to(Purpose::ReadLog);
+    disk.turn_to(Purpose::ReadLog);
     match LogView::open(alloc, disk, profile.page_size, MOST_PAGES) {
         Ok(mut view) => {
             let checked = check_to_settle(alloc, profile, secrets, out, &mut view);

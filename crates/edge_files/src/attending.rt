@@ -1,0 +1,334 @@
+// What comes before each call of the disk: the files are open, nobody else is at them, and what is needed afterwards is kept. What the names
+// lead to and what a stop may leave stays the same, but that the new file is synced before its first page is written.
+ghost use Rattle.std.specs.Prelude.{◌≡◌};
+ghost use Rattle.edge_files.specs.Around.{NothingNew, OnlyLooked};
+
+use crate::beside::remove_index;
+use crate::failure::{Conflict, Failure, failed, of_failed};
+use crate::folder::Folder;
+use crate::held_lock::Held;
+use crate::purpose::Purpose;
+use crate::standard_error::warn_of_clear_rows;
+use edge_model::{Disk, Role};
+use std::io::ErrorKind;
+use system_calls::{Calls, OpenFiles};
+
+/// The first sector of a segment of a journal, in bytes. What is written at once and is no longer is no record.
+const SECTOR: usize = 512;
+
+impl<'a> Folder<'a> {
+    pub(crate) fn prepare_length<C: Calls>(
+        &mut self,
+        files: &mut OpenFiles<C>,
+        role: Role,
+    ) -> Result<(), Failure<'a>>
+        ensures { OnlyLooked C.tells C.system C.images C.moment C.since C.next files.old.calls files.new.calls }
+    {
+        self.enter(files)?;
+        self.file_mut(role).attend_if_there(files)
+    }
+
+    pub(crate) fn prepare_read<C: Calls>(
+        &mut self,
+        files: &mut OpenFiles<C>,
+        role: Role,
+    ) -> Result<(), Failure<'a>>
+        ensures { OnlyLooked C.tells C.system C.images C.moment C.since C.next files.old.calls files.new.calls }
+    {
+        self.enter(files)?;
+        self.file_mut(role).attend(files)
+    }
+
+    pub(crate) fn prepare_write<C: Calls>(
+        &mut self,
+        files: &mut OpenFiles<C>,
+        role: Role,
+        at: u64,
+        bytes: &[u8],
+    ) -> Result<(), Failure<'a>>
+        ensures { NothingNew C.tells C.system C.images C.moment C.since files.old.calls files.new.calls }
+    {
+        self.enter_to_change(files)?;
+        self.progress.add_written(bytes.len(), self.main.known());
+        let outcome = match role {
+            Role::Main => self.attend_main(files, at, bytes.len()),
+            Role::Journal => self.attend_journal(files, at, bytes),
+            Role::Fresh => self.attend_fresh(files, at),
+        };
+        self.changed(outcome)
+    }
+
+    // A page from a journal or from a log is not put back: another program lays the same one.
+    fn attend_main<C: Calls>(
+        &mut self,
+        files: &mut OpenFiles<C>,
+        at: u64,
+        length: usize,
+    ) -> Result<(), Failure<'a>>
+        ensures { OnlyLooked C.tells C.system C.images C.moment C.since C.next files.old.calls files.new.calls }
+    {
+        self.guard(&files.calls, self.is_at_rest)?;
+        self.is_at_rest = false;
+        self.main.attend_to_write(files)?;
+        if self.lays() {
+            return Ok(());
+        }
+        self.deeds.has_changed = true;
+        self.undo.keep(&files.calls, &self.main, at, length)
+    }
+
+    // A record is of no effect until its segment's first byte is written. Once the first one is 0 the file is the new one.
+    fn attend_journal<C: Calls>(
+        &mut self,
+        files: &mut OpenFiles<C>,
+        at: u64,
+        bytes: &[u8],
+    ) -> Result<(), Failure<'a>>
+        ensures { OnlyLooked C.tells C.system C.images C.moment C.since C.next files.old.calls files.new.calls }
+    {
+        if bytes.len() < SECTOR {
+            self.guard(&files.calls, is_closing(at, bytes))?;
+        }
+        self.journal.attend_to_write(files)
+    }
+
+    // Page 1 is written last, and the file is whole with it. What stands behind it is synced before, so that only moments pass until the
+    // new file has taken Main's place.
+    fn attend_fresh<C: Calls>(
+        &mut self,
+        files: &mut OpenFiles<C>,
+        at: u64,
+    ) -> Result<(), Failure<'a>>
+        ensures { NothingNew C.tells C.system C.images C.moment C.since files.old.calls files.new.calls }
+    {
+        self.fresh.attend_to_write(files)?;
+        if at > 0 {
+            return Ok(());
+        }
+        let outcome = files.sync(Role::Fresh);
+        of_failed(self.fresh.path(), &files.last, outcome)
+    }
+
+    pub(crate) fn prepare_cut<C: Calls>(
+        &mut self,
+        files: &mut OpenFiles<C>,
+        role: Role,
+    ) -> Result<(), Failure<'a>>
+        ensures { OnlyLooked C.tells C.system C.images C.moment C.since C.next files.old.calls files.new.calls }
+    {
+        self.enter_to_change(files)?;
+        let outcome = self.attend_to_cut(files, role);
+        self.changed(outcome)
+    }
+
+    fn attend_to_cut<C: Calls>(
+        &mut self,
+        files: &mut OpenFiles<C>,
+        role: Role,
+    ) -> Result<(), Failure<'a>>
+        ensures { OnlyLooked C.tells C.system C.images C.moment C.since C.next files.old.calls files.new.calls }
+    {
+        if role == Role::Main {
+            self.guard(&files.calls, true)?;
+            self.is_at_rest = false;
+        }
+        self.file_mut(role).attend_to_write(files)
+    }
+
+    pub(crate) fn prepare_sync<C: Calls>(
+        &mut self,
+        files: &mut OpenFiles<C>,
+        role: Role,
+    ) -> Result<(), Failure<'a>>
+        ensures { OnlyLooked C.tells C.system C.images C.moment C.since C.next files.old.calls files.new.calls }
+    {
+        self.enter(files)?;
+        let outcome = self.file_mut(role).attend(files);
+        self.changed(outcome)
+    }
+
+    pub(crate) fn prepare_create<C: Calls>(
+        &mut self,
+        files: &mut OpenFiles<C>,
+        role: Role,
+    ) -> Result<(), Failure<'a>>
+        ensures { OnlyLooked C.tells C.system C.images C.moment C.since C.next files.old.calls files.new.calls }
+    {
+        self.enter_to_change(files)?;
+        // The journal and the new file are to be like Main.
+        let model = match role {
+            Role::Main => None,
+            Role::Journal | Role::Fresh => self.main.found(&files.calls)?,
+        };
+        files.make_like(model);
+        let outcome = self.attend_to_create(files, role, model.is_some());
+        self.changed(outcome)
+    }
+
+    fn attend_to_create<C: Calls>(
+        &mut self,
+        files: &mut OpenFiles<C>,
+        role: Role,
+        has_model: bool,
+    ) -> Result<(), Failure<'a>>
+        ensures { OnlyLooked C.tells C.system C.images C.moment C.since C.next files.old.calls files.new.calls }
+    {
+        match role {
+            Role::Main => {}
+            Role::Journal => {
+                self.guard(&files.calls, true)?;
+                if has_model {
+                    // A journal beside a file that can't be written would only stand in the way of those who read.
+                    self.main.attend_to_write(files)?;
+                }
+                self.gate = None;
+                self.is_laying = false;
+            }
+            Role::Fresh => self.warn_of_clear_rows(),
+        }
+        self.file(role).unbarred()
+    }
+
+    pub(crate) fn prepare_remove<C: Calls>(
+        &mut self,
+        files: &mut OpenFiles<C>,
+        role: Role,
+    ) -> Result<(), Failure<'a>>
+        ensures { OnlyLooked C.tells C.system C.images C.moment C.since C.next files.old.calls files.new.calls }
+    {
+        self.enter_to_change(files)?;
+        let outcome = match role {
+            Role::Main => self.main.unbarred(),
+            Role::Journal => self.attend_to_drop(files),
+            Role::Fresh => self.attend_to_clear(files),
+        };
+        self.changed(outcome)
+    }
+
+    // The journal; or the log and its index. The index goes first: a log without it is recovered, and behind a log that is gone nothing would remove it.
+    fn attend_to_drop<C: Calls>(&mut self, files: &mut OpenFiles<C>) -> Result<(), Failure<'a>>
+        ensures { OnlyLooked C.tells C.system C.images C.moment C.since C.next files.old.calls files.new.calls }
+    {
+        self.guard(&files.calls, true)?;
+        if self.purpose == Purpose::LayLog {
+            self.main.attend_to_write(files)?;
+            remove_index(self.rt, self.index)?;
+        }
+        self.journal.unbarred()
+    }
+
+    // Only what a stop has left of an earlier new file is removed, or its second name.
+    fn attend_to_clear<C: Calls>(&mut self, files: &mut OpenFiles<C>) -> Result<(), Failure<'a>>
+        ensures { OnlyLooked C.tells C.system C.images C.moment C.since C.next files.old.calls files.new.calls }
+    {
+        let is_there = self.fresh.measure(files)?.is_some();
+        let calls = &files.calls;
+        if is_there && !self.fresh.is_twin(calls)? && !self.fresh.is_unfinished(calls)? {
+            return Err(Failure::of(self.fresh.path(), Conflict::InTheWay));
+        }
+        if !self.fresh.is_named(calls)? {
+            return Err(Failure::of(self.fresh.path(), Conflict::Replaced));
+        }
+        self.fresh.unbarred()
+    }
+
+    pub(crate) fn prepare_rename<C: Calls>(
+        &mut self,
+        files: &mut OpenFiles<C>,
+    ) -> Result<(), Failure<'a>>
+        ensures { OnlyLooked C.tells C.system C.images C.moment C.since C.next files.old.calls files.new.calls }
+    {
+        self.enter_to_change(files)?;
+        let outcome = self.check_to_rename(&files.calls);
+        self.changed(outcome)
+    }
+
+    fn check_to_rename<C: Calls>(&mut self, calls: &C) -> Result<(), Failure<'a>> {
+        if !self.fresh.is_named(calls)? {
+            return Err(Failure::of(self.fresh.path(), Conflict::Replaced));
+        }
+        if self.main.is_open() {
+            self.guard(calls, true)?;
+        } else if self.main.found(calls)?.is_some() {
+            return Err(Failure::of(self.main.path(), Conflict::Appeared));
+        }
+        self.require_no_journal(calls)?;
+        self.deeds.has_renamed = true;
+        self.is_at_rest = false;
+        self.fresh.unbarred()
+    }
+
+    // The first look of a run, before anything else: at what stands beside, and of the first run at who has Main open.
+    pub(crate) fn enter<C: Calls>(&mut self, files: &mut OpenFiles<C>) -> Result<(), Failure<'a>>
+        ensures { OnlyLooked C.tells C.system C.images C.moment C.since C.next files.old.calls files.new.calls }
+    {
+        if let Some(failure) = self.stopped {
+            return Err(failure);
+        }
+        if self.is_entered {
+            return Ok(());
+        }
+        self.main.unbarred()?;
+        self.look_beside()?;
+        if self.mark.is_none() && self.main.measure(files)?.is_some() {
+            self.meet_main(&files.calls)?;
+        }
+        self.is_entered = true;
+        Ok(())
+    }
+
+    // Main is open for the first time.
+    fn meet_main<C: Calls>(&mut self, calls: &C) -> Result<(), Failure<'a>> {
+        self.require_main(calls)?;
+        self.take_lock_up()?;
+        if self.held == Held::Nothing {
+            self.look()?;
+            self.is_unguarded = true;
+        }
+        self.fresh.set_twin(self.main.identity());
+        self.rest(calls)
+    }
+
+    // Before a change. Where the file is read with its log there is none.
+    fn enter_to_change<C: Calls>(&mut self, files: &mut OpenFiles<C>) -> Result<(), Failure<'a>>
+        ensures { OnlyLooked C.tells C.system C.images C.moment C.since C.next files.old.calls files.new.calls }
+    {
+        self.enter(files)?;
+        if self.purpose == Purpose::ReadLog {
+            let denied = ErrorKind::PermissionDenied.into();
+            return Err(failed(self.main.path(), "write", denied));
+        }
+        Ok(())
+    }
+
+    // The outcome of a change. Of one that failed it is not known whether it was done, so nothing more is called then.
+    pub(crate) fn changed(&mut self, outcome: Result<(), Failure<'a>>) -> Result<(), Failure<'a>>
+        ensures { result ≡ outcome.entry }
+    {
+        if let Err(failure) = outcome {
+            if failure.conflict().is_none() {
+                self.stopped = Some(failure);
+            }
+        }
+        outcome
+    }
+
+    // Whether what goes to Main is laid from a journal or a log.
+    pub(crate) fn lays(&self) -> bool {
+        !self.journal.is_made() || self.is_laying
+    }
+
+    // Once, before the first row is written.
+    fn warn_of_clear_rows(&mut self) {
+        if self.is_decrypting {
+            self.is_decrypting = false;
+            self.progress.clear();
+            warn_of_clear_rows(self.rt, self.main.path());
+        }
+    }
+}
+
+/// Whether these bytes close a journal: its first one is 0 then.
+pub(crate) fn is_closing(at: u64, bytes: &[u8]) -> bool {
+    at == 0 && bytes.first() == Some(&0)
+}

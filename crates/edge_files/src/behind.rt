@@ -1,0 +1,107 @@
+// The files behind a run: what a stop has left is taken back, and what stands there is looked at. It is no part of the disk that a run is
+// proved over.
+use crate::folder::Folder;
+use crate::host_calls::HostCalls;
+use crate::plain_head::{MAGIC, PlainHead};
+use edge_model::Role;
+use number_fields::u16_at;
+use std::path::PathBuf;
+use system_calls::{Calls, OpenFiles};
+
+/// The files of a run that is over.
+#[derive(Drop)]
+pub struct Behind<'a> {
+    files: OpenFiles<HostCalls<'a>>,
+    pub folder: Folder<'a>,
+}
+
+impl<'a> Behind<'a> {
+    pub(crate) fn new(calls: HostCalls<'a>, folder: Folder<'a>) -> Behind<'a> {
+        Behind {
+            files: OpenFiles::new(calls),
+            folder,
+        }
+    }
+
+    // Takes back what a stop has left: the last writes, where others were met; the journal of a file that has no name any more; and the
+    // new file, where it has not taken Main's place.
+    pub(crate) fn settle(&mut self) {
+        if self.folder.is_met {
+            let files = &mut self.files;
+            self.folder.put_back(&mut files.calls);
+        }
+        let files = &mut self.files;
+        self.folder.drop_fresh(&mut files.calls);
+    }
+
+    /// The path that the open Main has now, where it can be known.
+    pub fn whereabouts(&self) -> Option<PathBuf> {
+        self.files.calls.whereabouts(Role::Main)
+    }
+
+    /// The path of the new file, where something has it, and whether that may be removed: it is an unfinished one, or a second name of
+    /// Main.
+    pub fn left_fresh(&mut self) -> Option<(&'a str, bool)> {
+        let files = &mut self.files;
+        self.folder.left_fresh(files)
+    }
+
+    /// What Main says of its pages, where it begins as SQLite's files do that are not encrypted.
+    pub fn plain_head(&mut self) -> Option<PlainHead> {
+        let files = &mut self.files;
+        self.folder.plain_head(files)
+    }
+}
+
+impl<'a> Folder<'a> {
+    // The last writes are put back.
+    fn put_back<C: Calls>(&mut self, calls: &mut C) {
+        self.undo.put_back(calls, &self.main);
+        self.undo.clear();
+        self.drop_orphan(calls);
+    }
+
+    // The journal of a file that has no name any more would be played into what has its name now.
+    fn drop_orphan<C: Calls>(&mut self, calls: &mut C) {
+        let is_own = self.journal.is_made() && self.journal.is_named(calls).unwrap_or(false);
+        if is_own && self.main.is_nameless(calls) && calls.remove(Role::Journal).is_ok() {
+            self.journal.note_removed();
+            self.deeds.has_dropped_orphan = true;
+            let _ = calls.sync_folder();
+        }
+    }
+
+    fn drop_fresh<C: Calls>(&mut self, calls: &mut C) {
+        let is_own = self.fresh.is_made() && self.fresh.is_named(calls).unwrap_or(false);
+        if is_own && calls.remove(Role::Fresh).is_ok() {
+            self.fresh.note_removed();
+        }
+    }
+
+    fn left_fresh<C: Calls>(&mut self, files: &mut OpenFiles<C>) -> Option<(&'a str, bool)> {
+        match self.fresh.found(&files.calls) {
+            Ok(Some(_)) => Some((self.fresh.path(), self.is_fresh_useless(files))),
+            _ => None,
+        }
+    }
+
+    fn is_fresh_useless<C: Calls>(&mut self, files: &mut OpenFiles<C>) -> bool {
+        if self.fresh.is_twin(&files.calls).unwrap_or(false) {
+            return true;
+        }
+        self.fresh.attend(files).is_ok() && self.fresh.is_unfinished(&files.calls).unwrap_or(false)
+    }
+
+    fn plain_head<C: Calls>(&mut self, files: &mut OpenFiles<C>) -> Option<PlainHead> {
+        let mut bytes = [0u8; 21];
+        self.main.attend(files).ok()?;
+        self.main.read_at(&files.calls, 0, &mut bytes).ok()?;
+        if bytes[..16] != MAGIC[..] {
+            return None;
+        }
+        Some(PlainHead {
+            field: u32::from(u16_at(&bytes, 16)),
+            reserve: bytes[20],
+        })
+    }
+}

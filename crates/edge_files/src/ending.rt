@@ -1,0 +1,242 @@
+// What comes behind each call of the disk: what was done is noted, and it is looked whether others came in between. Nothing of the files changes.
+ghost use Rattle.edge_files.specs.Around.{IsEndOf};
+
+use crate::attending::is_closing;
+use crate::beside::SeenLog;
+use crate::failure::{Conflict, Failure, of_failed};
+use crate::folder::Folder;
+use crate::purpose::Purpose;
+use edge_model::{Failed, Role};
+use std::io::ErrorKind;
+use system_calls::{Calls, Fault, OpenFiles};
+
+impl<'a> Folder<'a> {
+    pub(crate) fn end_length<C: Calls>(
+        &mut self,
+        files: &OpenFiles<C>,
+        role: Role,
+        outcome: Result<Option<u64>, Failed>,
+    ) -> Result<Option<u64>, Failure<'a>>
+        ensures { IsEndOf outcome result }
+    {
+        let length = of_failed(self.file(role).path(), &files.last, outcome)?;
+        self.file_mut(role).note_length(length);
+        if role == Role::Journal {
+            self.require_log(&files.calls)?;
+        }
+        Ok(length)
+    }
+
+    pub(crate) fn end_read<C: Calls>(
+        &mut self,
+        files: &OpenFiles<C>,
+        role: Role,
+        at: u64,
+        buf: &[u8],
+        outcome: Result<usize, Failed>,
+    ) -> Result<usize, Failure<'a>>
+        ensures { IsEndOf outcome result }
+    {
+        let count = of_failed(self.file(role).path(), &files.last, outcome)?;
+        self.file(role).require_whole(at, buf.len(), count)?;
+        match role {
+            // What another program wrote meanwhile would be of another state than what was read before.
+            Role::Main => self.require_mark(&files.calls)?,
+            Role::Journal => self.require_log(&files.calls)?,
+            Role::Fresh => {}
+        }
+        if role == Role::Journal && !self.purpose.is_on_log() {
+            self.is_laying = true;
+            if at == 0 && count > 0 {
+                self.gate = buf.first().copied();
+            }
+        }
+        self.progress.add_read(count, self.main.known());
+        Ok(count)
+    }
+
+    pub(crate) fn end_write<C: Calls>(
+        &mut self,
+        files: &OpenFiles<C>,
+        role: Role,
+        at: u64,
+        bytes: &[u8],
+        outcome: Result<(), Failed>,
+    ) -> Result<(), Failure<'a>>
+        ensures { IsEndOf outcome result }
+    {
+        let done = of_failed(self.file(role).path(), &files.last, outcome);
+        self.changed(done)?;
+        self.file_mut(role).note_written(at, bytes.len());
+        let looked = match role {
+            Role::Main => self.note_page(&files.calls, at, bytes),
+            Role::Journal => {
+                self.note_record(at, bytes);
+                Ok(())
+            }
+            Role::Fresh => Ok(()),
+        };
+        self.changed(looked)
+    }
+
+    fn note_page<C: Calls>(&mut self, calls: &C, at: u64, bytes: &[u8]) -> Result<(), Failure<'a>> {
+        if self.lays() {
+            self.count_laid();
+            return self.note_main(calls);
+        }
+        self.undo.note(at, bytes);
+        self.note_main(calls)?;
+        let outcome = self.require_journal(calls);
+        self.meet(&outcome);
+        outcome
+    }
+
+    fn count_laid(&mut self) {
+        if self.purpose == Purpose::LayLog {
+            self.deeds.frames = self.deeds.frames.saturating_add(1);
+        } else if self.journal.is_open() && !self.journal.is_made() {
+            self.deeds.laid = self.deeds.laid.saturating_add(1);
+        }
+    }
+
+    fn note_record(&mut self, at: u64, bytes: &[u8]) {
+        self.is_laying = false;
+        if at == 0 {
+            self.gate = bytes.first().copied();
+        }
+        if is_closing(at, bytes) {
+            self.undo.clear();
+        }
+    }
+
+    pub(crate) fn end_cut<C: Calls>(
+        &mut self,
+        files: &OpenFiles<C>,
+        role: Role,
+        len: u64,
+        outcome: Result<(), Failed>,
+    ) -> Result<(), Failure<'a>>
+        ensures { IsEndOf outcome result }
+    {
+        let done = of_failed(self.file(role).path(), &files.last, outcome);
+        self.changed(done)?;
+        self.file_mut(role).note_cut(len);
+        let looked = match role {
+            Role::Main => self.note_main(&files.calls),
+            Role::Journal | Role::Fresh => Ok(()),
+        };
+        self.changed(looked)
+    }
+
+    pub(crate) fn end_sync<C: Calls>(
+        &mut self,
+        files: &OpenFiles<C>,
+        role: Role,
+        outcome: Result<(), Failed>,
+    ) -> Result<(), Failure<'a>>
+        ensures { IsEndOf outcome result }
+    {
+        let done = of_failed(self.file(role).path(), &files.last, outcome);
+        self.changed(done)?;
+        if role != Role::Main || self.purpose == Purpose::ReadLog {
+            return Ok(());
+        }
+        let looked = self.require_rest(&files.calls);
+        self.changed(looked)
+    }
+
+    // Main is synced, and as this run has written it.
+    fn require_rest<C: Calls>(&mut self, calls: &C) -> Result<(), Failure<'a>> {
+        let outcome = self.require_mark(calls);
+        self.meet(&outcome);
+        outcome?;
+        self.rest(calls)
+    }
+
+    pub(crate) fn end_create<C: Calls>(
+        &mut self,
+        files: &OpenFiles<C>,
+        role: Role,
+        outcome: Result<(), Failed>,
+    ) -> Result<(), Failure<'a>>
+        ensures { IsEndOf outcome result }
+    {
+        let done = of_failed(self.file(role).path(), &files.last, outcome);
+        self.changed(done)?;
+        let kept = self.file_mut(role).note_created(&files.calls);
+        self.changed(kept)?;
+        let looked = match role {
+            Role::Main => self.note_main(&files.calls),
+            Role::Journal | Role::Fresh => Ok(()),
+        };
+        self.changed(looked)
+    }
+
+    pub(crate) fn end_remove<C: Calls>(
+        &mut self,
+        files: &OpenFiles<C>,
+        role: Role,
+        outcome: Result<(), Failed>,
+    ) -> Result<(), Failure<'a>>
+        ensures { IsEndOf outcome result }
+    {
+        let done = of_failed(self.file(role).path(), &files.last, outcome);
+        self.changed(done)?;
+        let was_found = !self.file(role).is_made();
+        self.file_mut(role).note_removed();
+        match role {
+            Role::Main => self.mark = None,
+            Role::Journal => self.note_dropped(was_found),
+            Role::Fresh => {}
+        }
+        Ok(())
+    }
+
+    fn note_dropped(&mut self, was_found: bool) {
+        if self.purpose == Purpose::LayLog {
+            self.seen = Some(SeenLog::none());
+            self.deeds.has_dropped_log = true;
+            return;
+        }
+        self.gate = None;
+        if was_found {
+            self.deeds.has_dropped = true;
+        }
+    }
+
+    pub(crate) fn end_rename<C: Calls>(
+        &mut self,
+        files: &OpenFiles<C>,
+        outcome: Result<(), Failed>,
+    ) -> Result<(), Failure<'a>>
+        ensures { IsEndOf outcome result }
+    {
+        if outcome.is_err() && has_appeared(&files.last) {
+            return Err(Failure::of(self.main.path(), Conflict::Appeared));
+        }
+        let done = of_failed(self.fresh.path(), &files.last, outcome);
+        self.changed(done)?;
+        self.fresh.note_renamed(&mut self.main);
+        let looked = self.note_main(&files.calls);
+        self.changed(looked)
+    }
+
+    pub(crate) fn end_sync_folder<C: Calls>(
+        &mut self,
+        files: &OpenFiles<C>,
+        outcome: Result<(), Failed>,
+    ) -> Result<(), Failure<'a>>
+        ensures { IsEndOf outcome result }
+    {
+        let done = of_failed(self.path, &files.last, outcome);
+        self.changed(done)
+    }
+}
+
+// Whether the new file could get no second name, since another program has taken it meanwhile.
+fn has_appeared(last: &Option<Fault>) -> bool {
+    match last {
+        Some(fault) => fault.call == "link" && fault.error.kind() == ErrorKind::AlreadyExists,
+        None => false,
+    }
+}
