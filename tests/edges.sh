@@ -395,7 +395,7 @@ row 3 "$refused" 'ends in a space' 'printf "%s \n" "$k0" | "$tool" file.db tags 
 row 3 "$refused" 'begins and ends with a quote' 'printf "\"%s\"\n" "$k0" | "$tool" file.db tags 4'
 row 3 "$refused" 'begins and ends with a quote' "echo \"'old'\" | \"\$tool\" file.db tags 4"
 row 3 "$refused" 'under version 3' '"$tool" file.db header 3 < key'
-row 3 "$refused" 'under version 4:1024: its settings are those that the program that wrote it gives to the product; without them `probe` finds' '"$tool" file.db header 4:1024 < key'
+row 3 "$refused" 'under version 4:1024: its settings are those that the program that wrote it gives to the product; `probe` tries the versions'"'"' own' '"$tool" file.db header 4:1024 < key'
 { printf 'SQLite format 3\0\0\0'; tail -c +19 file.db; } > plain.db
 printf '\0' | dd of=plain.db bs=1 seek=20 conv=notrunc status=none
 no_size='but names no size of pages that SQLite has: it is damaged, or SQLCipher wrote it with its first 16 bytes alone in the clear: then give 4:plain-header=16'

@@ -5,6 +5,7 @@ use Rattle.edge_model.specs.Images.{Each, SameImages, Passes}
 use Rattle.system_calls.specs.System.{System, seen}
 
 -- what the names lead to is the same, and so are what a stop may leave and the number of the next new file
+-- But for the number it is `OnlyRead` of `edge_model`, which is of a disk that tells. Here each fact stands under `tells`, as the clauses of `OpenFiles` have it.
 pub record OnlyLooked {C : Type 0} (tells : Bool) (system : C → System) (images : C → Files → Type 0) (moment : C → ℕ) (since : C → ℕ → Files → Type 0)
     (next : C → ℕ) (old new : C) : Type 0 where
   pub stays : IsTrue tells → seen (system new) ≡ seen (system old)

@@ -1,7 +1,7 @@
 // What stands beside a file: a log, and a journal that would be played back.
 ghost use Rattle.std.specs.Prelude.{◌≤◌, length, IfOk};
 
-use crate::failure::{Failure, called, failed};
+use crate::failure::{Failure, called, failed, not_regular};
 use crate::role_file::RoleFile;
 use journal_format::{read_header, sector_ok};
 use std::fs::{self, File};
@@ -74,10 +74,7 @@ pub fn has_log<'a>(rt: &HostRuntime, path: &'a str) -> Result<bool, Failure<'a>>
 pub fn is_hot<'a>(rt: &HostRuntime, path: &'a str) -> Result<bool, Failure<'a>> {
     match fs::symlink_metadata(rt, path) {
         Ok(found) if found.is_file() => {}
-        Ok(_) => {
-            let words = "it is no regular file";
-            return Err(failed(path, "open", io::Error::new(ErrorKind::Unsupported, words)));
-        }
+        Ok(_) => return Err(not_regular(path)),
         Err(error) if error.kind() == ErrorKind::NotFound => return Ok(false),
         Err(error) => return Err(failed(path, "look up", error)),
     }

@@ -1,5 +1,7 @@
 // What comes behind each call of the disk: what was done is noted, and it is looked whether others came in between. Nothing of the files changes.
+ghost use Rattle.std.specs.Prelude.{length, IfOk};
 ghost use Rattle.edge_files.specs.Around.{IsEndOf};
+ghost use Rattle.edge_files.specs.Known.{IsWhole, of_role};
 
 use crate::attending::is_closing;
 use crate::beside::SeenLog;
@@ -35,7 +37,8 @@ impl<'a> Folder<'a> {
         buf: &[u8],
         outcome: Result<usize, Failed>,
     ) -> Result<usize, Failure<'a>>
-        ensures { IsEndOf outcome result }
+        ensures end { IsEndOf outcome result }
+        ensures whole { IfOk result (λ count. IsWhole (of_role role self.old.main.known self.old.journal.known self.old.fresh.known) at (length buf.now) count) }
     {
         let count = of_failed(self.file(role).path(), &files.last, outcome)?;
         self.file(role).require_whole(at, buf.len(), count)?;

@@ -12,6 +12,9 @@
 // 6. After a change that failed nothing more is called: it may have been done.
 // 7. While a log is laid, the log that is open is the one that was read before: before each write to Main and before the log is removed its name, its
 // length, its time and its header are looked at.
+ghost use Rattle.std.specs.Prelude.{◌≡◌};
+ghost use Rattle.edge_files.specs.Known.{of_role};
+
 use crate::beside::SeenLog;
 use crate::deeds::Deeds;
 use crate::failure::{Failure, failed};
@@ -137,7 +140,9 @@ impl<'a> Folder<'a> {
         self.journal.path()
     }
 
-    pub(crate) fn file(&self, role: Role) -> &RoleFile<'a> {
+    pub(crate) fn file(&self, role: Role) -> &RoleFile<'a>
+        ensures { result.now ≡ of_role role self.now.main self.now.journal self.now.fresh }
+    {
         match role {
             Role::Main => &self.main,
             Role::Journal => &self.journal,

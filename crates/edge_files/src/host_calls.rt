@@ -13,9 +13,6 @@ use std::os::unix::fs::{FileExt, MetadataExt, OpenOptionsExt, PermissionsExt, fc
 use std::path::PathBuf;
 use system_calls::{Calls, Fault, Found, Identity, Mark};
 
-/// The bits of a mode that say who may read, write and run a file.
-const PERMISSION_BITS: u32 = 0o777;
-
 /// The three files with these paths, and their folder.
 #[derive(Drop)]
 pub struct HostCalls<'a> {
@@ -213,7 +210,7 @@ impl<'a> Calls for HostCalls<'a> {
     fn give(&self, place: Role, like: &Found) -> Result<(), Fault> {
         let file = self.file(place, "set the mode")?;
         let _ = fchown(file, Some(like.owner), Some(like.group));
-        let mode = Permissions::from_mode(like.mode & PERMISSION_BITS);
+        let mode = Permissions::from_mode(like.permissions());
         told("set the mode", file.set_permissions(mode))
     }
 

@@ -1,8 +1,10 @@
 // One file of the folder.
-ghost use Rattle.std.specs.Prelude.{◌≡◌, ◌≤◌, length, true, IfOk, IfSome};
+ghost use Rattle.std.specs.Prelude.{◌≡◌, ◌≤◌, ◌<◌, ◌⊎◌, ◌+◌, min, max, length, true, None, Some, IfOk, IfSome, OnOk, OnErr, IsTrue, is_some, unwrap_or};
+ghost use Rattle.std.specs.Option.{option_map};
 ghost use Rattle.edge_files.specs.Around.{OnlyLooked};
+ghost use Rattle.edge_files.specs.Known.{IsWhole, end_of};
 
-use crate::failure::{Conflict, Failure, failed, of_file};
+use crate::failure::{Conflict, Failure, failed, not_regular, of_file};
 use edge_model::Role;
 use std::io::{Error, ErrorKind};
 use system_calls::{Calls, Found, Identity, Mark, OpenFiles, read_full};
@@ -74,7 +76,9 @@ impl<'a> RoleFile<'a> {
     }
 
     /// Whether it is open.
-    pub fn is_open(&self) -> bool {
+    pub fn is_open(&self) -> bool
+        ensures { result ≡ is_some self.now.identity }
+    {
         self.identity.is_some()
     }
 
@@ -89,7 +93,9 @@ impl<'a> RoleFile<'a> {
     }
 
     /// This run has the other file locked, and the path may be a second name of it.
-    pub fn set_twin(&mut self, other: Option<Identity>) {
+    pub fn set_twin(&mut self, other: Option<Identity>)
+        ensures known { self.new.known ≡ self.old.known }
+    {
         self.twin = other;
     }
 
@@ -99,7 +105,9 @@ impl<'a> RoleFile<'a> {
     }
 
     /// The length that was last answered or made, in bytes; none where there was no file.
-    pub fn known(&self) -> Option<u64> {
+    pub fn known(&self) -> Option<u64>
+        ensures { result ≡ self.now.known }
+    {
         self.known
     }
 
@@ -181,7 +189,8 @@ impl<'a> RoleFile<'a> {
         at: u64,
         buf: &mut [u8],
     ) -> Result<usize, Failure<'a>>
-        ensures { IfOk result (λ count. count ≤ length buf.old) }
+        ensures count { IfOk result (λ count. count ≤ length buf.old) }
+        ensures whole { IfOk result (λ count. IsWhole self.now.known at (length buf.old) count) }
     {
         let size = buf.len();
         let count = of_file(self.path, read_full(calls, self.role, at, buf))?;
@@ -190,9 +199,12 @@ impl<'a> RoleFile<'a> {
     }
 
     /// So many bytes were read where so many were asked for: fewer only where the length that is known ends.
-    pub fn require_whole(&self, at: u64, asked: usize, count: usize) -> Result<(), Failure<'a>> {
+    pub fn require_whole(&self, at: u64, asked: usize, count: usize) -> Result<(), Failure<'a>>
+        ensures whole { OnOk result (IsWhole self.now.known at asked count) }
+        ensures cut { OnErr result (at + count < unwrap_or self.now.known 0) }
+    {
         let end = at.saturating_add(count as u64);
-        if count < asked && end < self.known.unwrap_or(0) {
+        if count != asked && end < self.known.unwrap_or(0) {
             return Err(cut_short(self.path));
         }
         Ok(())
@@ -210,7 +222,9 @@ impl<'a> RoleFile<'a> {
 
     /// Opens the file where it is not open yet.
     pub fn attend<C: Calls>(&mut self, files: &mut OpenFiles<C>) -> Result<(), Failure<'a>>
-        ensures { OnlyLooked C.tells C.system C.images C.moment C.since C.next files.old.calls files.new.calls }
+        ensures open { OnOk result (IsTrue (is_some self.new.identity)) }
+        ensures known { self.new.known ≡ self.old.known }
+        ensures looked { OnlyLooked C.tells C.system C.images C.moment C.since C.next files.old.calls files.new.calls }
     {
         if self.is_open() {
             return Ok(());
@@ -224,7 +238,8 @@ impl<'a> RoleFile<'a> {
 
     /// Opens it so that a later write doesn't fail for want of a permission.
     pub fn attend_to_write<C: Calls>(&mut self, files: &mut OpenFiles<C>) -> Result<(), Failure<'a>>
-        ensures { OnlyLooked C.tells C.system C.images C.moment C.since C.next files.old.calls files.new.calls }
+        ensures known { self.new.known ≡ self.old.known }
+        ensures looked { OnlyLooked C.tells C.system C.images C.moment C.since C.next files.old.calls files.new.calls }
     {
         self.attend(files)?;
         match self.read_only {
@@ -235,7 +250,8 @@ impl<'a> RoleFile<'a> {
 
     /// Opens it where it is there. Where nothing has the path, that is what is known.
     pub fn attend_if_there<C: Calls>(&mut self, files: &mut OpenFiles<C>) -> Result<(), Failure<'a>>
-        ensures { OnlyLooked C.tells C.system C.images C.moment C.since C.next files.old.calls files.new.calls }
+        ensures known { OnOk result (IsTrue (is_some self.new.identity) ⊎ (self.new.known ≡ None)) }
+        ensures looked { OnlyLooked C.tells C.system C.images C.moment C.since C.next files.old.calls files.new.calls }
     {
         if !self.is_open() && self.found(&files.calls)?.is_none() {
             self.known = None;
@@ -249,7 +265,8 @@ impl<'a> RoleFile<'a> {
         &mut self,
         files: &mut OpenFiles<C>,
     ) -> Result<Option<u64>, Failure<'a>>
-        ensures { OnlyLooked C.tells C.system C.images C.moment C.since C.next files.old.calls files.new.calls }
+        ensures length { IfOk result (λ length. length ≡ self.new.known) }
+        ensures looked { OnlyLooked C.tells C.system C.images C.moment C.since C.next files.old.calls files.new.calls }
     {
         self.attend_if_there(files)?;
         if !self.is_open() {
@@ -261,7 +278,10 @@ impl<'a> RoleFile<'a> {
     }
 
     // Keeps the file that was opened by its path, and another run of this program from it.
-    fn keep<C: Calls>(&mut self, calls: &C) -> Result<(), Failure<'a>> {
+    fn keep<C: Calls>(&mut self, calls: &C) -> Result<(), Failure<'a>>
+        ensures open { OnOk result (IsTrue (is_some self.new.identity)) }
+        ensures known { self.new.known ≡ self.old.known }
+    {
         let found = of_file(self.path, calls.look_open(self.role))?;
         if !found.is_regular {
             return Err(not_regular(self.path));
@@ -275,7 +295,9 @@ impl<'a> RoleFile<'a> {
     }
 
     // Locks the file as a whole, against another run of this program. It is noted why it could not, where the file system knows no locks.
-    fn lock<C: Calls>(&mut self, calls: &C) -> Result<(), Failure<'a>> {
+    fn lock<C: Calls>(&mut self, calls: &C) -> Result<(), Failure<'a>>
+        ensures known { self.new.known ≡ self.old.known }
+    {
         match calls.lock(self.role) {
             Ok(true) => self.unlocked = None,
             Ok(false) => return Err(Failure::of(self.path, Conflict::OtherRun)),
@@ -287,12 +309,17 @@ impl<'a> RoleFile<'a> {
     // ---- what was done
 
     /// The length was answered.
-    pub fn note_length(&mut self, length: Option<u64>) {
+    pub fn note_length(&mut self, length: Option<u64>)
+        ensures known { self.new.known ≡ length }
+    {
         self.known = length;
     }
 
     /// So many bytes were written.
-    pub fn note_written(&mut self, at: u64, count: usize) {
+    pub fn note_written(&mut self, at: u64, count: usize)
+        ensures none { count ≡ 0 → self.new.known ≡ self.old.known }
+        ensures known { 0 < count → self.new.known ≡ Some (max (unwrap_or self.old.known 0) (end_of at count)) }
+    {
         if count > 0 {
             let end = at.saturating_add(count as u64);
             self.known = Some(self.known.unwrap_or(0).max(end));
@@ -300,14 +327,18 @@ impl<'a> RoleFile<'a> {
     }
 
     /// It was cut to this length where it was longer.
-    pub fn note_cut(&mut self, len: u64) {
+    pub fn note_cut(&mut self, len: u64)
+        ensures known { self.new.known ≡ option_map (λ known. min known len) self.old.known }
+    {
         if let Some(known) = self.known {
             self.known = Some(known.min(len));
         }
     }
 
     /// It was created by this run, and is open.
-    pub fn note_created<C: Calls>(&mut self, calls: &C) -> Result<(), Failure<'a>> {
+    pub fn note_created<C: Calls>(&mut self, calls: &C) -> Result<(), Failure<'a>>
+        ensures known { OnOk result (self.new.known ≡ Some 0) }
+    {
         self.keep(calls)?;
         self.read_only = None;
         self.is_made = true;
@@ -316,7 +347,9 @@ impl<'a> RoleFile<'a> {
     }
 
     /// It was removed, and nothing is open.
-    pub fn note_removed(&mut self) {
+    pub fn note_removed(&mut self)
+        ensures known { self.new.known ≡ None }
+    {
         self.identity = None;
         self.read_only = None;
         self.is_made = false;
@@ -324,7 +357,10 @@ impl<'a> RoleFile<'a> {
     }
 
     /// What was open of this file is the other's from now on.
-    pub fn note_renamed(&mut self, other: &mut RoleFile<'a>) {
+    pub fn note_renamed(&mut self, other: &mut RoleFile<'a>)
+        ensures moved { other.new.known ≡ self.old.known }
+        ensures known { self.new.known ≡ None }
+    {
         other.identity = self.identity;
         other.read_only = None;
         other.known = self.known;
@@ -335,9 +371,4 @@ impl<'a> RoleFile<'a> {
 fn cut_short<'a>(path: &'a str) -> Failure<'a> {
     let words = "the file was cut while it was read";
     failed(path, "read", Error::new(ErrorKind::UnexpectedEof, words))
-}
-
-fn not_regular<'a>(name: &'a str) -> Failure<'a> {
-    let error = Error::new(ErrorKind::Unsupported, "it is no regular file");
-    failed(name, "open", error)
 }

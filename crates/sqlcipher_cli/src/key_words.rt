@@ -256,8 +256,8 @@ pub fn explain_key(rt: &HostRuntime, run: &Ended, input: &InputSource, files: &m
 // Who tells the settings of a file: `probe` finds none but those that it tries.
 fn whose_settings(version: &str) -> &'static str {
     if version.contains(':') {
-        "its settings are those that the program that wrote it gives to the product; without them `probe` finds the version and the size of its \
-        pages"
+        "its settings are those that the program that wrote it gives to the product; `probe` tries the versions' own, with the usual sizes of pages, \
+        and those of two programs"
     } else {
         "`probe` finds the version and the size of its pages"
     }

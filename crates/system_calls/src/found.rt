@@ -1,5 +1,5 @@
 // What a look at a file tells, and what an error is told with.
-ghost use Rattle.std.specs.Prelude.{◌≡◌};
+ghost use Rattle.std.specs.Prelude.{◌≡◌, ◌%◌};
 
 use std::io::Error;
 
@@ -17,6 +17,9 @@ impl Fault {
         Fault { call, error }
     }
 }
+
+/// The bits of a mode that say who may read, write and run a file.
+const PERMISSION_BITS: u32 = 0o777;
 
 /// What has a name, or is open.
 #[derive(Clone, Copy)]
@@ -39,6 +42,13 @@ impl Found {
         ensures { result ≡ self.now.mark.length }
     {
         self.mark.length
+    }
+
+    /// The bits of its mode that say who may read, write and run it.
+    pub fn permissions(&self) -> u32
+        ensures { result ≡ self.now.mode % 512 }
+    {
+        self.mode & PERMISSION_BITS
     }
 }
 

@@ -11,9 +11,6 @@ use crate::{Calls, Fault, Found};
 use edge_model::{Disk, Failed, Role};
 use std::io::Error;
 
-/// The bits of a mode that say who may read, write and run a file.
-const PERMISSION_BITS: u32 = 0o777;
-
 /// Three files of a folder. Each is opened once, by its name. After a change that failed nothing is asked of the system any more: it may
 /// have been done, and a sync that failed may have lost for good what it was to save.
 #[derive(Drop)]
@@ -74,7 +71,7 @@ fn changed(
 // The bits of mode of a new file that is to be like that one.
 fn mode_like(like: &Option<Found>) -> Option<u32> {
     match like {
-        Some(found) => Some(found.mode & PERMISSION_BITS),
+        Some(found) => Some(found.permissions()),
         None => None,
     }
 }
@@ -117,18 +114,10 @@ impl<C: Calls> OpenFiles<C> {
         self.calls.open(role, is_only_read)
     }
 
-    /// Nothing is open in the role's place.
-    pub fn close(&mut self, role: Role)
-        ensures same { IsTrue C.tells → seen (C.system self.new.calls) ≡ seen (C.system self.old.calls) }
-        ensures next { IsTrue C.tells → C.next self.new.calls ≡ C.next self.old.calls }
-        ensures crash { IsTrue C.tells → SameImages (C.images self.old.calls) (C.images self.new.calls) }
-        ensures time { IsTrue C.tells → Passes C.images C.moment C.since self.old.calls self.new.calls }
-    {
-        self.calls.close(role);
-    }
-
-    /// The next new file is to be like that one, in mode and owner.
+    /// The next new file is to be like that one, in mode and owner. `create` asks for both, which no clause of it can say: no clause of `Calls`
+    /// speaks of a mode or an owner.
     pub fn make_like(&mut self, like: Option<Found>)
+        ensures like { self.new.like ≡ like }
         ensures same { IsTrue C.tells → seen (C.system self.new.calls) ≡ seen (C.system self.old.calls) }
         ensures next { IsTrue C.tells → C.next self.new.calls ≡ C.next self.old.calls }
         ensures crash { IsTrue C.tells → SameImages (C.images self.old.calls) (C.images self.new.calls) }
