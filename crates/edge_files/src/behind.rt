@@ -1,5 +1,8 @@
 // The files behind a run: what a stop has left is taken back, and what stands there is looked at. It is no part of the disk that a run is
 // proved over.
+ghost use Rattle.std.specs.Prelude.{◌≡◌, false, IsTrue};
+ghost use Rattle.edge_files.specs.Pair.{KeepsPair};
+
 use crate::folder::Folder;
 use crate::host_calls::HostCalls;
 use crate::plain_head::{MAGIC, PlainHead};
@@ -23,17 +26,6 @@ impl<'a> Behind<'a> {
         }
     }
 
-    // Takes back what a stop has left: the last writes, where others were met; the journal of a file that has no name any more; and the
-    // new file, where it has not taken Main's place.
-    pub(crate) fn settle(&mut self) {
-        if self.folder.is_met {
-            let files = &mut self.files;
-            self.folder.put_back(&mut files.calls);
-        }
-        let files = &mut self.files;
-        self.folder.drop_fresh(&mut files.calls);
-    }
-
     /// The path that the open Main has now, where it can be known.
     pub fn whereabouts(&self) -> Option<PathBuf> {
         self.files.calls.whereabouts(Role::Main)
@@ -54,6 +46,18 @@ impl<'a> Behind<'a> {
 }
 
 impl<'a> Folder<'a> {
+    // Takes back what a stop has left: the last writes, where others were met; the journal of a file that has no name any more; and the
+    // new file, where it has not taken Main's place.
+    pub(crate) fn take_back<C: Calls>(&mut self, calls: &mut C)
+        ensures kept { self.old.is_met ≡ false → IsTrue C.tells → KeepsPair C.system C.images C.moment C.since calls.old calls.new }
+        ensures others_new { self.old.is_met ≡ false → self.old.fresh.is_made ≡ false → calls.new ≡ calls.old }
+    {
+        if self.is_met {
+            self.put_back(calls);
+        }
+        self.drop_fresh(calls);
+    }
+
     // The last writes are put back.
     fn put_back<C: Calls>(&mut self, calls: &mut C) {
         self.undo.put_back(calls, &self.main);
@@ -71,9 +75,18 @@ impl<'a> Folder<'a> {
         }
     }
 
-    fn drop_fresh<C: Calls>(&mut self, calls: &mut C) {
-        let is_own = self.fresh.is_made() && self.fresh.is_named(calls).unwrap_or(false);
-        if is_own && calls.remove(Role::Fresh).is_ok() {
+    // The new file goes, where this run has made it and it still has its name.
+    fn drop_fresh<C: Calls>(&mut self, calls: &mut C)
+        ensures kept { IsTrue C.tells → KeepsPair C.system C.images C.moment C.since calls.old calls.new }
+        ensures others_new { self.old.fresh.is_made ≡ false → calls.new ≡ calls.old }
+    {
+        if !self.fresh.is_made() {
+            return;
+        }
+        if !self.fresh.is_named(calls).unwrap_or(false) {
+            return;
+        }
+        if calls.remove(Role::Fresh).is_ok() {
             self.fresh.note_removed();
         }
     }

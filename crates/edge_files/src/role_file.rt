@@ -83,7 +83,9 @@ impl<'a> RoleFile<'a> {
     }
 
     /// Whether the open file was made by this run.
-    pub fn is_made(&self) -> bool {
+    pub fn is_made(&self) -> bool
+        ensures { result ≡ self.now.is_made }
+    {
         self.is_made
     }
 

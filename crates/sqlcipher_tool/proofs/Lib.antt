@@ -42,6 +42,7 @@ pub mod ReadAlike
 pub mod SettledClean
 pub mod FreedClean
 pub mod SettledDone
+pub mod SettledTogether
 pub mod Joined
 pub mod Changed
 pub mod Behind

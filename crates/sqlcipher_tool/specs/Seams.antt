@@ -10,7 +10,7 @@
 use Rattle.std.specs.Prelude.{◌≡◌, ℕ, Bool, IsTrue, List, Option, Some, None}
 use Rattle.edge_model.specs.Files.{Files, bytes_of}
 use Rattle.edge_model.specs.Images.{Each, From}
-use Rattle.log_recovery.specs.Opened.{KeepsOpened, OpensTo}
+use Rattle.log_recovery.specs.Opened.{IsLogDone, KeepsOpened, OpensTo}
 use Rattle.pager.specs.Database.{database}
 use Rattle.rollback_journal.specs.Recovery.{KeepsRecovered, RecoversTo}
 use Rattle.sqlcipher_tool.specs.Crash.{StaysOrRenews}
@@ -46,6 +46,14 @@ pub record HoldsTogether (held : Held) (trio : Trio) : Type 0 where
 abbrev pub AreTaken : ℕ → (Option (List ℕ) → Bool) → Type 0
 AreTaken size logs = (log : Option (List ℕ)) → IsTrue (logs log) → (main : List ℕ) → (file : List ℕ) × OpensTo size (Some main) log file
 
+-- Each image at the start of run 2 has a Main that run 1 left, no FILE-journal and no log.
+abbrev pub BeginsBehind : (Files → Type 0) → (Files → Type 0) → Type 0
+BeginsBehind exit start = Each start (λ c. (d : Files) × exit d × (bytes_of c.main ≡ bytes_of d.main) × (c.journal ≡ None) × (d.journal ≡ None))
+
+-- Run 1 left nothing but the file to which these files, Main and the log, open.
+abbrev pub IsLaid : ℕ → Files → (Files → Type 0) → Type 0
+IsLaid size files exit = Each exit (IsLogDone size (bytes_of files.main) (bytes_of files.journal))
+
 -- How the runs follow one another. `logs` is what a crash may leave of FILE-wal before it is laid.
 pub record Joins (logs : Option (List ℕ) → Bool) (zero one two : DiskRun) : Type 0 where
   -- an image at the end of a run is one of its moments
@@ -54,7 +62,7 @@ pub record Joins (logs : Option (List ℕ) → Bool) (zero one two : DiskRun) : 
   -- run 1 begins with a Main that run 0 left, no FILE-journal, and the log
   pub first : Each one.at_start (λ c. (d : Files) × zero.at_exit d × (bytes_of c.main ≡ bytes_of d.main) × (d.journal ≡ None) × IsTrue (logs (bytes_of c.journal)))
   -- run 2 begins with a Main that run 1 left, no FILE-journal and no log
-  pub second : Each two.at_start (λ c. (d : Files) × one.at_exit d × (bytes_of c.main ≡ bytes_of d.main) × (c.journal ≡ None) × (d.journal ≡ None))
+  pub second : BeginsBehind one.at_exit two.at_start
 
 -- what each run is known to keep, by its own clauses
 pub record AreKept (status : Status) (old : Held) (new_file : List ℕ → Type 0) (new : List ℕ → Held) (zero one two : DiskRun) : Type 0 where

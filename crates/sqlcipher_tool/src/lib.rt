@@ -49,7 +49,7 @@ pub use laws::{
 };
 pub use names::near_names;
 pub use opening::Stop;
-pub use seams::{read_alike_law, seams_law, settle_done_law, settled_clean_law};
+pub use seams::{read_alike_law, seams_law, settle_done_law, settle_law, settled_clean_law};
 pub use secrets::Secrets;
 pub use settling::{
     check_to_settle, key_to_settle, lay_log, profile_to_settle, recover_to_settle,

@@ -6,6 +6,7 @@ ghost use Rattle.cipher_profile.specs.Profile.{IsListed, with_log};
 ghost use Rattle.cipher_profile.specs.declared.keys.Secret.{Secret};
 ghost use Rattle.cipher_profile.specs.declared.profile.Profile.{Profile};
 ghost use Rattle.db_format.specs.Pages.{Pages};
+ghost use Rattle.log_view.specs.View.{viewed};
 ghost use Rattle.page_codec.specs.Page.{keys_of};
 ghost use Rattle.pager.specs.Pages.{opened_pages};
 ghost use Rattle.sqlcipher_tool.specs.Crash.{IsSafely, new_held, old_held};
@@ -14,7 +15,7 @@ ghost use Rattle.sqlcipher_tool.specs.Plain.{IsClean};
 ghost use Rattle.sqlcipher_tool.specs.ReadAlike.{AreReadAlike};
 ghost use Rattle.sqlcipher_tool.specs.Renewal.{IsNewDrawn, Renewal, renewed};
 ghost use Rattle.sqlcipher_tool.specs.Recovered.{recovered_main};
-ghost use Rattle.sqlcipher_tool.specs.Seams.{AreKept, AreTaken, HoldAtFirst, HoldsThroughout, Joins};
+ghost use Rattle.sqlcipher_tool.specs.Seams.{AreKept, AreTaken, BeginsBehind, HoldAtFirst, HoldsThroughout, IsLaid, Joins};
 ghost use Rattle.sqlcipher_tool.specs.Settle.{IsSettledFrom};
 ghost use Rattle.sqlcipher_tool.specs.Settling.{CanBeLaid, CanLoseMaps};
 ghost use Rattle.sqlcipher_tool.specs.declared.change.Change.TheVariants.{Settle as SettleBy};
@@ -70,4 +71,17 @@ pub fn settle_done_law<T: Disk>(two: &T, two_end: &T)
         → Each (T.images two.now) (HoldsOnly (old_held (renewed profile (SettleBy frames) first second) (T.reads two.now)))
         → (laid : CanBeLaid profile first (recovered_main profile (T.reads two.now)))
         → (now : IsClean (keys_of profile first (main_of (T.reads two_end.now))) (main_of (T.reads two_end.now))) × (now.held ≡ laid.clean.held) }
+{}
+
+/// The runs together: after Done of the last one FILE alone is clean under its key where marks do not pass, so it is in rollback mode with all
+/// pages in use accepted, and holds what the file held that was checked through a view of FILE and FILE-wal. It asks that the view was one of
+/// the files with which the laying began, and that the last run began with what the laying left: that is the program's part.
+pub fn settle_law<V: Disk, O: Disk, T: Disk>(view: &V, one: &O, one_end: &O, two: &T, two_end: &T)
+    ensures { (profile : Profile) (first second : Secret) (frames : ℕ) (tells : Bool) (drawn : List ℕ) → IsListed profile
+        → V.reads view.now ≡ viewed profile.page_size (O.reads one.now)
+        → (checked : CanBeLaid profile first (recovered_main profile (V.reads view.now)))
+        → IsLaid profile.page_size (O.reads one.now) (O.images one_end.now)
+        → BeginsBehind (O.images one_end.now) (T.images two.now)
+        → IsSafely Done (ChangeFile profile (SettleBy frames)) tells drawn (disk_run T.reads T.images T.moment T.since two.now two_end.now) (Some (renewed profile (SettleBy frames) first second))
+        → (now : IsClean (keys_of profile first (main_of (T.reads two_end.now))) (main_of (T.reads two_end.now))) × (now.held ≡ checked.clean.held) }
 {}
