@@ -26,7 +26,7 @@ some_is : {k n : ℕ} → Some k ≡ Some n → k ≡ n
 some_is is = cc
 
 -- a step keeps the numbers
-may_step_number : {step : List ℕ → List ℕ → Type 0} {now old new : Option File} → MayStep step now old new → number_of new ≡ number_of old
+pub may_step_number : {step : List ℕ → List ℕ → Type 0} {now old new : Option File} → MayStep step now old new → number_of new ≡ number_of old
 may_step_number (inl same) = ap number_of same
 may_step_number (inr stepped) = ap number_of stepped.is ∙ sym (ap number_of stepped.was)
 
@@ -35,7 +35,7 @@ changes_names step Main now d c changes = record { main = may_step_number change
 changes_names step Journal now d c changes = record { main = ap number_of changes.0; journal = may_step_number changes.1; fresh = ap number_of changes.2 }
 changes_names step Fresh now d c changes = record { main = ap number_of changes.0; journal = ap number_of changes.1; fresh = may_step_number changes.2 }
 
-numbered_same : (next : ℕ) (d c : Files) → SameNames d c → IsNumbered next d → IsNumbered next c
+pub numbered_same : (next : ℕ) (d c : Files) → SameNames d c → IsNumbered next d → IsNumbered next c
 numbered_same next d c same numbered = record {
   main = λ n is. numbered.main n (sym same.main ∙ is);
   journal = λ n is. numbered.journal n (sym same.journal ∙ is);
@@ -55,7 +55,7 @@ numbered_more next more c le numbered = record {
   journal_fresh = numbered.journal_fresh;
 }
 
-numbered_created : (role : Role) (next : ℕ) (d : Files) → IsNumbered next d → IsNumbered (next + 1) (created role next d)
+pub numbered_created : (role : Role) (next : ℕ) (d : Files) → IsNumbered next d → IsNumbered (next + 1) (created role next d)
 numbered_created Main next d numbered = record {
   main = λ n is. let same = some_is is in omega arith;
   journal = λ n is. let lt = numbered.journal n is in omega arith;
@@ -84,7 +84,7 @@ numbered_created Fresh next d numbered = record {
 none_is : {n : ℕ} → number_of None ≡ Some n → ⊥
 none_is is = cc
 
-numbered_removed : (role : Role) (next : ℕ) (d : Files) → IsNumbered next d → IsNumbered next (removed role d)
+pub numbered_removed : (role : Role) (next : ℕ) (d : Files) → IsNumbered next d → IsNumbered next (removed role d)
 numbered_removed Main next d numbered = record {
   main = λ n is. absurd (none_is is);
   journal = numbered.journal;
@@ -110,7 +110,7 @@ numbered_removed Fresh next d numbered = record {
   journal_fresh = λ n is too. none_is too;
 }
 
-numbered_renamed : (next : ℕ) (d : Files) → IsNumbered next d → IsNumbered next (renamed d)
+pub numbered_renamed : (next : ℕ) (d : Files) → IsNumbered next d → IsNumbered next (renamed d)
 numbered_renamed next d numbered = record {
   main = numbered.fresh;
   journal = numbered.journal;
@@ -120,7 +120,7 @@ numbered_renamed next d numbered = record {
   journal_fresh = λ n is too. none_is too;
 }
 
-numbered_renames : (change : Files → Files) (next more : ℕ) (now d c : Files) → next ≤ more → IsNumbered next d → IsNumbered more (change d)
+pub numbered_renames : (change : Files → Files) (next more : ℕ) (now d c : Files) → next ≤ more → IsNumbered next d → IsNumbered more (change d)
     → Renames change now d c → IsNumbered more c
 numbered_renames change next more now d c le before after (inl same) = subst (IsNumbered more) (sym same) (numbered_more next more d le before)
 numbered_renames change next more now d c le before after (inr made) = subst (IsNumbered more) (sym made.1) after

@@ -14,7 +14,8 @@ mod silent_sink;
 mod silent_source;
 mod supply;
 
-pub use mem_disk::MemDisk;
+pub use gate::{Gate, Refusal};
+pub use mem_disk::{MemDisk, write_file};
 pub use mem_entropy::MemEntropy;
 pub use mem_sink::MemSink;
 pub use mem_source::MemSource;

@@ -15,6 +15,7 @@ mod slots;
 mod store;
 
 use self::replay::{bytes_in, chosen};
+pub use self::slots::write_file;
 use self::store::Store;
 use crate::ImagePick;
 use crate::gate::Gate;
