@@ -1,9 +1,10 @@
 -- What a folder in memory has, as a system.
-use Rattle.std.specs.Prelude.{ℕ, ◌+◌, ◌==◌, if◌then◌else◌, List, [], ◌∷◌, map, get_or, Option, Some, None, unwrap_or, Vec}
+use Rattle.std.specs.Prelude.{ℕ, pos, true, length, ◌+◌, ◌==◌, if◌then◌else◌, List, [], ◌∷◌, map, get_or, Option, Some, None, unwrap_or, Vec}
 use Rattle.std.specs.declared.alloc.Global.{Global}
 use Rattle.edge_model.specs.Files.{File, Files}
 use Rattle.edge_model.specs.declared.role.Role.{Role}
 use Rattle.system_calls.specs.System.{Names, System, file_of, name_at}
+use Rattle.system_calls.specs.declared.found.Found.{Found}
 use Rattle.call_memory.specs.declared.folder.Folder.{Folder}
 use Rattle.call_memory.specs.declared.folder.Slots.{Slots}
 
@@ -42,6 +43,23 @@ held_in s n = get_or s.lists n []
 -- the file with this number
 abbrev pub file_in : State → ℕ → Option File
 file_in s n = file_of (held_in s) (Some n)
+
+-- A look at a file tells its number as that of its inode, its length, and how many names lead to it. All else is alike of every file.
+abbrev pub found_as : ℕ → ℕ → ℕ → Found
+found_as number size names =
+    record {
+      is_regular = true;
+      identity = record { device = 1; inode = number };
+      mark = record { seconds = pos 0; nanoseconds = pos 0; length = size };
+      mode = 420;
+      owner = 1000;
+      group = 1000;
+      names = names;
+    }
+
+-- what a look tells of the file with this number
+abbrev pub found_in : State → ℕ → Found
+found_in s n = found_as n (length (held_in s n)) (names_to s.names n)
 
 -- what the names lead to
 abbrev pub shown_in : State → Files

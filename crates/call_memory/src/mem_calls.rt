@@ -5,7 +5,7 @@ ghost use Rattle.edge_memory.specs.Gate.{at_first, called, is_next_due, listing,
 ghost use Rattle.edge_model.specs.Files.{bytes_of, file_at, no_files};
 ghost use Rattle.edge_model.specs.Images.{Each};
 ghost use Rattle.system_calls.specs.System.{IsHome, no_names, seen};
-ghost use Rattle.call_memory.specs.Folder.{names_of, state_of, system_in};
+ghost use Rattle.call_memory.specs.Folder.{found_in, names_of, state_of, system_in};
 ghost use Rattle.call_memory.specs.Log.{ImagesAfter, SinceAfter, newest_first, state_after};
 ghost use Rattle.call_memory.specs.LogLaws.{counts_now_log, numbered_log, only_now_log, reads_now_log, unborn_in};
 
@@ -174,6 +174,8 @@ impl Calls for MemCalls {
     ghost is_spoilt = { λ m. m.store.is_spoilt };
 
     ghost next = { λ m. length (state_after (state_of m.store.start) (newest_first m.store.log.items)).lists };
+
+    ghost found = { λ m. found_in (state_after (state_of m.store.start) (newest_first m.store.log.items)) };
 
     ghost reads_now = { λ m. reads_now_log (state_of m.store.start) m.store.log.items };
 

@@ -5,7 +5,7 @@ ghost use Rattle.edge_model.specs.Files.{bytes_of, contents, file_at, length_of,
 ghost use Rattle.system_calls.specs.System.{file_of, name_at, no_names, put_name};
 ghost use Rattle.system_calls.specs.Found.{found_length};
 ghost use Rattle.edge_model.specs.Images.{IsNumbered};
-ghost use Rattle.call_memory.specs.Folder.{held_in, lists_of, names_of, names_to, number_at, shown_in, state_of, state_with};
+ghost use Rattle.call_memory.specs.Folder.{found_as, found_in, held_in, lists_of, names_of, names_to, number_at, shown_in, state_of, state_with};
 ghost use Rattle.call_memory.specs.Log.{newest_first, state_after};
 
 use crate::done::Done;
@@ -96,9 +96,7 @@ fn cut_in(files: &mut Vec<Vec<u8>>, number: usize, len: u64)
 
 // What a look tells of a file: its number is that of its inode.
 fn found_of(number: usize, bytes: &[u8], names: &Slots) -> Found
-    ensures length { result.mark.length ≡ length bytes.now }
-    ensures inode { result.identity.inode ≡ number }
-    ensures names { result.names ≡ names_to (names_of names.now) number }
+    ensures { result ≡ found_as number (length bytes.now) (names_to (names_of names.now) number) }
 {
     Found {
         is_regular: true,
@@ -203,7 +201,8 @@ impl Store {
 
     /// What has this name.
     pub fn look(&self, name: Role) -> Option<Found>
-        ensures { found_length result ≡ length_of (file_of (held_in (state_of self.now.current)) (name_at (names_of self.now.current.names) name)) }
+        ensures length { found_length result ≡ length_of (file_of (held_in (state_of self.now.current)) (name_at (names_of self.now.current.names) name)) }
+        ensures which { result ≡ option_map (found_in (state_of self.now.current)) (name_at (names_of self.now.current.names) name) }
     {
         let number = self.named_number(name)?;
         Some(found_of(number, &self.current.files[number], &self.current.names))
@@ -212,6 +211,7 @@ impl Store {
     /// What is open in this place.
     pub fn look_open(&self, place: Role) -> Result<Found, Refusal>
         ensures length { IfOk result (λ found. found_length (Some found) ≡ length_of (file_of (held_in (state_of self.now.current)) (name_at (names_of self.now.places) place))) }
+        ensures which { IfOk result (λ found. Some found ≡ option_map (found_in (state_of self.now.current)) (name_at (names_of self.now.places) place)) }
     {
         let number = self.open_number(place)?;
         Ok(found_of(number, &self.current.files[number], &self.current.names))

@@ -1,3 +1,5 @@
 pub mod Around
 pub mod Known
+pub mod Looks
 pub mod Pair
+pub mod Purposes

@@ -1,7 +1,9 @@
 // What comes before each call of the disk: the files are open, nobody else is at them, and what is needed afterwards is kept. What the names
 // lead to and what a stop may leave stays the same, but that the new file is synced before its first page is written.
-ghost use Rattle.std.specs.Prelude.{◌≡◌};
+ghost use Rattle.std.specs.Prelude.{◌≡◌, ◌<◌, None, OnOk, IsTrue, is_some, length};
 ghost use Rattle.edge_files.specs.Around.{NothingNew, OnlyLooked};
+ghost use Rattle.edge_files.specs.Looks.{IsGuarded, IsStillNamed, SameNotes, looks_at};
+ghost use Rattle.edge_model.specs.declared.role.Role.TheVariants.{Journal, Main};
 
 use crate::beside::remove_index;
 use crate::failure::{Conflict, Failure, failed, of_failed};
@@ -46,16 +48,32 @@ impl<'a> Folder<'a> {
         at: u64,
         bytes: &[u8],
     ) -> Result<(), Failure<'a>>
-        ensures { NothingNew C.tells C.system C.images C.moment C.since files.old.calls files.new.calls }
+        ensures looked { NothingNew C.tells C.system C.images C.moment C.since files.old.calls files.new.calls }
+        ensures main { role ≡ Main → IsTrue (is_some self.old.main.identity) → OnOk result (IsTrue C.tells → IsGuarded (looks_at C.system C.found files.new.calls) self.new) }
+        ensures journal { role ≡ Journal → length bytes.now < 512 → IsTrue (is_some self.old.journal.identity) → OnOk result (IsTrue C.tells → IsGuarded (looks_at C.system C.found files.new.calls) self.new) }
     {
         self.enter_to_change(files)?;
         self.progress.add_written(bytes.len(), self.main.known());
-        let outcome = match role {
+        let outcome = self.attend_to_write(files, role, at, bytes);
+        self.changed(outcome)
+    }
+
+    fn attend_to_write<C: Calls>(
+        &mut self,
+        files: &mut OpenFiles<C>,
+        role: Role,
+        at: u64,
+        bytes: &[u8],
+    ) -> Result<(), Failure<'a>>
+        ensures looked { NothingNew C.tells C.system C.images C.moment C.since files.old.calls files.new.calls }
+        ensures main { role ≡ Main → IsTrue (is_some self.old.main.identity) → OnOk result (IsTrue C.tells → IsGuarded (looks_at C.system C.found files.new.calls) self.new) }
+        ensures journal { role ≡ Journal → length bytes.now < 512 → IsTrue (is_some self.old.journal.identity) → OnOk result (IsTrue C.tells → IsGuarded (looks_at C.system C.found files.new.calls) self.new) }
+    {
+        match role {
             Role::Main => self.attend_main(files, at, bytes.len()),
             Role::Journal => self.attend_journal(files, at, bytes),
             Role::Fresh => self.attend_fresh(files, at),
-        };
-        self.changed(outcome)
+        }
     }
 
     // A page from a journal or from a log is not put back: another program lays the same one.
@@ -65,7 +83,8 @@ impl<'a> Folder<'a> {
         at: u64,
         length: usize,
     ) -> Result<(), Failure<'a>>
-        ensures { OnlyLooked C.tells C.system C.images C.moment C.since C.next files.old.calls files.new.calls }
+        ensures looked { OnlyLooked C.tells C.system C.images C.moment C.since C.next files.old.calls files.new.calls }
+        ensures guarded { IsTrue (is_some self.old.main.identity) → OnOk result (IsTrue C.tells → IsGuarded (looks_at C.system C.found files.new.calls) self.new) }
     {
         self.guard(&files.calls, self.is_at_rest)?;
         self.is_at_rest = false;
@@ -84,7 +103,8 @@ impl<'a> Folder<'a> {
         at: u64,
         bytes: &[u8],
     ) -> Result<(), Failure<'a>>
-        ensures { OnlyLooked C.tells C.system C.images C.moment C.since C.next files.old.calls files.new.calls }
+        ensures looked { OnlyLooked C.tells C.system C.images C.moment C.since C.next files.old.calls files.new.calls }
+        ensures guarded { length bytes.now < 512 → IsTrue (is_some self.old.journal.identity) → OnOk result (IsTrue C.tells → IsGuarded (looks_at C.system C.found files.new.calls) self.new) }
     {
         if bytes.len() < SECTOR {
             self.guard(&files.calls, is_closing(at, bytes))?;
@@ -114,7 +134,8 @@ impl<'a> Folder<'a> {
         files: &mut OpenFiles<C>,
         role: Role,
     ) -> Result<(), Failure<'a>>
-        ensures { OnlyLooked C.tells C.system C.images C.moment C.since C.next files.old.calls files.new.calls }
+        ensures looked { OnlyLooked C.tells C.system C.images C.moment C.since C.next files.old.calls files.new.calls }
+        ensures main { role ≡ Main → IsTrue (is_some self.old.main.identity) → OnOk result (IsTrue C.tells → IsGuarded (looks_at C.system C.found files.new.calls) self.new) }
     {
         self.enter_to_change(files)?;
         let outcome = self.attend_to_cut(files, role);
@@ -126,13 +147,18 @@ impl<'a> Folder<'a> {
         files: &mut OpenFiles<C>,
         role: Role,
     ) -> Result<(), Failure<'a>>
-        ensures { OnlyLooked C.tells C.system C.images C.moment C.since C.next files.old.calls files.new.calls }
+        ensures looked { OnlyLooked C.tells C.system C.images C.moment C.since C.next files.old.calls files.new.calls }
+        ensures main { role ≡ Main → IsTrue (is_some self.old.main.identity) → OnOk result (IsTrue C.tells → IsGuarded (looks_at C.system C.found files.new.calls) self.new) }
     {
-        if role == Role::Main {
-            self.guard(&files.calls, true)?;
-            self.is_at_rest = false;
+        match role {
+            Role::Main => {
+                self.guard(&files.calls, true)?;
+                self.is_at_rest = false;
+                self.main.attend_to_write(files)
+            }
+            Role::Journal => self.journal.attend_to_write(files),
+            Role::Fresh => self.fresh.attend_to_write(files),
         }
-        self.file_mut(role).attend_to_write(files)
     }
 
     pub(crate) fn prepare_sync<C: Calls>(
@@ -152,7 +178,8 @@ impl<'a> Folder<'a> {
         files: &mut OpenFiles<C>,
         role: Role,
     ) -> Result<(), Failure<'a>>
-        ensures { OnlyLooked C.tells C.system C.images C.moment C.since C.next files.old.calls files.new.calls }
+        ensures looked { OnlyLooked C.tells C.system C.images C.moment C.since C.next files.old.calls files.new.calls }
+        ensures journal { role ≡ Journal → IsTrue (is_some self.old.main.identity) → OnOk result (IsTrue C.tells → IsGuarded (looks_at C.system C.found files.new.calls) self.new) }
     {
         self.enter_to_change(files)?;
         // The journal and the new file are to be like Main.
@@ -171,22 +198,33 @@ impl<'a> Folder<'a> {
         role: Role,
         has_model: bool,
     ) -> Result<(), Failure<'a>>
-        ensures { OnlyLooked C.tells C.system C.images C.moment C.since C.next files.old.calls files.new.calls }
+        ensures looked { OnlyLooked C.tells C.system C.images C.moment C.since C.next files.old.calls files.new.calls }
+        ensures journal { role ≡ Journal → IsTrue (is_some self.old.main.identity) → OnOk result (IsTrue C.tells → IsGuarded (looks_at C.system C.found files.new.calls) self.new) }
     {
         match role {
-            Role::Main => {}
-            Role::Journal => {
-                self.guard(&files.calls, true)?;
-                if has_model {
-                    // A journal beside a file that can't be written would only stand in the way of those who read.
-                    self.main.attend_to_write(files)?;
-                }
-                self.gate = None;
-                self.is_laying = false;
+            Role::Main => self.main.unbarred(),
+            Role::Journal => self.attend_to_begin(files, has_model),
+            Role::Fresh => {
+                self.warn_of_clear_rows();
+                self.fresh.unbarred()
             }
-            Role::Fresh => self.warn_of_clear_rows(),
         }
-        self.file(role).unbarred()
+    }
+
+    // A new journal. Beside a file that can't be written it would only stand in the way of those who read.
+    fn attend_to_begin<C: Calls>(
+        &mut self,
+        files: &mut OpenFiles<C>,
+        has_model: bool,
+    ) -> Result<(), Failure<'a>>
+        ensures looked { OnlyLooked C.tells C.system C.images C.moment C.since C.next files.old.calls files.new.calls }
+        ensures guarded { IsTrue (is_some self.old.main.identity) → OnOk result (IsTrue C.tells → IsGuarded (looks_at C.system C.found files.new.calls) self.new) }
+    {
+        self.guard(&files.calls, true)?;
+        self.main.attend_to_write_where(files, has_model)?;
+        self.gate = None;
+        self.is_laying = false;
+        self.journal.unbarred()
     }
 
     pub(crate) fn prepare_remove<C: Calls>(
@@ -194,26 +232,40 @@ impl<'a> Folder<'a> {
         files: &mut OpenFiles<C>,
         role: Role,
     ) -> Result<(), Failure<'a>>
-        ensures { OnlyLooked C.tells C.system C.images C.moment C.since C.next files.old.calls files.new.calls }
+        ensures looked { OnlyLooked C.tells C.system C.images C.moment C.since C.next files.old.calls files.new.calls }
+        ensures journal { role ≡ Journal → IsTrue (is_some self.old.main.identity) → OnOk result (IsTrue C.tells → IsGuarded (looks_at C.system C.found files.new.calls) self.new) }
     {
         self.enter_to_change(files)?;
-        let outcome = match role {
+        let outcome = self.attend_to_remove(files, role);
+        self.changed(outcome)
+    }
+
+    fn attend_to_remove<C: Calls>(
+        &mut self,
+        files: &mut OpenFiles<C>,
+        role: Role,
+    ) -> Result<(), Failure<'a>>
+        ensures looked { OnlyLooked C.tells C.system C.images C.moment C.since C.next files.old.calls files.new.calls }
+        ensures journal { role ≡ Journal → IsTrue (is_some self.old.main.identity) → OnOk result (IsTrue C.tells → IsGuarded (looks_at C.system C.found files.new.calls) self.new) }
+    {
+        match role {
             Role::Main => self.main.unbarred(),
             Role::Journal => self.attend_to_drop(files),
             Role::Fresh => self.attend_to_clear(files),
-        };
-        self.changed(outcome)
+        }
     }
 
     // The journal; or the log and its index. The index goes first: a log without it is recovered, and behind a log that is gone nothing would remove it.
     fn attend_to_drop<C: Calls>(&mut self, files: &mut OpenFiles<C>) -> Result<(), Failure<'a>>
-        ensures { OnlyLooked C.tells C.system C.images C.moment C.since C.next files.old.calls files.new.calls }
+        ensures looked { OnlyLooked C.tells C.system C.images C.moment C.since C.next files.old.calls files.new.calls }
+        ensures guarded { IsTrue (is_some self.old.main.identity) → OnOk result (IsTrue C.tells → IsGuarded (looks_at C.system C.found files.new.calls) self.new) }
     {
         self.guard(&files.calls, true)?;
-        if self.purpose == Purpose::LayLog {
-            self.main.attend_to_write(files)?;
-            remove_index(self.rt, self.index)?;
+        if self.purpose != Purpose::LayLog {
+            return self.journal.unbarred();
         }
+        self.main.attend_to_write(files)?;
+        remove_index(self.rt, self.index)?;
         self.journal.unbarred()
     }
 
@@ -236,31 +288,53 @@ impl<'a> Folder<'a> {
         &mut self,
         files: &mut OpenFiles<C>,
     ) -> Result<(), Failure<'a>>
-        ensures { OnlyLooked C.tells C.system C.images C.moment C.since C.next files.old.calls files.new.calls }
+        ensures looked { OnlyLooked C.tells C.system C.images C.moment C.since C.next files.old.calls files.new.calls }
+        ensures fresh { OnOk result (IsTrue C.tells → IsStillNamed (looks_at C.system C.found files.new.calls) self.new.fresh) }
+        ensures main { OnOk result (IsTrue C.tells → IsTrue (is_some self.new.main.identity) → IsGuarded (looks_at C.system C.found files.new.calls) self.new) }
+        ensures absent { OnOk result (IsTrue C.tells → self.new.main.identity ≡ None → (looks_at C.system C.found files.new.calls).at_name self.new.main.role ≡ None) }
+        ensures no_journal { OnOk result (IsTrue C.tells → (looks_at C.system C.found files.new.calls).at_name self.new.journal.role ≡ None) }
     {
         self.enter_to_change(files)?;
         let outcome = self.check_to_rename(&files.calls);
         self.changed(outcome)
     }
 
-    fn check_to_rename<C: Calls>(&mut self, calls: &C) -> Result<(), Failure<'a>> {
+    fn check_to_rename<C: Calls>(&mut self, calls: &C) -> Result<(), Failure<'a>>
+        ensures fresh { OnOk result (IsTrue C.tells → IsStillNamed (looks_at C.system C.found calls.now) self.new.fresh) }
+        ensures main { OnOk result (IsTrue C.tells → IsTrue (is_some self.new.main.identity) → IsGuarded (looks_at C.system C.found calls.now) self.new) }
+        ensures absent { OnOk result (IsTrue C.tells → self.new.main.identity ≡ None → (looks_at C.system C.found calls.now).at_name self.new.main.role ≡ None) }
+        ensures no_journal { OnOk result (IsTrue C.tells → (looks_at C.system C.found calls.now).at_name self.new.journal.role ≡ None) }
+    {
         if !self.fresh.is_named(calls)? {
             return Err(Failure::of(self.fresh.path(), Conflict::Replaced));
         }
-        if self.main.is_open() {
-            self.guard(calls, true)?;
-        } else if self.main.found(calls)?.is_some() {
-            return Err(Failure::of(self.main.path(), Conflict::Appeared));
-        }
+        self.require_main_to_rename(calls)?;
         self.require_no_journal(calls)?;
         self.deeds.has_renamed = true;
         self.is_at_rest = false;
         self.fresh.unbarred()
     }
 
+    // Where Main is not open, nothing may have its name.
+    fn require_main_to_rename<C: Calls>(&mut self, calls: &C) -> Result<(), Failure<'a>>
+        ensures notes { SameNotes self.old self.new }
+        ensures main { OnOk result (IsTrue C.tells → IsTrue (is_some self.new.main.identity) → IsGuarded (looks_at C.system C.found calls.now) self.new) }
+        ensures absent { OnOk result (IsTrue C.tells → self.new.main.identity ≡ None → (looks_at C.system C.found calls.now).at_name self.new.main.role ≡ None) }
+    {
+        if self.main.is_open() {
+            return self.guard(calls, true);
+        }
+        match self.main.found(calls)? {
+            Some(_) => Err(Failure::of(self.main.path(), Conflict::Appeared)),
+            None => Ok(()),
+        }
+    }
+
     // The first look of a run, before anything else: at what stands beside, and of the first run at who has Main open.
     pub(crate) fn enter<C: Calls>(&mut self, files: &mut OpenFiles<C>) -> Result<(), Failure<'a>>
-        ensures { OnlyLooked C.tells C.system C.images C.moment C.since C.next files.old.calls files.new.calls }
+        ensures looked { OnlyLooked C.tells C.system C.images C.moment C.since C.next files.old.calls files.new.calls }
+        ensures main { IsTrue (is_some self.old.main.identity) → self.new.main.identity ≡ self.old.main.identity }
+        ensures journal { self.new.journal ≡ self.old.journal }
     {
         if let Some(failure) = self.stopped {
             return Err(failure);
@@ -278,7 +352,10 @@ impl<'a> Folder<'a> {
     }
 
     // Main is open for the first time.
-    fn meet_main<C: Calls>(&mut self, calls: &C) -> Result<(), Failure<'a>> {
+    fn meet_main<C: Calls>(&mut self, calls: &C) -> Result<(), Failure<'a>>
+        ensures main { self.new.main ≡ self.old.main }
+        ensures journal { self.new.journal ≡ self.old.journal }
+    {
         self.require_main(calls)?;
         self.take_lock_up()?;
         if self.held == Held::Nothing {
@@ -291,7 +368,9 @@ impl<'a> Folder<'a> {
 
     // Before a change. Where the file is read with its log there is none.
     fn enter_to_change<C: Calls>(&mut self, files: &mut OpenFiles<C>) -> Result<(), Failure<'a>>
-        ensures { OnlyLooked C.tells C.system C.images C.moment C.since C.next files.old.calls files.new.calls }
+        ensures looked { OnlyLooked C.tells C.system C.images C.moment C.since C.next files.old.calls files.new.calls }
+        ensures main { IsTrue (is_some self.old.main.identity) → self.new.main.identity ≡ self.old.main.identity }
+        ensures journal { self.new.journal ≡ self.old.journal }
     {
         self.enter(files)?;
         if self.purpose == Purpose::ReadLog {
@@ -303,7 +382,8 @@ impl<'a> Folder<'a> {
 
     // The outcome of a change. Of one that failed it is not known whether it was done, so nothing more is called then.
     pub(crate) fn changed(&mut self, outcome: Result<(), Failure<'a>>) -> Result<(), Failure<'a>>
-        ensures { result ≡ outcome.entry }
+        ensures same { result ≡ outcome.entry }
+        ensures notes { SameNotes self.old self.new }
     {
         if let Err(failure) = outcome {
             if failure.conflict().is_none() {
@@ -319,7 +399,9 @@ impl<'a> Folder<'a> {
     }
 
     // Once, before the first row is written.
-    fn warn_of_clear_rows(&mut self) {
+    fn warn_of_clear_rows(&mut self)
+        ensures notes { SameNotes self.old self.new }
+    {
         if self.is_decrypting {
             self.is_decrypting = false;
             self.progress.clear();

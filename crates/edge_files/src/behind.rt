@@ -109,7 +109,7 @@ impl<'a> Folder<'a> {
         let mut bytes = [0u8; 21];
         self.main.attend(files).ok()?;
         self.main.read_at(&files.calls, 0, &mut bytes).ok()?;
-        if bytes[..16] != MAGIC[..] {
+        if !bytes.starts_with(&MAGIC) {
             return None;
         }
         Some(PlainHead {

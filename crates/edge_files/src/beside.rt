@@ -1,5 +1,6 @@
 // What stands beside a file: a log, and a journal that would be played back.
-ghost use Rattle.std.specs.Prelude.{◌≤◌, length, IfOk};
+ghost use Rattle.std.specs.Prelude.{◌≡◌, ◌≤◌, length, true, IfOk, IsTrue};
+ghost use Rattle.edge_files.specs.Looks.{looks_at, mark_at};
 
 use crate::failure::{Failure, called, failed, not_regular};
 use crate::role_file::RoleFile;
@@ -29,7 +30,9 @@ impl SeenLog {
     }
 
     /// The one that is open, as it is now.
-    pub fn of<'a, C: Calls>(calls: &C, log: &RoleFile<'a>) -> Result<SeenLog, Failure<'a>> {
+    pub fn of<'a, C: Calls>(calls: &C, log: &RoleFile<'a>) -> Result<SeenLog, Failure<'a>>
+        ensures mark { IfOk result (λ seen. IsTrue C.tells → seen.mark ≡ mark_at (looks_at C.system C.found calls.now) log.now) }
+    {
         let mut seen = SeenLog::none();
         seen.mark = log.mark(calls)?;
         if seen.mark.is_some() {
@@ -43,12 +46,17 @@ impl SeenLog {
         &self,
         calls: &C,
         log: &RoleFile<'a>,
-    ) -> Result<bool, Failure<'a>> {
+    ) -> Result<bool, Failure<'a>>
+        ensures mark { IfOk result (λ is. IsTrue C.tells → is ≡ true → mark_at (looks_at C.system C.found calls.now) log.now ≡ self.now.mark) }
+    {
         Ok(log.mark(calls)? == self.mark)
     }
 
     /// Whether it is the same in all of this.
-    pub fn is_same(&self, other: &SeenLog) -> bool {
+    pub fn is_same(&self, other: &SeenLog) -> bool
+        ensures mark { result ≡ true → other.now.mark ≡ self.now.mark }
+        ensures header { result ≡ true → other.now.header ≡ self.now.header }
+    {
         self.mark == other.mark && self.header == other.header
     }
 

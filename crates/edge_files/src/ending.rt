@@ -1,7 +1,10 @@
 // What comes behind each call of the disk: what was done is noted, and it is looked whether others came in between. Nothing of the files changes.
-ghost use Rattle.std.specs.Prelude.{length, IfOk};
+ghost use Rattle.std.specs.Prelude.{◌≡◌, length, IfOk, OnOk, IsTrue};
 ghost use Rattle.edge_files.specs.Around.{IsEndOf};
 ghost use Rattle.edge_files.specs.Known.{IsWhole, of_role};
+ghost use Rattle.edge_files.specs.Looks.{looks_at, mark_at};
+ghost use Rattle.edge_files.specs.declared.purpose.Purpose.TheVariants.{ReadLog};
+ghost use Rattle.edge_model.specs.declared.role.Role.TheVariants.{Main};
 
 use crate::attending::is_closing;
 use crate::beside::SeenLog;
@@ -38,6 +41,7 @@ impl<'a> Folder<'a> {
         outcome: Result<usize, Failed>,
     ) -> Result<usize, Failure<'a>>
         ensures end { IsEndOf outcome result }
+        ensures unwritten { role ≡ Main → OnOk result (IsTrue C.tells → mark_at (looks_at C.system C.found files.now.calls) self.new.main ≡ self.new.mark) }
         ensures whole { IfOk result (λ count. IsWhole (of_role role self.old.main.known self.old.journal.known self.old.fresh.known) at (length buf.now) count) }
     {
         let count = of_failed(self.file(role).path(), &files.last, outcome)?;
@@ -66,23 +70,38 @@ impl<'a> Folder<'a> {
         bytes: &[u8],
         outcome: Result<(), Failed>,
     ) -> Result<(), Failure<'a>>
-        ensures { IsEndOf outcome result }
+        ensures end { IsEndOf outcome result }
+        ensures noted { role ≡ Main → OnOk result (IsTrue C.tells → self.new.mark ≡ mark_at (looks_at C.system C.found files.now.calls) self.new.main) }
     {
         let done = of_failed(self.file(role).path(), &files.last, outcome);
         self.changed(done)?;
         self.file_mut(role).note_written(at, bytes.len());
-        let looked = match role {
-            Role::Main => self.note_page(&files.calls, at, bytes),
+        let looked = self.note_write(&files.calls, role, at, bytes);
+        self.changed(looked)
+    }
+
+    fn note_write<C: Calls>(
+        &mut self,
+        calls: &C,
+        role: Role,
+        at: u64,
+        bytes: &[u8],
+    ) -> Result<(), Failure<'a>>
+        ensures noted { role ≡ Main → OnOk result (IsTrue C.tells → self.new.mark ≡ mark_at (looks_at C.system C.found calls.now) self.new.main) }
+    {
+        match role {
+            Role::Main => self.note_page(calls, at, bytes),
             Role::Journal => {
                 self.note_record(at, bytes);
                 Ok(())
             }
             Role::Fresh => Ok(()),
-        };
-        self.changed(looked)
+        }
     }
 
-    fn note_page<C: Calls>(&mut self, calls: &C, at: u64, bytes: &[u8]) -> Result<(), Failure<'a>> {
+    fn note_page<C: Calls>(&mut self, calls: &C, at: u64, bytes: &[u8]) -> Result<(), Failure<'a>>
+        ensures noted { OnOk result (IsTrue C.tells → self.new.mark ≡ mark_at (looks_at C.system C.found calls.now) self.new.main) }
+    {
         if self.lays() {
             self.count_laid();
             return self.note_main(calls);
@@ -119,16 +138,23 @@ impl<'a> Folder<'a> {
         len: u64,
         outcome: Result<(), Failed>,
     ) -> Result<(), Failure<'a>>
-        ensures { IsEndOf outcome result }
+        ensures end { IsEndOf outcome result }
+        ensures noted { role ≡ Main → OnOk result (IsTrue C.tells → self.new.mark ≡ mark_at (looks_at C.system C.found files.now.calls) self.new.main) }
     {
         let done = of_failed(self.file(role).path(), &files.last, outcome);
         self.changed(done)?;
         self.file_mut(role).note_cut(len);
-        let looked = match role {
-            Role::Main => self.note_main(&files.calls),
-            Role::Journal | Role::Fresh => Ok(()),
-        };
+        let looked = self.note_mark(&files.calls, role);
         self.changed(looked)
+    }
+
+    fn note_mark<C: Calls>(&mut self, calls: &C, role: Role) -> Result<(), Failure<'a>>
+        ensures noted { role ≡ Main → OnOk result (IsTrue C.tells → self.new.mark ≡ mark_at (looks_at C.system C.found calls.now) self.new.main) }
+    {
+        match role {
+            Role::Main => self.note_main(calls),
+            Role::Journal | Role::Fresh => Ok(()),
+        }
     }
 
     pub(crate) fn end_sync<C: Calls>(
@@ -137,7 +163,8 @@ impl<'a> Folder<'a> {
         role: Role,
         outcome: Result<(), Failed>,
     ) -> Result<(), Failure<'a>>
-        ensures { IsEndOf outcome result }
+        ensures end { IsEndOf outcome result }
+        ensures noted { role ≡ Main → (self.old.purpose ≡ ReadLog → ⊥) → OnOk result (IsTrue C.tells → self.new.mark ≡ mark_at (looks_at C.system C.found files.now.calls) self.new.main) }
     {
         let done = of_failed(self.file(role).path(), &files.last, outcome);
         self.changed(done)?;
@@ -149,7 +176,9 @@ impl<'a> Folder<'a> {
     }
 
     // Main is synced, and as this run has written it.
-    fn require_rest<C: Calls>(&mut self, calls: &C) -> Result<(), Failure<'a>> {
+    fn require_rest<C: Calls>(&mut self, calls: &C) -> Result<(), Failure<'a>>
+        ensures noted { OnOk result (IsTrue C.tells → self.new.mark ≡ mark_at (looks_at C.system C.found calls.now) self.new.main) }
+    {
         let outcome = self.require_mark(calls);
         self.meet(&outcome);
         outcome?;
@@ -162,16 +191,14 @@ impl<'a> Folder<'a> {
         role: Role,
         outcome: Result<(), Failed>,
     ) -> Result<(), Failure<'a>>
-        ensures { IsEndOf outcome result }
+        ensures end { IsEndOf outcome result }
+        ensures noted { role ≡ Main → OnOk result (IsTrue C.tells → self.new.mark ≡ mark_at (looks_at C.system C.found files.now.calls) self.new.main) }
     {
         let done = of_failed(self.file(role).path(), &files.last, outcome);
         self.changed(done)?;
         let kept = self.file_mut(role).note_created(&files.calls);
         self.changed(kept)?;
-        let looked = match role {
-            Role::Main => self.note_main(&files.calls),
-            Role::Journal | Role::Fresh => Ok(()),
-        };
+        let looked = self.note_mark(&files.calls, role);
         self.changed(looked)
     }
 
@@ -212,7 +239,8 @@ impl<'a> Folder<'a> {
         files: &OpenFiles<C>,
         outcome: Result<(), Failed>,
     ) -> Result<(), Failure<'a>>
-        ensures { IsEndOf outcome result }
+        ensures end { IsEndOf outcome result }
+        ensures noted { OnOk result (IsTrue C.tells → self.new.mark ≡ mark_at (looks_at C.system C.found files.now.calls) self.new.main) }
     {
         if outcome.is_err() && has_appeared(&files.last) {
             return Err(Failure::of(self.main.path(), Conflict::Appeared));

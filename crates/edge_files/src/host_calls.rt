@@ -3,6 +3,7 @@
 ghost use Rattle.std.specs.Prelude.{◌≡◌, ◌≤◌, [], false, length, refl, IfOk};
 ghost use Rattle.edge_model.specs.Files.{no_files};
 ghost use Rattle.edge_model.specs.Silent.{nothing_numbered};
+ghost use Rattle.system_calls.specs.Found.{no_found};
 ghost use Rattle.system_calls.specs.System.{no_system};
 
 use edge_model::Role;
@@ -159,6 +160,8 @@ impl<'a> Calls for HostCalls<'a> {
     ghost is_spoilt = { λ _. false };
 
     ghost next = { λ _. 0 };
+
+    ghost found = { λ _ _. no_found };
 
     ghost reads_now = { λ _. refl };
 

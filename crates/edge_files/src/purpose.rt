@@ -1,4 +1,6 @@
 // What a run does to the files.
+ghost use Rattle.std.specs.Prelude.{◌≡◌};
+ghost use Rattle.edge_files.specs.Purposes.{is_on_log};
 
 /// What a run does to the files: which of them has the role Journal, and what may stand beside. A command that takes more than one run turns from
 /// one to the next, and the file stays open and locked meanwhile.
@@ -19,7 +21,9 @@ pub enum Purpose {
 
 impl Purpose {
     /// Whether Journal is FILE-wal.
-    pub fn is_on_log(self) -> bool {
+    pub fn is_on_log(self) -> bool
+        ensures { result ≡ is_on_log self }
+    {
         matches!(self, Purpose::ReadLog | Purpose::LayLog)
     }
 }

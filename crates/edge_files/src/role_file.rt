@@ -1,8 +1,10 @@
 // One file of the folder.
-ghost use Rattle.std.specs.Prelude.{◌≡◌, ◌≤◌, ◌<◌, ◌⊎◌, ◌+◌, min, max, length, true, None, Some, IfOk, IfSome, OnOk, OnErr, IsTrue, is_some, unwrap_or};
+ghost use Rattle.std.specs.Prelude.{◌≡◌, ◌≤◌, ◌<◌, ◌⊎◌, ◌+◌, min, max, length, take, true, None, Some, IfOk, IfSome, OnOk, OnErr, IsTrue, is_some, unwrap_or};
 ghost use Rattle.std.specs.Option.{option_map};
 ghost use Rattle.edge_files.specs.Around.{OnlyLooked};
 ghost use Rattle.edge_files.specs.Known.{IsWhole, end_of};
+ghost use Rattle.edge_files.specs.Looks.{IsStillNamed, looks_at, mark_at};
+ghost use Rattle.edge_model.specs.Files.{read_from};
 
 use crate::failure::{Conflict, Failure, failed, not_regular, of_file};
 use edge_model::Role;
@@ -126,6 +128,7 @@ impl<'a> RoleFile<'a> {
     /// opened, since to open a pipe may wait for ever.
     pub fn found<C: Calls>(&self, calls: &C) -> Result<Option<Found>, Failure<'a>>
         ensures regular { IfOk result (λ found. IfSome found (λ what. what.is_regular ≡ true)) }
+        ensures told { IfOk result (λ found. IsTrue C.tells → found ≡ (looks_at C.system C.found calls.now).at_name self.now.role) }
     {
         self.unbarred()?;
         match of_file(self.path, calls.look(self.role))? {
@@ -144,7 +147,9 @@ impl<'a> RoleFile<'a> {
     }
 
     /// Whether the path still leads to the open file. Where nothing is open it need not.
-    pub fn is_named<C: Calls>(&self, calls: &C) -> Result<bool, Failure<'a>> {
+    pub fn is_named<C: Calls>(&self, calls: &C) -> Result<bool, Failure<'a>>
+        ensures named { IfOk result (λ is. IsTrue C.tells → is ≡ true → IsStillNamed (looks_at C.system C.found calls.now) self.now) }
+    {
         let Some(identity) = self.identity else {
             return Ok(true);
         };
@@ -155,7 +160,10 @@ impl<'a> RoleFile<'a> {
     }
 
     /// Whether the path still leads to the open file, and that has the length that is known. One call tells both.
-    pub fn is_left<C: Calls>(&self, calls: &C) -> Result<bool, Failure<'a>> {
+    pub fn is_left<C: Calls>(&self, calls: &C) -> Result<bool, Failure<'a>>
+        ensures named { IfOk result (λ is. IsTrue C.tells → is ≡ true → IsStillNamed (looks_at C.system C.found calls.now) self.now) }
+        ensures known { IfOk result (λ is. IsTrue C.tells → is ≡ true → option_map (λ what. what.mark.length) ((looks_at C.system C.found calls.now).at_name self.now.role) ≡ self.now.known) }
+    {
         match self.found(calls)? {
             Some(found) => {
                 Ok(Some(found.identity) == self.identity && Some(found.length()) == self.known)
@@ -176,7 +184,9 @@ impl<'a> RoleFile<'a> {
     }
 
     /// When the open file was last written, and its length; none where nothing is open.
-    pub fn mark<C: Calls>(&self, calls: &C) -> Result<Option<Mark>, Failure<'a>> {
+    pub fn mark<C: Calls>(&self, calls: &C) -> Result<Option<Mark>, Failure<'a>>
+        ensures told { IfOk result (λ mark. IsTrue C.tells → mark ≡ mark_at (looks_at C.system C.found calls.now) self.now) }
+    {
         if !self.is_open() {
             return Ok(None);
         }
@@ -192,6 +202,7 @@ impl<'a> RoleFile<'a> {
         buf: &mut [u8],
     ) -> Result<usize, Failure<'a>>
         ensures count { IfOk result (λ count. count ≤ length buf.old) }
+        ensures told { IfOk result (λ count. IsTrue C.tells → take count buf.new ≡ read_from at (length buf.old) ((looks_at C.system C.found calls.now).bytes self.now.role)) }
         ensures whole { IfOk result (λ count. IsWhole self.now.known at (length buf.old) count) }
     {
         let size = buf.len();
@@ -225,6 +236,8 @@ impl<'a> RoleFile<'a> {
     /// Opens the file where it is not open yet.
     pub fn attend<C: Calls>(&mut self, files: &mut OpenFiles<C>) -> Result<(), Failure<'a>>
         ensures open { OnOk result (IsTrue (is_some self.new.identity)) }
+        ensures which { self.old.identity ≡ None → OnOk result (IsTrue C.tells → self.new.identity ≡ option_map (λ what. what.identity) ((looks_at C.system C.found files.new.calls).at_place self.new.role)) }
+        ensures again { IsTrue (is_some self.old.identity) → (files.new ≡ files.old) × (self.new ≡ self.old) }
         ensures known { self.new.known ≡ self.old.known }
         ensures looked { OnlyLooked C.tells C.system C.images C.moment C.since C.next files.old.calls files.new.calls }
     {
@@ -240,6 +253,7 @@ impl<'a> RoleFile<'a> {
 
     /// Opens it so that a later write doesn't fail for want of a permission.
     pub fn attend_to_write<C: Calls>(&mut self, files: &mut OpenFiles<C>) -> Result<(), Failure<'a>>
+        ensures again { IsTrue (is_some self.old.identity) → (files.new ≡ files.old) × (self.new ≡ self.old) }
         ensures known { self.new.known ≡ self.old.known }
         ensures looked { OnlyLooked C.tells C.system C.images C.moment C.since C.next files.old.calls files.new.calls }
     {
@@ -250,8 +264,26 @@ impl<'a> RoleFile<'a> {
         }
     }
 
+    /// The same, where this is so.
+    pub fn attend_to_write_where<C: Calls>(
+        &mut self,
+        files: &mut OpenFiles<C>,
+        is_so: bool,
+    ) -> Result<(), Failure<'a>>
+        ensures again { IsTrue (is_some self.old.identity) → (files.new ≡ files.old) × (self.new ≡ self.old) }
+        ensures known { self.new.known ≡ self.old.known }
+        ensures looked { OnlyLooked C.tells C.system C.images C.moment C.since C.next files.old.calls files.new.calls }
+    {
+        if is_so {
+            self.attend_to_write(files)
+        } else {
+            Ok(())
+        }
+    }
+
     /// Opens it where it is there. Where nothing has the path, that is what is known.
     pub fn attend_if_there<C: Calls>(&mut self, files: &mut OpenFiles<C>) -> Result<(), Failure<'a>>
+        ensures again { IsTrue (is_some self.old.identity) → (files.new ≡ files.old) × (self.new ≡ self.old) }
         ensures known { OnOk result (IsTrue (is_some self.new.identity) ⊎ (self.new.known ≡ None)) }
         ensures looked { OnlyLooked C.tells C.system C.images C.moment C.since C.next files.old.calls files.new.calls }
     {
@@ -268,6 +300,7 @@ impl<'a> RoleFile<'a> {
         files: &mut OpenFiles<C>,
     ) -> Result<Option<u64>, Failure<'a>>
         ensures length { IfOk result (λ length. length ≡ self.new.known) }
+        ensures open { IsTrue (is_some self.old.identity) → self.new.identity ≡ self.old.identity }
         ensures looked { OnlyLooked C.tells C.system C.images C.moment C.since C.next files.old.calls files.new.calls }
     {
         self.attend_if_there(files)?;
@@ -282,24 +315,28 @@ impl<'a> RoleFile<'a> {
     // Keeps the file that was opened by its path, and another run of this program from it.
     fn keep<C: Calls>(&mut self, calls: &C) -> Result<(), Failure<'a>>
         ensures open { OnOk result (IsTrue (is_some self.new.identity)) }
+        ensures which { OnOk result (IsTrue C.tells → self.new.identity ≡ option_map (λ what. what.identity) ((looks_at C.system C.found calls.now).at_place self.new.role)) }
         ensures known { self.new.known ≡ self.old.known }
     {
         let found = of_file(self.path, calls.look_open(self.role))?;
         if !found.is_regular {
             return Err(not_regular(self.path));
         }
-        if self.is_locked && self.twin != Some(found.identity) {
-            self.lock(calls)?;
-        }
+        self.lock(calls, found.identity)?;
         self.identity = Some(found.identity);
         self.is_made = false;
         Ok(())
     }
 
-    // Locks the file as a whole, against another run of this program. It is noted why it could not, where the file system knows no locks.
-    fn lock<C: Calls>(&mut self, calls: &C) -> Result<(), Failure<'a>>
+    // Locks the open file as a whole, against another run of this program, unless this run has it locked already. It is noted why it could not,
+    // where the file system knows no locks.
+    fn lock<C: Calls>(&mut self, calls: &C, identity: Identity) -> Result<(), Failure<'a>>
+        ensures role { self.new.role ≡ self.old.role }
         ensures known { self.new.known ≡ self.old.known }
     {
+        if !self.is_locked || self.twin == Some(identity) {
+            return Ok(());
+        }
         match calls.lock(self.role) {
             Ok(true) => self.unlocked = None,
             Ok(false) => return Err(Failure::of(self.path, Conflict::OtherRun)),
@@ -340,6 +377,7 @@ impl<'a> RoleFile<'a> {
     /// It was created by this run, and is open.
     pub fn note_created<C: Calls>(&mut self, calls: &C) -> Result<(), Failure<'a>>
         ensures known { OnOk result (self.new.known ≡ Some 0) }
+        ensures which { OnOk result (IsTrue C.tells → self.new.identity ≡ option_map (λ what. what.identity) ((looks_at C.system C.found calls.now).at_place self.new.role)) }
     {
         self.keep(calls)?;
         self.read_only = None;

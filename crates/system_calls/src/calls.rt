@@ -1,5 +1,6 @@
 // The calls of the system that a folder of three files makes. Each is one call of the system.
 ghost use Rattle.std.specs.Prelude.{◌≡◌, ◌⊎◌, ◌≤◌, [], ℕ, Bool, false, List, Option, None, Some, length, take, drop, IfOk, OnOk, OnErr, IsErr, IsTrue, is_some};
+ghost use Rattle.std.specs.Option.{option_map};
 ghost use Rattle.edge_model.specs.Files.{Files, file_at, length_of, contents, written, created, removed, renamed, Torn, Shorter};
 ghost use Rattle.edge_model.specs.Images.{Each, Follows, Renames, SameNames, IsNumbered, SameImages, Passes};
 ghost use Rattle.system_calls.specs.Found.{found_length};
@@ -15,6 +16,8 @@ use std::io::Error;
 /// A call that failed may have been done, in part or whole, or not at all. Nobody else acts. A call that takes `&self` changes no name, no
 /// byte and nothing that a stop may leave.
 pub trait Calls {
+    ghost use Rattle.system_calls.specs.declared.found.Found.{Found};
+
     /// Whether clauses on files hold. The calls of a real system tell nothing.
     ghost tells: { Bool };
 
@@ -36,17 +39,22 @@ pub trait Calls {
     /// The number of the file that is created next.
     ghost next: { Self → ℕ };
 
+    /// What a look tells of the file with this number.
+    ghost found: { Self → ℕ → Found };
+
     /// Whether a file is open in this place.
     fn is_open(&self, place: Role) -> bool
         ensures told { IsTrue tells → result ≡ is_some (name_at (system self.now).places place) };
 
     /// `lstat`: what has this name, none where nothing has it.
     fn look(&self, name: Role) -> Result<Option<Found>, Fault>
-        ensures told { IfOk result (λ found. IsTrue tells → found_length found ≡ length_of (file_at (seen (system self.now)) name)) };
+        ensures told { IfOk result (λ found. IsTrue tells → found_length found ≡ length_of (file_at (seen (system self.now)) name)) }
+        ensures which { IfOk result (λ what. IsTrue tells → what ≡ option_map (found self.now) (name_at (system self.now).names name)) };
 
     /// `fstat` of the open file.
     fn look_open(&self, place: Role) -> Result<Found, Fault>
-        ensures told { IfOk result (λ found. IsTrue tells → found_length (Some found) ≡ length_of (opened (system self.now) place)) };
+        ensures told { IfOk result (λ found. IsTrue tells → found_length (Some found) ≡ length_of (opened (system self.now) place)) }
+        ensures which { IfOk result (λ what. IsTrue tells → Some what ≡ option_map (found self.now) (name_at (system self.now).places place)) };
 
     /// `pread`: some of the bytes from an offset on, and none only at the end of the file or where none are asked for.
     fn read_some(&self, place: Role, at: u64, buf: &mut [u8]) -> Result<usize, Fault>

@@ -3,4 +3,4 @@ use Rattle.edge_files.proofs.folder_disk.FolderDiskDisk.remove.Goals as goal
 
 pub returns-clause-time : goal.returns-clause-time
 returns-clause-time g c told =
-    around_time g.met.C.Calls.counts_now (λ f. f.calls) (λ d. d.files) _ _ c.prepare_remove-ready.new.files told c.prepare_remove-ready.ensures (c.remove-outcome.ensures.time told)
+    around_time g.met.C.Calls.counts_now (λ f. f.calls) (λ d. d.files) _ _ c.prepare_remove-ready.new.files told c.prepare_remove-ready.ensures.looked (c.remove-outcome.ensures.time told)

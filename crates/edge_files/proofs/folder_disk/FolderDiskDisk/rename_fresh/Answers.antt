@@ -3,4 +3,4 @@ use Rattle.edge_files.proofs.folder_disk.FolderDiskDisk.rename_fresh.Goals as go
 
 pub returns-clause-time : goal.returns-clause-time
 returns-clause-time g c told =
-    around_time g.met.C.Calls.counts_now (λ f. f.calls) (λ d. d.files) _ _ c.prepare_rename-ready.new.files told c.prepare_rename-ready.ensures (c.rename_fresh-outcome.ensures.time told)
+    around_time g.met.C.Calls.counts_now (λ f. f.calls) (λ d. d.files) _ _ c.prepare_rename-ready.new.files told c.prepare_rename-ready.ensures.looked (c.rename_fresh-outcome.ensures.time told)
