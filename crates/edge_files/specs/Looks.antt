@@ -1,5 +1,5 @@
 -- What looks tell of the three files, and what they have to tell before a change.
-use Rattle.std.specs.Prelude.{◌≡◌, ℕ, if◌then◌else◌, false, List, [], ◌∷◌, take, Option, Some, None, is_some}
+use Rattle.std.specs.Prelude.{◌≡◌, ℕ, Bool, ◌==◌, if◌then◌else◌, false, List, [], ◌∷◌, take, Option, Some, None, is_some}
 use Rattle.std.specs.Option.{option_map}
 use Rattle.edge_files.specs.Purposes.{is_on_log}
 use Rattle.edge_files.specs.declared.beside.SeenLog.{SeenLog}
@@ -29,6 +29,9 @@ looks_at system found calls =
       at_place = λ place. option_map (found calls) (name_at (system calls).places place);
       bytes = λ place. contents (opened (system calls) place);
     }
+
+abbrev pub is_zero : ℕ → Bool
+is_zero byte = byte == 0
 
 -- Where a file is open, its name still leads to it.
 abbrev pub IsStillNamed : Looks → RoleFile → Type 0

@@ -1,8 +1,20 @@
 -- What is done behind a run where no others were met.
-use Rattle.std.specs.Prelude.{◌≡◌, ℕ}
+use Rattle.std.specs.Prelude.{◌≡◌, ℕ, Some}
 use Rattle.edge_model.specs.Files.{Files}
 use Rattle.edge_model.specs.Images.{From, LeavesOnly}
 use Rattle.system_calls.specs.System.{System, seen}
+
+-- The names and what is open are the same, and every byte but those of the file that is open as Main.
+pub record OnlyMain (old new : System) : Type 0 where
+  pub names : new.names ≡ old.names
+  pub places : new.places ≡ old.places
+  pub others : (m : ℕ) → (old.places.main ≡ Some m → ⊥) → new.held m ≡ old.held m
+
+-- Main's name and what is open are the same, and every byte but those of the file that is open as Main.
+pub record TakesBack (old new : System) : Type 0 where
+  pub main : new.names.main ≡ old.names.main
+  pub places : new.places ≡ old.places
+  pub others : (m : ℕ) → (old.places.main ≡ Some m → ⊥) → new.held m ≡ old.held m
 
 -- Main and Journal are the same
 pub record SamePair (old new : Files) : Type 0 where

@@ -1,6 +1,6 @@
 // What comes before each call of the disk: the files are open, nobody else is at them, and what is needed afterwards is kept. What the names
 // lead to and what a stop may leave stays the same, but that the new file is synced before its first page is written.
-ghost use Rattle.std.specs.Prelude.{◌≡◌, ◌<◌, None, OnOk, IsTrue, is_some, length};
+ghost use Rattle.std.specs.Prelude.{◌≡◌, ◌<◌, true, None, OnOk, IsTrue, is_some, length};
 ghost use Rattle.edge_files.specs.Around.{NothingNew, OnlyLooked};
 ghost use Rattle.edge_files.specs.Looks.{IsGuarded, IsStillNamed, SameNotes, looks_at};
 ghost use Rattle.edge_model.specs.declared.role.Role.TheVariants.{Journal, Main};
@@ -24,7 +24,7 @@ impl<'a> Folder<'a> {
         files: &mut OpenFiles<C>,
         role: Role,
     ) -> Result<(), Failure<'a>>
-        ensures { OnlyLooked C.tells C.system C.images C.moment C.since C.next files.old.calls files.new.calls }
+        ensures looked { OnlyLooked C.tells C.system C.images C.moment C.since C.next files.old.calls files.new.calls }
     {
         self.enter(files)?;
         self.file_mut(role).attend_if_there(files)
@@ -35,7 +35,7 @@ impl<'a> Folder<'a> {
         files: &mut OpenFiles<C>,
         role: Role,
     ) -> Result<(), Failure<'a>>
-        ensures { OnlyLooked C.tells C.system C.images C.moment C.since C.next files.old.calls files.new.calls }
+        ensures looked { OnlyLooked C.tells C.system C.images C.moment C.since C.next files.old.calls files.new.calls }
     {
         self.enter(files)?;
         self.file_mut(role).attend(files)
@@ -51,6 +51,7 @@ impl<'a> Folder<'a> {
         ensures looked { NothingNew C.tells C.system C.images C.moment C.since files.old.calls files.new.calls }
         ensures main { role ≡ Main → IsTrue (is_some self.old.main.identity) → OnOk result (IsTrue C.tells → IsGuarded (looks_at C.system C.found files.new.calls) self.new) }
         ensures journal { role ≡ Journal → length bytes.now < 512 → IsTrue (is_some self.old.journal.identity) → OnOk result (IsTrue C.tells → IsGuarded (looks_at C.system C.found files.new.calls) self.new) }
+        ensures mark { self.old.is_entered ≡ true → self.new.mark ≡ self.old.mark }
     {
         self.enter_to_change(files)?;
         self.progress.add_written(bytes.len(), self.main.known());
@@ -68,6 +69,7 @@ impl<'a> Folder<'a> {
         ensures looked { NothingNew C.tells C.system C.images C.moment C.since files.old.calls files.new.calls }
         ensures main { role ≡ Main → IsTrue (is_some self.old.main.identity) → OnOk result (IsTrue C.tells → IsGuarded (looks_at C.system C.found files.new.calls) self.new) }
         ensures journal { role ≡ Journal → length bytes.now < 512 → IsTrue (is_some self.old.journal.identity) → OnOk result (IsTrue C.tells → IsGuarded (looks_at C.system C.found files.new.calls) self.new) }
+        ensures mark { self.new.mark ≡ self.old.mark }
     {
         match role {
             Role::Main => self.attend_main(files, at, bytes.len()),
@@ -85,6 +87,7 @@ impl<'a> Folder<'a> {
     ) -> Result<(), Failure<'a>>
         ensures looked { OnlyLooked C.tells C.system C.images C.moment C.since C.next files.old.calls files.new.calls }
         ensures guarded { IsTrue (is_some self.old.main.identity) → OnOk result (IsTrue C.tells → IsGuarded (looks_at C.system C.found files.new.calls) self.new) }
+        ensures mark { self.new.mark ≡ self.old.mark }
     {
         self.guard(&files.calls, self.is_at_rest)?;
         self.is_at_rest = false;
@@ -105,6 +108,7 @@ impl<'a> Folder<'a> {
     ) -> Result<(), Failure<'a>>
         ensures looked { OnlyLooked C.tells C.system C.images C.moment C.since C.next files.old.calls files.new.calls }
         ensures guarded { length bytes.now < 512 → IsTrue (is_some self.old.journal.identity) → OnOk result (IsTrue C.tells → IsGuarded (looks_at C.system C.found files.new.calls) self.new) }
+        ensures mark { self.new.mark ≡ self.old.mark }
     {
         if bytes.len() < SECTOR {
             self.guard(&files.calls, is_closing(at, bytes))?;
@@ -119,7 +123,8 @@ impl<'a> Folder<'a> {
         files: &mut OpenFiles<C>,
         at: u64,
     ) -> Result<(), Failure<'a>>
-        ensures { NothingNew C.tells C.system C.images C.moment C.since files.old.calls files.new.calls }
+        ensures looked { NothingNew C.tells C.system C.images C.moment C.since files.old.calls files.new.calls }
+        ensures mark { self.new.mark ≡ self.old.mark }
     {
         self.fresh.attend_to_write(files)?;
         if at > 0 {
@@ -136,6 +141,7 @@ impl<'a> Folder<'a> {
     ) -> Result<(), Failure<'a>>
         ensures looked { OnlyLooked C.tells C.system C.images C.moment C.since C.next files.old.calls files.new.calls }
         ensures main { role ≡ Main → IsTrue (is_some self.old.main.identity) → OnOk result (IsTrue C.tells → IsGuarded (looks_at C.system C.found files.new.calls) self.new) }
+        ensures mark { self.old.is_entered ≡ true → self.new.mark ≡ self.old.mark }
     {
         self.enter_to_change(files)?;
         let outcome = self.attend_to_cut(files, role);
@@ -149,6 +155,7 @@ impl<'a> Folder<'a> {
     ) -> Result<(), Failure<'a>>
         ensures looked { OnlyLooked C.tells C.system C.images C.moment C.since C.next files.old.calls files.new.calls }
         ensures main { role ≡ Main → IsTrue (is_some self.old.main.identity) → OnOk result (IsTrue C.tells → IsGuarded (looks_at C.system C.found files.new.calls) self.new) }
+        ensures mark { self.new.mark ≡ self.old.mark }
     {
         match role {
             Role::Main => {
@@ -166,7 +173,7 @@ impl<'a> Folder<'a> {
         files: &mut OpenFiles<C>,
         role: Role,
     ) -> Result<(), Failure<'a>>
-        ensures { OnlyLooked C.tells C.system C.images C.moment C.since C.next files.old.calls files.new.calls }
+        ensures looked { OnlyLooked C.tells C.system C.images C.moment C.since C.next files.old.calls files.new.calls }
     {
         self.enter(files)?;
         let outcome = self.file_mut(role).attend(files);
@@ -180,6 +187,7 @@ impl<'a> Folder<'a> {
     ) -> Result<(), Failure<'a>>
         ensures looked { OnlyLooked C.tells C.system C.images C.moment C.since C.next files.old.calls files.new.calls }
         ensures journal { role ≡ Journal → IsTrue (is_some self.old.main.identity) → OnOk result (IsTrue C.tells → IsGuarded (looks_at C.system C.found files.new.calls) self.new) }
+        ensures mark { self.old.is_entered ≡ true → self.new.mark ≡ self.old.mark }
     {
         self.enter_to_change(files)?;
         // The journal and the new file are to be like Main.
@@ -200,6 +208,7 @@ impl<'a> Folder<'a> {
     ) -> Result<(), Failure<'a>>
         ensures looked { OnlyLooked C.tells C.system C.images C.moment C.since C.next files.old.calls files.new.calls }
         ensures journal { role ≡ Journal → IsTrue (is_some self.old.main.identity) → OnOk result (IsTrue C.tells → IsGuarded (looks_at C.system C.found files.new.calls) self.new) }
+        ensures mark { self.new.mark ≡ self.old.mark }
     {
         match role {
             Role::Main => self.main.unbarred(),
@@ -219,6 +228,7 @@ impl<'a> Folder<'a> {
     ) -> Result<(), Failure<'a>>
         ensures looked { OnlyLooked C.tells C.system C.images C.moment C.since C.next files.old.calls files.new.calls }
         ensures guarded { IsTrue (is_some self.old.main.identity) → OnOk result (IsTrue C.tells → IsGuarded (looks_at C.system C.found files.new.calls) self.new) }
+        ensures mark { self.new.mark ≡ self.old.mark }
     {
         self.guard(&files.calls, true)?;
         self.main.attend_to_write_where(files, has_model)?;
@@ -234,6 +244,7 @@ impl<'a> Folder<'a> {
     ) -> Result<(), Failure<'a>>
         ensures looked { OnlyLooked C.tells C.system C.images C.moment C.since C.next files.old.calls files.new.calls }
         ensures journal { role ≡ Journal → IsTrue (is_some self.old.main.identity) → OnOk result (IsTrue C.tells → IsGuarded (looks_at C.system C.found files.new.calls) self.new) }
+        ensures mark { self.old.is_entered ≡ true → self.new.mark ≡ self.old.mark }
     {
         self.enter_to_change(files)?;
         let outcome = self.attend_to_remove(files, role);
@@ -247,6 +258,7 @@ impl<'a> Folder<'a> {
     ) -> Result<(), Failure<'a>>
         ensures looked { OnlyLooked C.tells C.system C.images C.moment C.since C.next files.old.calls files.new.calls }
         ensures journal { role ≡ Journal → IsTrue (is_some self.old.main.identity) → OnOk result (IsTrue C.tells → IsGuarded (looks_at C.system C.found files.new.calls) self.new) }
+        ensures mark { self.new.mark ≡ self.old.mark }
     {
         match role {
             Role::Main => self.main.unbarred(),
@@ -259,6 +271,7 @@ impl<'a> Folder<'a> {
     fn attend_to_drop<C: Calls>(&mut self, files: &mut OpenFiles<C>) -> Result<(), Failure<'a>>
         ensures looked { OnlyLooked C.tells C.system C.images C.moment C.since C.next files.old.calls files.new.calls }
         ensures guarded { IsTrue (is_some self.old.main.identity) → OnOk result (IsTrue C.tells → IsGuarded (looks_at C.system C.found files.new.calls) self.new) }
+        ensures mark { self.new.mark ≡ self.old.mark }
     {
         self.guard(&files.calls, true)?;
         if self.purpose != Purpose::LayLog {
@@ -271,7 +284,8 @@ impl<'a> Folder<'a> {
 
     // Only what a stop has left of an earlier new file is removed, or its second name.
     fn attend_to_clear<C: Calls>(&mut self, files: &mut OpenFiles<C>) -> Result<(), Failure<'a>>
-        ensures { OnlyLooked C.tells C.system C.images C.moment C.since C.next files.old.calls files.new.calls }
+        ensures looked { OnlyLooked C.tells C.system C.images C.moment C.since C.next files.old.calls files.new.calls }
+        ensures mark { self.new.mark ≡ self.old.mark }
     {
         let is_there = self.fresh.measure(files)?.is_some();
         let calls = &files.calls;
@@ -293,6 +307,7 @@ impl<'a> Folder<'a> {
         ensures main { OnOk result (IsTrue C.tells → IsTrue (is_some self.new.main.identity) → IsGuarded (looks_at C.system C.found files.new.calls) self.new) }
         ensures absent { OnOk result (IsTrue C.tells → self.new.main.identity ≡ None → (looks_at C.system C.found files.new.calls).at_name self.new.main.role ≡ None) }
         ensures no_journal { OnOk result (IsTrue C.tells → (looks_at C.system C.found files.new.calls).at_name self.new.journal.role ≡ None) }
+        ensures mark { self.old.is_entered ≡ true → self.new.mark ≡ self.old.mark }
     {
         self.enter_to_change(files)?;
         let outcome = self.check_to_rename(&files.calls);
@@ -304,6 +319,7 @@ impl<'a> Folder<'a> {
         ensures main { OnOk result (IsTrue C.tells → IsTrue (is_some self.new.main.identity) → IsGuarded (looks_at C.system C.found calls.now) self.new) }
         ensures absent { OnOk result (IsTrue C.tells → self.new.main.identity ≡ None → (looks_at C.system C.found calls.now).at_name self.new.main.role ≡ None) }
         ensures no_journal { OnOk result (IsTrue C.tells → (looks_at C.system C.found calls.now).at_name self.new.journal.role ≡ None) }
+        ensures mark { self.new.mark ≡ self.old.mark }
     {
         if !self.fresh.is_named(calls)? {
             return Err(Failure::of(self.fresh.path(), Conflict::Replaced));
@@ -335,6 +351,7 @@ impl<'a> Folder<'a> {
         ensures looked { OnlyLooked C.tells C.system C.images C.moment C.since C.next files.old.calls files.new.calls }
         ensures main { IsTrue (is_some self.old.main.identity) → self.new.main.identity ≡ self.old.main.identity }
         ensures journal { self.new.journal ≡ self.old.journal }
+        ensures again { self.old.is_entered ≡ true → self.new ≡ self.old }
     {
         if let Some(failure) = self.stopped {
             return Err(failure);
@@ -371,6 +388,7 @@ impl<'a> Folder<'a> {
         ensures looked { OnlyLooked C.tells C.system C.images C.moment C.since C.next files.old.calls files.new.calls }
         ensures main { IsTrue (is_some self.old.main.identity) → self.new.main.identity ≡ self.old.main.identity }
         ensures journal { self.new.journal ≡ self.old.journal }
+        ensures again { self.old.is_entered ≡ true → self.new ≡ self.old }
     {
         self.enter(files)?;
         if self.purpose == Purpose::ReadLog {

@@ -1,7 +1,7 @@
 // The files behind a run: what a stop has left is taken back, and what stands there is looked at. It is no part of the disk that a run is
 // proved over.
 ghost use Rattle.std.specs.Prelude.{◌≡◌, false, IsTrue};
-ghost use Rattle.edge_files.specs.Pair.{KeepsPair};
+ghost use Rattle.edge_files.specs.Pair.{KeepsPair, TakesBack};
 
 use crate::folder::Folder;
 use crate::host_calls::HostCalls;
@@ -51,34 +51,46 @@ impl<'a> Folder<'a> {
     pub(crate) fn take_back<C: Calls>(&mut self, calls: &mut C)
         ensures kept { self.old.is_met ≡ false → IsTrue C.tells → KeepsPair C.system C.images C.moment C.since calls.old calls.new }
         ensures others_new { self.old.is_met ≡ false → self.old.fresh.is_made ≡ false → calls.new ≡ calls.old }
+        ensures taken { IsTrue C.tells → TakesBack (C.system calls.old) (C.system calls.new) }
     {
-        if self.is_met {
-            self.put_back(calls);
-        }
+        self.put_back(calls);
         self.drop_fresh(calls);
     }
 
-    // The last writes are put back.
-    fn put_back<C: Calls>(&mut self, calls: &mut C) {
+    // Where others were met, the last writes are put back.
+    fn put_back<C: Calls>(&mut self, calls: &mut C)
+        ensures unmet { self.old.is_met ≡ false → (calls.new ≡ calls.old) × (self.new ≡ self.old) }
+        ensures taken { IsTrue C.tells → TakesBack (C.system calls.old) (C.system calls.new) }
+    {
+        if !self.is_met {
+            return;
+        }
         self.undo.put_back(calls, &self.main);
         self.undo.clear();
         self.drop_orphan(calls);
     }
 
     // The journal of a file that has no name any more would be played into what has its name now.
-    fn drop_orphan<C: Calls>(&mut self, calls: &mut C) {
-        let is_own = self.journal.is_made() && self.journal.is_named(calls).unwrap_or(false);
-        if is_own && self.main.is_nameless(calls) && calls.remove(Role::Journal).is_ok() {
-            self.journal.note_removed();
-            self.deeds.has_dropped_orphan = true;
-            let _ = calls.sync_folder();
+    fn drop_orphan<C: Calls>(&mut self, calls: &mut C)
+        ensures others { self.old.journal.is_made ≡ false → calls.new ≡ calls.old }
+        ensures taken { IsTrue C.tells → TakesBack (C.system calls.old) (C.system calls.new) }
+    {
+        if !self.journal.is_made() || !self.journal.is_named(calls).unwrap_or(false) {
+            return;
         }
+        if !self.main.is_nameless(calls) || calls.remove(Role::Journal).is_err() {
+            return;
+        }
+        self.journal.note_removed();
+        self.deeds.has_dropped_orphan = true;
+        let _ = calls.sync_folder();
     }
 
     // The new file goes, where this run has made it and it still has its name.
     fn drop_fresh<C: Calls>(&mut self, calls: &mut C)
         ensures kept { IsTrue C.tells → KeepsPair C.system C.images C.moment C.since calls.old calls.new }
         ensures others_new { self.old.fresh.is_made ≡ false → calls.new ≡ calls.old }
+        ensures taken { IsTrue C.tells → TakesBack (C.system calls.old) (C.system calls.new) }
     {
         if !self.fresh.is_made() {
             return;

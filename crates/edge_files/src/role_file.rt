@@ -1,9 +1,10 @@
 // One file of the folder.
 ghost use Rattle.std.specs.Prelude.{◌≡◌, ◌≤◌, ◌<◌, ◌⊎◌, ◌+◌, min, max, length, take, true, None, Some, IfOk, IfSome, OnOk, OnErr, IsTrue, is_some, unwrap_or};
+ghost use Rattle.std.specs.List.{list_all};
 ghost use Rattle.std.specs.Option.{option_map};
 ghost use Rattle.edge_files.specs.Around.{OnlyLooked};
 ghost use Rattle.edge_files.specs.Known.{IsWhole, end_of};
-ghost use Rattle.edge_files.specs.Looks.{IsStillNamed, looks_at, mark_at};
+ghost use Rattle.edge_files.specs.Looks.{IsStillNamed, is_zero, looks_at, mark_at};
 ghost use Rattle.edge_model.specs.Files.{read_from};
 
 use crate::failure::{Conflict, Failure, failed, not_regular, of_file};
@@ -225,10 +226,12 @@ impl<'a> RoleFile<'a> {
 
     /// Whether the open file is empty or its first page is zeros: what a new file is until it is done, since its first page is
     /// written last.
-    pub fn is_unfinished<C: Calls>(&self, calls: &C) -> Result<bool, Failure<'a>> {
+    pub fn is_unfinished<C: Calls>(&self, calls: &C) -> Result<bool, Failure<'a>>
+        ensures zeros { IfOk result (λ is. IsTrue C.tells → is ≡ list_all is_zero (take 512 ((looks_at C.system C.found calls.now).bytes self.now.role))) }
+    {
         let mut page = [0u8; LEAST_PAGE];
-        self.read_at(calls, 0, &mut page)?;
-        Ok(page.iter().all(|byte| *byte == 0))
+        let count = self.read_at(calls, 0, &mut page)?;
+        Ok(are_zeros(&page[..count]))
     }
 
     // ---- the file is opened
@@ -406,6 +409,12 @@ impl<'a> RoleFile<'a> {
         other.known = self.known;
         self.note_removed();
     }
+}
+
+fn are_zeros(bytes: &[u8]) -> bool
+    ensures { result ≡ list_all is_zero bytes.now }
+{
+    bytes.iter().all(|byte| *byte == 0)
 }
 
 fn cut_short<'a>(path: &'a str) -> Failure<'a> {
