@@ -22,8 +22,10 @@
 #![tactic(auto)]
 
 mod ahead;
+mod beginning;
 mod changed;
 mod children;
+mod ending;
 mod file;
 mod fill;
 mod main_file;
@@ -38,6 +40,7 @@ mod window;
 
 pub use ahead::read_ahead;
 pub use atomic_commit::CommitFault;
+pub use beginning::{BeginError, is_same_layout};
 pub use changed::ChangedPages;
 pub use db_format::PageSource;
 pub use file::OpenedFile;
@@ -45,5 +48,5 @@ pub use fill::PageError;
 pub use main_file::{MAX_PAGE, file_length, read_main, read_page};
 pub use opening::{OpenError, codec_of, served_length};
 pub use pager::Pager;
-pub use txn::{BeginError, Txn, is_same_layout};
+pub use txn::Txn;
 pub use window::{Wanted, Window, window_bytes};

@@ -1,44 +1,32 @@
 // A transaction of any size: pages are changed in frames. Where more pages are changed than there are frames, the changed pages are
 // written before the commit, behind records of their old bytes.
-ghost use Rattle.std.specs.Prelude.{◌≡◌, ◌≢◌, ◌≤◌, ◌<◌, ◌+◌, ◌-◌, ◌*◌, ◌==◌, ◌⊎◌, [], ℕ, length, take, vec_len, true, false, Some, None, Err, IsOk, IfOk, IfErr, IsErrAnd, OnOk, IsTrue, if◌then◌else◌, replicate};
+ghost use Rattle.std.specs.Prelude.{◌≡◌, ◌≢◌, ◌≤◌, ◌<◌, ◌+◌, ◌-◌, ◌*◌, ◌==◌, ◌⊎◌, ℕ, length, take, vec_len, true, false, Some, None, Err, IfOk, IfErr, OnOk, IsTrue, if◌then◌else◌, replicate};
 ghost use Rattle.std.specs.List.{range_with_len};
 ghost use Rattle.edge_model.specs.Causes.{HasCause, Rose};
-ghost use Rattle.edge_model.specs.Images.{Each, From, LeavesOnly};
+ghost use Rattle.edge_model.specs.Images.{From, LeavesOnly};
 ghost use Rattle.cipher_profile.specs.Profile.{is_plain, usable};
 ghost use Rattle.page_cache.specs.Pages.{held_bytes, is_held};
 ghost use Rattle.page_codec.specs.Page.{magic};
 ghost use Rattle.edge_model.specs.Files.{main_of};
 ghost use Rattle.atomic_commit.specs.Batches.{HasMarked};
-ghost use Rattle.atomic_commit.specs.Commit.{IsCommitted, LeavesChanged};
-ghost use Rattle.atomic_commit.specs.Database.{HoldsEither, HoldsOld, stored_pages};
-ghost use Rattle.atomic_commit.specs.Facts.{IsBase, IsCommitBegun, SameFresh};
+ghost use Rattle.atomic_commit.specs.Database.{HoldsOld};
+ghost use Rattle.atomic_commit.specs.Facts.{SameFresh};
 ghost use Rattle.atomic_commit.specs.Marks.{marked_count};
 ghost use Rattle.pager.specs.Ahead.{IsAhead, IsAhead-prop};
-ghost use Rattle.pager.specs.Changed.{HasMagic, same_layout, unchanged, with_bytes};
+ghost use Rattle.pager.specs.Changed.{HasMagic, unchanged, with_bytes};
 ghost use Rattle.pager.specs.Pages.{is_page_number};
 ghost use Rattle.pager.specs.Reads.{DiskRead, Untouched};
-ghost use Rattle.pager.specs.UnderWay.{HasNewPages, lent_out, IsReadyFor, IsRefusedAs, IsUnderWay, MayRefuseAs, Start, is_failure, is_touched, seen_pages};
+ghost use Rattle.pager.specs.UnderWay.{lent_out, IsReadyFor, IsRefusedAs, IsUnderWay, MayRefuseAs, Start, is_failure, is_touched, seen_pages};
 
 use crate::ahead::read_plain_ahead;
 use crate::changed::ChangedPages;
 use crate::fill::{PageError, read_plain};
-use crate::pager::Pager;
-use crate::spilled::{end_frames, write_frames};
+use crate::spilled::write_frames;
 use crate::window::Window;
-use atomic_commit::{CommitFault, PageMarks, guard_ahead, undo_batches};
+use atomic_commit::{CommitFault, PageMarks, guard_ahead};
 use edge_model::{Disk, Entropy, Failed};
 use page_codec::{Codec, MAGIC};
 use rollback_journal::JournalWriter;
-use std::alloc::Global;
-
-/// Why a transaction was not begun.
-#[derive(Clone, Copy, Debug, PartialEq, Eq)]
-pub enum BeginError {
-    /// The codec for writing has pages of another length, another reserve or another setting.
-    LayoutDiffers,
-    /// Memory ran out.
-    OutOfMemory,
-}
 
 /// Changes of pages, as many as there are. The changed pages stand in frames, and leave them for Main where more are changed. A call may
 /// follow only where no earlier one answered that the disk or the entropy failed.
@@ -55,16 +43,16 @@ pub struct Txn<'d, D: Disk, E: Entropy> {
     // the pages that were written, each after its record
     pub(crate) written: PageMarks,
     pub(crate) writer: JournalWriter,
-    draws: Vec<u8>,
+    pub(crate) draws: Vec<u8>,
     // as many stored pages as there are frames
-    batch: Vec<u8>,
+    pub(crate) batch: Vec<u8>,
     // a page as it is stored
-    stored: Vec<u8>,
+    pub(crate) stored: Vec<u8>,
     // the page that was read last
     pub(crate) plain: Vec<u8>,
     // pages that were read before they are asked for
-    window: Window,
-    ahead: Vec<u8>,
+    pub(crate) window: Window,
+    pub(crate) ahead: Vec<u8>,
     // the page that was loaded last, 0 for none
     pub(crate) last: u32,
     ghost layout: { (write.profile.page_size ≡ read.profile.page_size) × (write.profile.reserve ≡ read.profile.reserve) },
@@ -78,14 +66,6 @@ pub struct Txn<'d, D: Disk, E: Entropy> {
     ghost journal: { (writer.page_size ≡ write.profile.page_size) × (writer.initial ≡ count) },
     ghost marks: { length written ≡ count },
     ghost before: { IsTrue D.tells → IsAhead read (main_of (D.reads disk.now)) window ahead.items } by { λ f g i told. IsAhead-prop read (main_of (D.reads disk.now)) window ahead.items (f told) (g told) i },
-}
-
-/// Whether both codecs have pages of one length and one reserve, and the setting of both is one.
-pub fn is_same_layout(read: &Codec, write: &Codec) -> bool
-    ensures { result ≡ same_layout read.now write.now }
-{
-    let (old, new) = (*read.profile(), *write.profile());
-    old.page_size == new.page_size && old.reserve == new.reserve && old.reads_log == new.reads_log
 }
 
 impl<'d, D: Disk, E: Entropy> Txn<'d, D, E> {
@@ -492,236 +472,5 @@ impl<'d, D: Disk, E: Entropy> Txn<'d, D, E> {
             Err(CommitFault::DiskFault) => Err(PageError::DiskFault),
             Err(CommitFault::EntropyFault) => Err(PageError::EntropyFault),
         }
-    }
-}
-
-impl<'d, D: Disk, E: Entropy> Txn<'d, D, E> {
-    /// Ends the transaction: the changed pages that stand in frames are sealed, each with bytes of its own that are drawn here, and written
-    /// so that a stop at any moment leaves all changes or none. Where none was changed, no call is made. The disk and the entropy come back
-    /// in any case.
-    #[tactic(auto, using(crate::proofs::EndingLemmas::room_enough))]
-    pub fn end(self) -> (&'d mut D, &'d mut E, Result<(), CommitFault>)
-        ghost start: { Start }
-        requires sizes { (self.write.profile.page_size ≡ start.base.size) × (self.count ≡ start.base.pages) }
-        requires base_is { IsBase start.base }
-        requires ready { IsReadyFor self.recorded self.writer }
-        requires under_way { IsTrue D.tells → IsUnderWay start self.write self.recorded self.written self.writer (D.reads self.disk.now)
-            (D.images self.disk.now) E.tells (E.drawn self.entropy.now) }
-        ensures disk { result.0.ghost_name ≡ self.entry.disk.ghost_name }
-        ensures entropy { result.1.ghost_name ≡ self.entry.entropy.ghost_name }
-        ensures changed { OnOk result.2 (IsTrue D.tells → HasNewPages start self.entry.write (is_touched self.entry.written self.entry.changed.held)
-            (λ n. (seen_pages self.entry.read self.entry.write (main_of (D.reads self.entry.disk.now)) self.entry.count self.entry.written self.entry.changed.held).page n)
-            E.tells (E.drawn result.1.now) (main_of (D.reads result.0.now))) }
-        ensures new { OnOk result.2 (IsTrue D.tells → Each (D.images result.0.now) (IsCommitted start.base (main_of (D.reads result.0.now)))) }
-        // no page was changed at all, and no call was made; or each image has Main as it reads
-        ensures settled { OnOk result.2 (IsTrue D.tells → ((self.entry.changed.numbers ≡ []) × (marked_count self.entry.recorded ≡ 0) × (result.0.now ≡ self.entry.disk.now))
-            ⊎ Each (D.images result.0.now) (λ c. c.main ≡ (D.reads result.0.now).main)) }
-        ensures one_new { OnOk result.2 (IsTrue D.tells → LeavesOnly D.moment D.since self.entry.disk.now result.0.now
-            (HoldsEither start.base (stored_pages start.base.size start.base.pages (main_of (D.reads result.0.now))))) }
-        ensures any_moment { IsTrue D.tells → LeavesChanged D.moment D.since start.base (HasNewPages start self.entry.write (is_touched self.entry.written self.entry.changed.held)
-            (λ n. (seen_pages self.entry.read self.entry.write (main_of (D.reads self.entry.disk.now)) self.entry.count self.entry.written self.entry.changed.held).page n)
-            E.tells (E.drawn result.1.now)) self.entry.disk.now result.0.now }
-        ensures only_old { result.2 ≡ Err CommitFault.EntropyFault → IsTrue D.tells → LeavesOnly D.moment D.since self.entry.disk.now result.0.now (HoldsOld start.base) }
-        ensures fresh { IsTrue D.tells → LeavesOnly D.moment D.since self.entry.disk.now result.0.now (From SameFresh (D.images self.entry.disk.now)) }
-        ensures none { self.entry.changed.numbers ≡ [] → marked_count self.entry.recorded ≡ 0 → IsOk result.2 × (result.0.now ≡ self.entry.disk.now)
-            × (result.1.now ≡ self.entry.entropy.now) }
-        ensures disk_fault { result.2 ≡ Err CommitFault.DiskFault → Rose (D.faults self.entry.disk.now) (D.faults result.0.now) }
-        ensures entropy_fault { result.2 ≡ Err CommitFault.EntropyFault → Rose (E.faults self.entry.entropy.now) (E.faults result.1.now) }
-        ensures disk_later { D.faults self.entry.disk.now ≤ D.faults result.0.now }
-        ensures entropy_later { E.faults self.entry.entropy.now ≤ E.faults result.1.now }
-    {
-        let Txn {
-            disk,
-            entropy,
-            read: _,
-            write,
-            count: _,
-            changed,
-            mut recorded,
-            written,
-            mut writer,
-            mut draws,
-            mut batch,
-            mut stored,
-            plain: _,
-            window: _,
-            ahead: _,
-            last: _,
-        } = self;
-        let _listed = changed.len();
-        let done = end_frames(
-            &mut *disk,
-            &mut *entropy,
-            &mut writer,
-            &mut recorded,
-            &written,
-            &write,
-            &changed,
-            &mut draws,
-            &mut batch,
-            &mut stored,
-        );
-        (disk, entropy, done)
-    }
-
-    /// The disk and the entropy, as a call that failed left them. No call is made: what was written stays, and a recovery lays the old
-    /// pages back.
-    pub fn into_parts(self) -> (&'d mut D, &'d mut E)
-        ensures disk { (result.0.ghost_name ≡ self.entry.disk.ghost_name) × (result.0.now ≡ self.entry.disk.now) }
-        ensures entropy { (result.1.ghost_name ≡ self.entry.entropy.ghost_name) × (result.1.now ≡ self.entry.entropy.now) }
-    {
-        let Txn {
-            disk,
-            entropy,
-            read: _,
-            write: _,
-            count: _,
-            changed: _,
-            recorded: _,
-            written: _,
-            writer: _,
-            draws: _,
-            batch: _,
-            stored: _,
-            plain: _,
-            window: _,
-            ahead: _,
-            last: _,
-        } = self;
-        (disk, entropy)
-    }
-
-    /// Takes all changes back: Main has its old pages again, and the journal is removed. Where none was written, no call is made. The disk
-    /// and the entropy come back in any case.
-    pub fn abandon(self) -> (&'d mut D, &'d mut E, Result<(), Failed>)
-        ghost start: { Start }
-        requires sizes { (self.write.profile.page_size ≡ start.base.size) × (self.count ≡ start.base.pages) }
-        requires base_is { IsBase start.base }
-        requires ready { IsReadyFor self.recorded self.writer }
-        requires under_way { IsTrue D.tells → IsUnderWay start self.write self.recorded self.written self.writer (D.reads self.disk.now)
-            (D.images self.disk.now) E.tells (E.drawn self.entropy.now) }
-        ensures disk { result.0.ghost_name ≡ self.entry.disk.ghost_name }
-        ensures entropy { (result.1.ghost_name ≡ self.entry.entropy.ghost_name) × (result.1.now ≡ self.entry.entropy.now) }
-        ensures old { OnOk result.2 (IsTrue D.tells → Each (D.images result.0.now) (λ c. HoldsOld start.base c × (c.journal ≡ None))) }
-        ensures any_moment { IsTrue D.tells → LeavesOnly D.moment D.since self.entry.disk.now result.0.now (HoldsOld start.base) }
-        ensures fresh { IsTrue D.tells → LeavesOnly D.moment D.since self.entry.disk.now result.0.now (From SameFresh (D.images self.entry.disk.now)) }
-        ensures none { marked_count self.entry.recorded ≡ 0 → IsOk result.2 × (result.0.now ≡ self.entry.disk.now) }
-        ensures cause { HasCause (D.faults self.entry.disk.now) (D.faults result.0.now) result.2 }
-    {
-        let Txn {
-            disk,
-            entropy,
-            read: _,
-            write: _,
-            count: _,
-            changed: _,
-            recorded,
-            written: _,
-            mut writer,
-            draws: _,
-            batch: _,
-            stored: _,
-            plain: _,
-            window: _,
-            ahead: _,
-            last: _,
-        } = self;
-        let done = undo_batches(&mut *disk, &mut writer, &recorded);
-        (disk, entropy, done)
-    }
-}
-
-impl<'d, D: Disk, E: Entropy> Pager<'d, D, E> {
-    /// Begins a transaction that may change all pages. Its changed pages are sealed under this codec, and stand in so many frames, out of which they are written
-    /// where more are changed. All memory of the transaction is taken here, and neither the disk nor the entropy is called. The frames for
-    /// reading are let go.
-    pub fn begin(
-        self,
-        alloc: Global,
-        write: Codec,
-        frames: u32,
-    ) -> Result<Txn<'d, D, E>, (Pager<'d, D, E>, BeginError)>
-        ghost start: { Start }
-        requires frames { (1 ≤ frames) × (frames ≤ 64) }
-        requires sizes { (self.codec.profile.page_size ≡ start.base.size) × (self.count ≡ start.base.pages) }
-        requires drawn { start.drawn ≡ E.drawn self.entropy.now }
-        requires begun { IsTrue D.tells → IsCommitBegun start.base (D.images self.disk.now) }
-        ensures disk { IfOk result (λ t. (t.disk.ghost_name ≡ self.entry.disk.ghost_name) × (t.disk.now ≡ self.entry.disk.now)) }
-        ensures entropy { IfOk result (λ t. (t.entropy.ghost_name ≡ self.entry.entropy.ghost_name) × (t.entropy.now ≡ self.entry.entropy.now)) }
-        ensures file { IfOk result (λ t. (t.read ≡ self.entry.codec) × (t.write ≡ write) × (t.count ≡ self.entry.count)) }
-        ensures unchanged { IfOk result (λ t. (t.changed.held ≡ []) × (marked_count t.recorded ≡ 0)) }
-        ensures untouched { IfOk result (λ t. (n : ℕ) → is_touched t.written t.changed.held n ≡ false) }
-        ensures room { IfOk result (λ t. t.changed.frames ≤ frames) }
-        ensures ready { IfOk result (λ t. IsReadyFor t.recorded t.writer) }
-        ensures under_way { IfOk result (λ t. IsTrue D.tells → IsUnderWay start write t.recorded t.written t.writer (D.reads t.disk.now) (D.images t.disk.now)
-            E.tells (E.drawn t.entropy.now)) }
-        ensures back { IfErr result (λ e. (e.0.disk.ghost_name ≡ self.entry.disk.ghost_name) × (e.0.disk.now ≡ self.entry.disk.now)
-            × (e.0.entropy.ghost_name ≡ self.entry.entropy.ghost_name) × (e.0.entropy.now ≡ self.entry.entropy.now) × (e.0.codec ≡ self.entry.codec)
-            × (e.0.header ≡ self.entry.header) × (e.0.count ≡ self.entry.count) × (e.0.cache ≡ self.entry.cache)) }
-        ensures layout { IfErr result (λ e. e.1 ≡ BeginError.LayoutDiffers → same_layout self.entry.codec write ≡ false) }
-        ensures differs { same_layout self.entry.codec write ≡ false → IsErrAnd result (λ e. e.1 ≡ BeginError.LayoutDiffers) }
-    {
-        if !is_same_layout(&self.codec, &write) {
-            return Err((self, BeginError::LayoutDiffers));
-        }
-        let profile = *write.profile();
-        let frames = if self.count < frames {
-            self.count
-        } else {
-            frames
-        };
-        let Ok(changed) = ChangedPages::new(alloc, frames, profile.usable(), self.count) else {
-            return Err((self, BeginError::OutOfMemory));
-        };
-        let Ok(recorded) = PageMarks::new(alloc, self.count) else {
-            return Err((self, BeginError::OutOfMemory));
-        };
-        let Ok(written) = PageMarks::new(alloc, self.count) else {
-            return Err((self, BeginError::OutOfMemory));
-        };
-        let Ok(writer) = JournalWriter::new(alloc, profile.page_size, self.count) else {
-            return Err((self, BeginError::OutOfMemory));
-        };
-        let Ok(draws) = vec![in alloc; 0u8; frames as usize * profile.reserve as usize] else {
-            return Err((self, BeginError::OutOfMemory));
-        };
-        let Ok(stored) = vec![in alloc; 0u8; profile.page_size as usize] else {
-            return Err((self, BeginError::OutOfMemory));
-        };
-        let Ok(plain) = vec![in alloc; 0u8; profile.usable()] else {
-            return Err((self, BeginError::OutOfMemory));
-        };
-        let Ok(batch) = vec![in alloc; 0u8; frames as usize * profile.page_size as usize] else {
-            return Err((self, BeginError::OutOfMemory));
-        };
-        let Pager {
-            disk,
-            entropy,
-            codec,
-            header: _,
-            count,
-            cache: _,
-            window,
-            ahead,
-            last: _,
-        } = self;
-        Ok(Txn {
-            disk,
-            entropy,
-            read: codec,
-            write,
-            count,
-            changed,
-            recorded,
-            written,
-            writer,
-            draws,
-            batch,
-            stored,
-            plain,
-            window,
-            ahead,
-            last: 0,
-        })
     }
 }
