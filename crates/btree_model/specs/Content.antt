@@ -19,6 +19,11 @@ pub record Entry : Type 0 where
 abbrev pub entry_of : Row → Entry
 entry_of row = record { rowid = row.rowid; payload = row.payload }
 
+-- the last rowid behind an entry: its own, where it has one
+abbrev pub last_after : Option ℤ → Option ℤ → Option ℤ
+last_after last None = last
+last_after last (Some rowid) = Some rowid
+
 -- a schema row: with a tree its rowid, its columns without the root page, the family and the entries of its tree;
 -- without one its rowid and its payload
 pub data SchemaItem : Type 0 where

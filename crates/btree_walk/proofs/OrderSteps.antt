@@ -11,7 +11,8 @@ use Rattle.btree_model.proofs.FindingLemmas.{entries-append}
 use Rattle.btree_model.proofs.ProperLemmas.{keys-append}
 use Rattle.btree_model.proofs.UnmarkedLemmas.{or_left, or_right}
 use Rattle.btree_model.proofs.OrderLemmas.{IsFloor, floor_rises, floor_stays, AreAtMost, none_late, last_late, is_at_most}
-use Rattle.btree_walk.specs.Order.{IsCovered, IsAfter, IsOrdered, low_by, low_of, raised_of, last_after, page_after}
+use Rattle.btree_model.specs.Content.{last_after}
+use Rattle.btree_walk.specs.Order.{IsCovered, IsAfter, IsOrdered, low_by, low_of, raised_of, page_after}
 
 -- the two spellings of the test
 low_is : (floor : Option ℤ) (r : ℤ) → low_by floor r ≡ is_at_most r floor

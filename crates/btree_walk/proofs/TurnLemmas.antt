@@ -23,11 +23,12 @@ use Rattle.btree_model.proofs.FindingLemmas.{entries-append, places-append, also
 use Rattle.btree_model.proofs.ProperLemmas.{keys-append}
 use Rattle.btree_model.proofs.RestLemmas.{rest-step, rest-down, Stands-on, Stands-fault, Stands-place, Stands-refused, Stands-start}
 use Rattle.btree_model.proofs.UnmarkedLemmas.{or_left, or_right}
+use Rattle.btree_model.specs.Content.{last_after}
 use Rattle.btree_walk.specs.Causes.{IsAmong, IsMarked}
 use Rattle.btree_walk.specs.declared.error.WalkError.{WalkError}
 use Rattle.btree_walk.specs.declared.error.WalkError.TheVariants.{Defect as Found, Source, OutOfMemory}
 use Rattle.btree_walk.specs.Chain.{IsCut, IsPaid}
-use Rattle.btree_walk.specs.Order.{IsOrdered, late_of, low_of, raised_of, last_after, page_after}
+use Rattle.btree_walk.specs.Order.{IsOrdered, late_of, low_of, raised_of, page_after}
 use Rattle.btree_walk.specs.declared.path.Frame.{Frame}
 use Rattle.btree_walk.specs.Turn.{IsOpen, steps_of_reading, todo_of, path_of, IsInside, IsNode, IsEntered, IsEnterStop, IsUnread, IsNodeOpened, defect_of, visit_defect, reading_defect}
 use Rattle.btree_walk.proofs.CauseLemmas.{named_is_page}

@@ -34,6 +34,12 @@ IsGivenBy read plain refuses before (Defect defect) = ⊤
 IsGivenBy read plain refuses before (Source refusal) = IsGiven read plain refuses before refusal
 IsGivenBy read plain refuses before OutOfMemory = ⊤
 
+-- a walk may stop so whose source refuses its pages in these ways alone
+abbrev pub IsWalkStop : {R : Type 0} → (R → Type 0) → WalkError R → Type 0
+IsWalkStop refuses (Defect defect) = ⊤
+IsWalkStop refuses (Source refusal) = refuses refusal
+IsWalkStop refuses OutOfMemory = ⊤
+
 -- the error is a refusal that says that the device failed
 abbrev pub is_failure : {R : Type 0} → (R → Bool) → WalkError R → Bool
 is_failure is_fault (Defect defect) = false

@@ -15,9 +15,10 @@ use Rattle.btree_walk.specs.declared.error.WalkError.TheVariants.{Defect as Foun
 use Rattle.btree_walk.specs.declared.turn.Moved.{Moved}
 use Rattle.btree_walk.specs.declared.turn.Moved.TheVariants.{Up, Down, Passed, Gave}
 use Rattle.btree_walk.specs.Causes.{IsAmong, IsMarked}
-use Rattle.btree_walk.specs.Order.{IsAfter, IsCovered, last_after}
+use Rattle.btree_walk.specs.Order.{IsAfter, IsCovered}
 use Rattle.btree_walk.specs.Pins.{path_pins}
 use Rattle.btree_walk.specs.Turn.{AreInside, IsInside}
+use Rattle.btree_model.specs.Content.{last_after}
 
 -- ---- what is walked
 

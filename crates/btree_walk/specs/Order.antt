@@ -24,11 +24,6 @@ abbrev pub raised_of : Option ℤ → ℤ → Option ℤ
 raised_of None key = Some key
 raised_of (Some most) key = if int_le key most then Some most else Some key
 
--- the rowid of an entry, or the one before
-abbrev pub last_after : Option ℤ → Option ℤ → Option ℤ
-last_after last None = last
-last_after last (Some rowid) = Some rowid
-
 -- the page of an entry where it has a rowid, or the one before
 abbrev pub page_after : ℕ → Option ℤ → ℕ → ℕ
 page_after last None page = last

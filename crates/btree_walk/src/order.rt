@@ -1,6 +1,7 @@
 // The rule of rowids, section 1.6.
 ghost use Rattle.std.specs.Prelude.{◌≡◌};
-ghost use Rattle.btree_walk.specs.Order.{last_after, late_of, low_of, page_after, raised_of};
+ghost use Rattle.btree_walk.specs.Order.{late_of, low_of, page_after, raised_of};
+ghost use Rattle.btree_model.specs.Content.{last_after};
 
 // The last rowid is above this key.
 pub(crate) fn is_late(last: Option<i64>, key: i64) -> bool

@@ -5,8 +5,8 @@ ghost use Rattle.btree_page.specs.declared.kind.Family.TheVariants.{Table, Index
 ghost use Rattle.btree_page.specs.declared.kind.Kind.TheVariants.{IndexLeaf, TableLeaf};
 ghost use Rattle.btree_page.specs.Kind.{is_interior};
 ghost use Rattle.btree_page.specs.Payload.{local_len, max_payload};
-ghost use Rattle.btree_model.specs.Content.{Entry};
-ghost use Rattle.load_model.specs.Stands.{IsNonePut, is_at_most, last_after};
+ghost use Rattle.btree_model.specs.Content.{Entry, last_after};
+ghost use Rattle.load_model.specs.Stands.{IsNonePut, is_at_most};
 ghost use Rattle.page_build.specs.Draft.{room_of};
 ghost use Rattle.bulk_load.specs.Chain.{IsPutChain};
 ghost use Rattle.bulk_load.specs.Count.{AreBack, KeepsBack, overflow_pages, pages_for, weight};

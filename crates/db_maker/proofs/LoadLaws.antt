@@ -6,7 +6,7 @@ use Rattle.std.specs.Option.{option_map_or}
 use Rattle.std.proofs.lemmas.List.{map-append}
 use Rattle.std.proofs.lemmas.List.Sums.{sum_by-append}
 use Rattle.db_format.specs.Pages.{Pages, Test}
-use Rattle.load_model.specs.Stands.{is_at_most, last_after}
+use Rattle.load_model.specs.Stands.{is_at_most}
 use Rattle.bulk_load.specs.Loader.{IsLoader, Loaded, family_of_loader}
 use Rattle.bulk_load.specs.Out.{Faults, Follows}
 use Rattle.bulk_load.specs.Few.{TookFew}
@@ -16,6 +16,7 @@ use Rattle.db_maker.specs.declared.part.Part.{Part}
 use Rattle.db_maker.specs.declared.part.Part.TheVariants.{Items, Names, Codes}
 use Rattle.db_maker.specs.Parts.{entries_in, entry_in, family_in}
 use Rattle.db_maker.specs.Rows.{data_byte, data_len, total_len}
+use Rattle.btree_model.specs.Content.{last_after}
 
 range_more : (a n : ℕ) → range_with_len a (suc n) ≡ range_with_len a n ++ (a + n) ∷ []
 range_more a zero = let none : a ≡ a + 0 = omega arith in ap (λ k. k ∷ []) none

@@ -1,8 +1,8 @@
 // A tree of rows, made and pushed one after another.
 ghost use Rattle.std.specs.Prelude.{◌≡◌, ◌≤◌, ◌+◌, ◌^◌, ℕ, true, false, List, [], ◌∷◌, ◌++◌, None, Err, IfOk, IfErr, OnOk, OnErr};
 ghost use Rattle.db_format.specs.Pages.{IsUsable, Pages, Test};
-ghost use Rattle.btree_model.specs.Content.{Entry};
-ghost use Rattle.load_model.specs.Stands.{IsNonePut, last_after};
+ghost use Rattle.btree_model.specs.Content.{Entry, last_after};
+ghost use Rattle.load_model.specs.Stands.{IsNonePut};
 ghost use Rattle.bulk_load.specs.Out.{Follows, HasEndCause, HasLoadCause, KeepsPages};
 ghost use Rattle.bulk_load.specs.Own.{Covers, CoversNew, only};
 ghost use Rattle.bulk_load.specs.Loader.{IsLoader, Loaded, family_of_loader, is_late};

@@ -7,7 +7,7 @@ use Rattle.btree_page.specs.declared.kind.Family.TheVariants.{Table, Index}
 use Rattle.db_format.specs.declared.header.Header.{Header}
 use Rattle.db_format.specs.Value.{Datum}
 use Rattle.db_format.specs.Text.{spaced}
-use Rattle.row_text.specs.Lines.{line}
+use Rattle.text_lines.specs.Text.{line}
 
 -- what a schema row says of its tree, if it has one
 abbrev pub kind_text : Option Family → List ℕ

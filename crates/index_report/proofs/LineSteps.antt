@@ -4,12 +4,12 @@ use Rattle.std.specs.Prelude.{◌++◌, codes, decimal}
 use Rattle.std.proofs.lemmas.Bool.{ne_eqb}
 use Rattle.std.proofs.lemmas.List.{append-nil}
 use Rattle.db_format.specs.Value.{Datum}
-use Rattle.row_text.specs.Lines.{line}
 use Rattle.row_text.specs.Out.{Moves}
 use Rattle.row_text.proofs.Moving.{restated, waits}
 use Rattle.index_check.specs.declared.rowids.Rowids.{Rowids}
 use Rattle.index_report.specs.Lines.{count_line, head, last_line, least_text, rowids_line}
 use Rattle.index_report.specs.declared.summary.Summary.{Summary}
+use Rattle.text_lines.specs.Text.{line}
 
 none_if : (n : ℕ) (text : List ℕ) → n ≡ 0 → [] ≡ (if n == 0 then [] else text)
 none_if n text is = rw is refl

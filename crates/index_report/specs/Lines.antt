@@ -3,7 +3,6 @@ use Rattle.std.specs.Prelude.{ℕ, ℤ, ◌==◌, List, [], ◌++◌, codes, dec
 use Rattle.std.specs.Fmt.{signed_decimal}
 use Rattle.db_format.specs.Text.{value_text}
 use Rattle.db_format.specs.Value.{Datum}
-use Rattle.row_text.specs.Lines.{line}
 use Rattle.index_check.specs.Checked.{surplus}
 use Rattle.index_check.specs.declared.agreement.Agreement.{Agreement}
 use Rattle.index_check.specs.declared.rowids.Rowids.{Rowids}
@@ -12,6 +11,7 @@ use Rattle.index_report.specs.declared.verdict.Unchecked.{Unchecked as Why}
 use Rattle.index_report.specs.declared.verdict.Unchecked.TheVariants.{NoTree, NoTable, NoRowids, NotRead}
 use Rattle.index_report.specs.declared.verdict.Verdict.{Verdict}
 use Rattle.index_report.specs.declared.verdict.Verdict.TheVariants.{Unchecked, Checked}
+use Rattle.text_lines.specs.Text.{line}
 
 -- what a line of this index begins with
 abbrev pub head : Datum → List ℕ

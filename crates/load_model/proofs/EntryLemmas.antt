@@ -14,13 +14,13 @@ use Rattle.btree_model.specs.Range.{is_in_range}
 use Rattle.btree_model.specs.Finding.{Row, Finding, place, entry, key, fault, places, entries, keys, is_sound}
 use Rattle.btree_model.specs.Walk.{is_met, given, chain, chain_bytes, links_needed, late_faults}
 use Rattle.btree_page.specs.Step.{divider, entry as cell}
-use Rattle.btree_model.specs.Content.{Entry, entry_of}
+use Rattle.btree_model.specs.Content.{Entry, entry_of, last_after}
 use Rattle.btree_model.proofs.FindingLemmas.{places-append, entries-append, is_sound-append}
 use Rattle.btree_model.proofs.UnmarkedLemmas.{or_left, or_right}
 use Rattle.btree_model.proofs.ProperLemmas.{keys-append}
 use Rattle.btree_model.proofs.KeptLemmas.{AreSame, chain_kept, chain_bytes_kept}
 use Rattle.load_model.specs.Open.{Open, open_found}
-use Rattle.load_model.specs.Stands.{IsPut, OpenPagesStand, StandsBut, IsChain, IsLinks, placements, is_at_most, last_after}
+use Rattle.load_model.specs.Stands.{IsPut, OpenPagesStand, StandsBut, IsChain, IsLinks, placements, is_at_most}
 use Rattle.load_model.proofs.AlikeLemmas.{met-append}
 use Rattle.load_model.proofs.OpenLemmas.{open-append}
 use Rattle.load_model.proofs.StandsLemmas.{any_turned, not_among, same_pages, still_put}

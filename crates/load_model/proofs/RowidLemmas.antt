@@ -8,7 +8,8 @@ use Rattle.db_format.specs.declared.defect.Defect.TheVariants.{RowidOrder}
 use Rattle.btree_model.specs.Finding.{Finding, place, leaf, entry, key, fault, refused, entries, keys}
 use Rattle.btree_model.specs.Walk.{late_faults, order_faults}
 use Rattle.btree_model.proofs.ContextLemmas.{and_left, and_right}
-use Rattle.load_model.specs.Stands.{is_at_most, last_after}
+use Rattle.btree_model.specs.Content.{last_after}
+use Rattle.load_model.specs.Stands.{is_at_most}
 
 above : (r l k : ℤ) → int_le r l ≡ false → int_le k l ≡ true → int_le r k ≡ false
 above (pos r) (pos f) (pos k) h g = grind arith

@@ -51,11 +51,6 @@ pub record IsChain (pages : Pages) (stored : StoredCell) (ns : List ℕ) (payloa
   pub bytes : payload_of pages stored ≡ payload
   pub put : list_all pages.accepts ns ≡ true
 
--- the last rowid after an entry
-abbrev pub last_after : Option ℤ → Option ℤ → Option ℤ
-last_after last None = last
-last_after last (Some r) = Some r
-
 -- a chain of `more` pages from page n on, each put; it is written from its end
 pub record IsLinks (pages : Pages) (more n : ℕ) (ns bytes : List ℕ) : Type 0 where
   pub walk : (met : List Finding) (holder : ℕ) → list_any (is_met nothing met) ns ≡ false → chain pages nothing met more holder n ≡ placements ns

@@ -1,26 +1,18 @@
 -- How a walk of a pager stops: it asks for pages of the file alone, and draws nothing.
 use Rattle.std.proofs.Common.{◌≡◌, ◌∙◌, ℕ, Bool, true, false, sym, subst}
-use Rattle.btree_walk.specs.Causes.{IsGivenBy}
+use Rattle.btree_walk.specs.Causes.{IsGivenBy, IsWalkStop}
 use Rattle.btree_walk.specs.declared.error.WalkError.{WalkError}
 use Rattle.btree_walk.specs.declared.error.WalkError.TheVariants.{Defect, Source, OutOfMemory}
 use Rattle.db_format.specs.Pages.{Pages}
-use Rattle.migrate_job.specs.Stops.{IsReadRefusal, IsWalkStop}
-use Rattle.pager.specs.Causes.{MayRefuse}
+use Rattle.pager.specs.Causes.{IsReadRefusal, MayRefuse}
 use Rattle.pager.specs.Pages.{is_page_number}
+use Rattle.pager.proofs.Refusals.{read_refusal}
 use Rattle.pager.specs.declared.fill.PageError.{PageError}
 use Rattle.pager.specs.declared.fill.PageError.TheVariants.{OutOfRange, TagRefused, DiskFault, EntropyFault, AllPinned}
 
--- a page of the file was refused
-pub read_refusal : (tells : Bool) (pages : Pages) (n : ℕ) (error : PageError) → is_page_number pages.count n ≡ true → MayRefuse tells pages n error → IsReadRefusal error
-read_refusal tells pages n OutOfRange number refused = let no : true ≡ false = sym number ∙ refused in cc
-read_refusal tells pages n (TagRefused page) number refused = tt
-read_refusal tells pages n DiskFault number refused = tt
-read_refusal tells pages n EntropyFault number refused = refused
-read_refusal tells pages n AllPinned number refused = tt
-
 -- a walk stopped, whose pages keep their count while they are read
 pub given_stop : {T : Type 0} (tells : Bool) (read : T → T → Type 0) (plain : T → Pages) (before : T) (error : WalkError PageError)
-    → ((s t : T) → read s t → (plain t).count ≡ (plain s).count) → IsGivenBy read plain (MayRefuse tells) before error → IsWalkStop error
+    → ((s t : T) → read s t → (plain t).count ≡ (plain s).count) → IsGivenBy read plain (MayRefuse tells) before error → IsWalkStop IsReadRefusal error
 given_stop tells read plain before (Defect d) same given = tt
 given_stop tells read plain before (Source error) same given =
     read_refusal tells (plain given.state) given.page error

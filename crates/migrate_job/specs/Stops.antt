@@ -43,17 +43,3 @@ IsFoundEarly pages (TooManyPages limit) = ⊥
 IsFoundEarly pages DiskFault = ⊤
 IsFoundEarly pages EntropyFault = ⊥
 IsFoundEarly pages OutOfMemory = ⊤
-
--- a page of the file may be refused so by a call that only reads
-abbrev pub IsReadRefusal : PageError → Type 0
-IsReadRefusal OutOfRange = ⊥
-IsReadRefusal (TagRefused n) = ⊤
-IsReadRefusal PageFault = ⊤
-IsReadRefusal DrawFault = ⊥
-IsReadRefusal AllPinned = ⊤
-
--- a walk may stop so, which only reads
-abbrev pub IsWalkStop : WalkError PageError → Type 0
-IsWalkStop (WalkDefect d) = ⊤
-IsWalkStop (Source refusal) = IsReadRefusal refusal
-IsWalkStop WalkMemory = ⊤

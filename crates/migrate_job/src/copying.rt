@@ -1,8 +1,9 @@
 // One entry of the old file is pushed into the new one.
 ghost use Rattle.std.specs.Prelude.{◌≡◌, ◌≤◌, ◌<◌, ◌+◌, ℕ, true, false, List, [], ◌∷◌, ◌++◌, length, Some, Ok, Err, IfOk, IfErr, OnOk, OnErr, IsTrue, map};
-ghost use Rattle.btree_model.specs.Content.{Entry, entry_of};
+ghost use Rattle.btree_model.specs.Content.{Entry, entry_of, last_after};
 ghost use Rattle.btree_model.specs.Finding.{Row, entries};
 ghost use Rattle.btree_page.specs.Payload.{max_payload};
+ghost use Rattle.btree_walk.specs.Causes.{IsWalkStop};
 ghost use Rattle.btree_walk.specs.Cursor.{IsAdvanced, IsCursorAt, IsCursorReady, IsSameTree, row_of, row_shown, walked, walked_family};
 ghost use Rattle.btree_walk.specs.Turn.{work};
 ghost use Rattle.bulk_load.specs.Depth.{IsShallow};
@@ -16,13 +17,12 @@ ghost use Rattle.db_format.specs.Source.{no_pins};
 ghost use Rattle.edge_model.specs.Causes.{Rose};
 ghost use Rattle.edge_model.specs.Files.{bytes_of, main_of};
 ghost use Rattle.fresh_file.specs.State.{IsWellAs, fresh_pages};
-ghost use Rattle.load_model.specs.Stands.{last_after};
 ghost use Rattle.pager.specs.Beside.{Beside};
-ghost use Rattle.pager.specs.Causes.{MayRefuse};
+ghost use Rattle.pager.specs.Causes.{IsReadRefusal, MayRefuse};
 ghost use Rattle.pager.specs.Held.{pins_of};
 ghost use Rattle.pager.specs.Pages.{opened_pages};
 ghost use Rattle.migrate_job.specs.Copying.{FollowsBeside, FollowsTarget, IsOfWalk, KeepsBeside, KeepsTarget, asked_by, beside_main, migrate_load_error, migrate_page_error, pushed_then, migrate_walk_error};
-ghost use Rattle.migrate_job.specs.Stops.{IsReadRefusal, IsWalkStop, is_early_stop};
+ghost use Rattle.migrate_job.specs.Stops.{is_early_stop};
 
 use crate::error::MigrateError;
 use btree_walk::{Cursor, WalkError};
@@ -177,7 +177,7 @@ pub(crate) fn page_error(error: PageError) -> MigrateError
 
 /// How a walk that failed stops the command.
 pub(crate) fn walk_error(error: WalkError<PageError>) -> MigrateError
-    requires { IsWalkStop error }
+    requires { IsWalkStop IsReadRefusal error }
     ensures { result ≡ migrate_walk_error error }
 {
     match error {

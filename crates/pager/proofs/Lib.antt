@@ -13,5 +13,6 @@ pub mod UnreadLemmas
 pub mod Bases
 pub mod Cutting
 pub mod Headers
+pub mod Refusals
 pub mod Resealed
 mod Sealed

@@ -1,5 +1,5 @@
 -- Why a page is not given.
-use Rattle.std.specs.Prelude.{ℕ, ◌≡◌, Bool, true, false, IsTrue}
+use Rattle.std.specs.Prelude.{ℕ, ◌≡◌, Bool, true, false, IsTrue, ⊤}
 use Rattle.edge_model.specs.Causes.{Rose}
 use Rattle.db_format.specs.Pages.{Pages as Plain}
 use Rattle.page_cache.specs.Pages.{HeldPages, is_held}
@@ -35,6 +35,22 @@ MayRefuse tells plain n (TagRefused page) = (is_page_number plain.count n ≡ tr
 MayRefuse tells plain n DiskFault = is_page_number plain.count n ≡ true
 MayRefuse tells plain n EntropyFault = ⊥
 MayRefuse tells plain n AllPinned = is_page_number plain.count n ≡ true
+
+-- a page of the file may be refused so by a call that only reads
+abbrev pub IsReadRefusal : PageError → Type 0
+IsReadRefusal OutOfRange = ⊥
+IsReadRefusal (TagRefused n) = ⊤
+IsReadRefusal DiskFault = ⊤
+IsReadRefusal EntropyFault = ⊥
+IsReadRefusal AllPinned = ⊤
+
+-- and so by one that changes it, which needs no frame without a pin
+abbrev pub IsChangeRefusal : PageError → Type 0
+IsChangeRefusal OutOfRange = ⊥
+IsChangeRefusal (TagRefused n) = ⊤
+IsChangeRefusal DiskFault = ⊤
+IsChangeRefusal EntropyFault = ⊤
+IsChangeRefusal AllPinned = ⊥
 
 -- the refusal says that the disk failed
 abbrev pub is_fault : PageError → Bool

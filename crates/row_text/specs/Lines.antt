@@ -6,9 +6,7 @@ use Rattle.db_format.specs.Text.{spaced}
 use Rattle.db_format.specs.Value.{Datum}
 use Rattle.btree_model.specs.Content.{Entry, entry_of}
 use Rattle.btree_model.specs.Finding.{Row}
-
-abbrev pub line : List ℕ → List ℕ
-line text = text ++ codes "\n"
+use Rattle.text_lines.specs.Text.{line}
 
 -- what an entry begins with: its rowid, in a table
 abbrev pub entry_head : Option ℤ → List ℕ

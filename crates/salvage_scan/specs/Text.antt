@@ -2,11 +2,11 @@
 use Rattle.std.specs.Prelude.{ℕ, List, ◌++◌, codes, decimal}
 use Rattle.std.specs.Fmt.{signed_decimal}
 use Rattle.std.specs.List.{flat_map}
-use Rattle.row_text.specs.Lines.{line}
 use Rattle.db_format.specs.Text.{spaced}
 use Rattle.salvage_scan.specs.declared.scan.Salvaged.{Salvaged}
 use Rattle.salvage_scan.specs.Salvage.{LineCounts, Line, counts_of}
 use Rattle.salvage_scan.specs.Salvage.Line.{tag_refused, row, lost, bad_cell}
+use Rattle.text_lines.specs.Text.{line}
 
 abbrev pub line_text : Line → List ℕ
 line_text (tag_refused n) = line (codes "page " ++ decimal n ++ codes ": tag refused")

@@ -7,9 +7,8 @@ ghost use Rattle.db_format.specs.Source.{no_pins};
 ghost use Rattle.btree_model.specs.Finding.{is_sound, leaves};
 ghost use Rattle.btree_model.specs.Freelist.{first_trunk, free_field, freelist_walk};
 ghost use Rattle.btree_model.specs.Parts.{parts};
-ghost use Rattle.btree_walk.specs.Causes.{is_failure};
-ghost use Rattle.migrate_job.specs.Stops.{IsWalkStop};
-ghost use Rattle.pager.specs.Causes.{MayRefuse, is_fault};
+ghost use Rattle.btree_walk.specs.Causes.{IsWalkStop, is_failure};
+ghost use Rattle.pager.specs.Causes.{IsReadRefusal, MayRefuse, is_fault};
 ghost use Rattle.edge_model.specs.Files.{main_of};
 ghost use Rattle.pager.specs.Held.{pins_of};
 ghost use Rattle.pager.specs.Pages.{opened_pages};
@@ -100,7 +99,7 @@ fn report_stop<S: Sink, E: Entropy, D: Disk>(
 ) -> Status
     requires trunk { IsTrue D.tells → header.now.first_trunk ≡ first_trunk (opened_pages pager.old.codec (main_of (D.reads pager.old.disk.now)) pager.old.count) }
     requires free { IsTrue D.tells → header.now.free_count ≡ free_field (opened_pages pager.old.codec (main_of (D.reads pager.old.disk.now)) pager.old.count) }
-    requires is_stop { IsWalkStop error.now }
+    requires is_stop { IsWalkStop IsReadRefusal error.now }
     requires stopped { IsTrue D.tells → IsEarliest (MayRefuse D.tells) (opened_pages pager.old.codec (main_of (D.reads pager.old.disk.now)) pager.old.count)
         (parts (opened_pages pager.old.codec (main_of (D.reads pager.old.disk.now)) pager.old.count)) error.now }
     ensures answer { IsTrue D.tells

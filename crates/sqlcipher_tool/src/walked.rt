@@ -1,7 +1,8 @@
 // How a walk of pages stops a command.
 ghost use Rattle.std.specs.Prelude.{◌≡◌};
-ghost use Rattle.migrate_job.specs.Stops.{IsWalkStop};
 ghost use Rattle.sqlcipher_tool.specs.Walked.{walk_refusal, walk_stop};
+ghost use Rattle.pager.specs.Causes.{IsReadRefusal};
+ghost use Rattle.btree_walk.specs.Causes.{IsWalkStop};
 
 use crate::opening::Stop;
 use crate::status::Refusal;
@@ -10,7 +11,7 @@ use pager::PageError;
 
 /// How a walk stops a command.
 pub fn walk_stop(error: &WalkError<PageError>) -> Stop
-    requires { IsWalkStop error.now }
+    requires { IsWalkStop IsReadRefusal error.now }
     ensures { result ≡ walk_stop error.now }
 {
     match walk_refusal(error) {
@@ -21,7 +22,7 @@ pub fn walk_stop(error: &WalkError<PageError>) -> Stop
 
 /// The defect or the refused page that a walk came upon, or what else stopped it.
 pub fn walk_refusal(error: &WalkError<PageError>) -> Result<Refusal, Stop>
-    requires { IsWalkStop error.now }
+    requires { IsWalkStop IsReadRefusal error.now }
     ensures { result ≡ walk_refusal error.now }
 {
     match error {

@@ -1,6 +1,6 @@
 use Rattle.std.proofs.Common.{rules, ◌≡◌, ◌≤◌, ◌-◌, ◌+◌, ℕ, [], ◌∷◌, ◌++◌, false, refl, ap, sym, subst, ◌∙◌, arith}
 use Rattle.std.specs.Option.{option_map_or}
-use Rattle.load_model.specs.Stands.{is_at_most, last_after}
+use Rattle.load_model.specs.Stands.{is_at_most}
 use Rattle.bulk_load.specs.Loader.{Loaded}
 use Rattle.bulk_load.specs.Few.{TookFew, load_pages}
 use Rattle.db_maker.specs.Pages.{part_pages}
@@ -10,6 +10,7 @@ use Rattle.bulk_load.proofs.PutLemmas.{covers_before, covers_behind, follows_all
 use Rattle.db_maker.specs.Parts.{entries_in, entry_in, family_in}
 use Rattle.db_maker.proofs.LoadLaws.{entries_more, last_next, last_start, next_above}
 use Rattle.db_maker.proofs.loading.push_rows.Goals as goal
+use Rattle.btree_model.specs.Content.{last_after}
 
 pub loop-before-init : goal.loop-before-init
 loop-before-init g c =

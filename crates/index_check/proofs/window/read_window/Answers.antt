@@ -8,7 +8,7 @@ use Rattle.btree_page.specs.declared.kind.Family.TheVariants.{Table}
 use Rattle.btree_model.specs.Finding.{Row, entries, is_sound}
 use Rattle.btree_model.specs.Tree.{tree_walk}
 use Rattle.btree_walk.specs.Cursor.{IsCursorAt, IsAdvanced, IsGivenAfter, IsNext, IsEnd, row_of, walked}
-use Rattle.btree_walk.specs.Order.{IsAfter, last_after}
+use Rattle.btree_walk.specs.Order.{IsAfter}
 use Rattle.btree_walk.specs.Turn.{work}
 use Rattle.btree_walk.proofs.CauseLemmas.{given_later}
 use Rattle.btree_walk.proofs.CursorLemmas.{ready_made, at_made}
@@ -19,6 +19,7 @@ use Rattle.index_check.proofs.CursorSteps.{walked_is, work_first}
 use Rattle.index_check.proofs.RiseLemmas.{EndsIn, ends, rises}
 use Rattle.index_check.proofs.RowLemmas.{rowids_on, rowids_stay}
 use Rattle.index_check.proofs.window.read_window.Goals as goal
+use Rattle.btree_model.specs.Content.{last_after}
 
 pub entries-init : goal.entries-init
 entries-init g c =

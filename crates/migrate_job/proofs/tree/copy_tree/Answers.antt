@@ -24,8 +24,8 @@ use Rattle.migrate_job.specs.Copying.{IsOfWalk, IsTargetWell, asked_by, beside_m
 use Rattle.migrate_job.specs.Stops.{is_early_stop}
 use Rattle.migrate_job.proofs.CopyLaws.{before_same, on_ok_map, refused_of_walk, sound_late}
 use Rattle.migrate_job.proofs.TargetLaws.{follows_read, fresh_read, moved_one, well_read}
-use Rattle.migrate_job.proofs.WalkStops.{read_refusal}
 use Rattle.migrate_job.proofs.tree.copy_tree.Goals as goal
+use Rattle.pager.proofs.Refusals.{read_refusal}
 
 pub returns-in-Ok-clause-tree : goal.returns-in-Ok-clause-tree
 returns-in-Ok-clause-tree g c start was own covers =
