@@ -3,17 +3,18 @@ use Rattle.std.proofs.Common.{◌≡◌, ◌≢◌, inl, inr, ℕ, ◌+◌, ◌�
 use Rattle.std.proofs.lemmas.Bool.{cases_lt}
 use Rattle.btree_model.specs.Parts.{is_database}
 use Rattle.btree_model.specs.Plain.{is_leaf}
-use Rattle.btree_walk.specs.Causes.{IsGivenBy}
+use Rattle.btree_walk.specs.Causes.{IsGivenBy, IsWalkStop}
 use Rattle.btree_walk.specs.declared.error.WalkError.{WalkError}
 use Rattle.btree_walk.specs.declared.error.WalkError.TheVariants.{Defect as WalkDefect, Source, OutOfMemory as WalkMemory}
 use Rattle.db_format.specs.Pages.{Pages, Test, is_page}
 use Rattle.edge_model.specs.Files.{Files, main_of}
 use Rattle.page_codec.specs.Page.{FileKeys}
-use Rattle.pager.specs.Causes.{MayRefuse}
+use Rattle.pager.specs.Causes.{IsReadRefusal, MayRefuse}
 use Rattle.pager.specs.Pages.{is_page_number, opened_pages}
+use Rattle.pager.proofs.Refusals.{read_refusal}
 use Rattle.pager.specs.declared.fill.PageError.{PageError}
 use Rattle.pager.specs.declared.fill.PageError.TheVariants.{OutOfRange, TagRefused, DiskFault, EntropyFault, AllPinned}
-use Rattle.rekey_job.specs.Stops.{IsFirstRefused, IsReadRefusal, IsRekeyShown, IsWalkStop, rekey_page_error}
+use Rattle.rekey_job.specs.Stops.{IsFirstRefused, IsRekeyShown, rekey_page_error}
 use Rattle.rekey_job.specs.declared.error.RekeyError.TheVariants.{LayoutDiffers, EntropyFault as RekeyEntropy}
 
 -- a page that is refused behind a census is the first in use
@@ -24,14 +25,6 @@ tags_shown pages passed (TagRefused n) sound same first = inr (sound, subst (λ 
 tags_shown pages passed DiskFault sound same first = tt
 tags_shown pages passed EntropyFault sound same first = tt
 tags_shown pages passed AllPinned sound same first = tt
-
--- a page of the file that a call which reads refused
-pub read_refusal : (tells : Bool) (pages : Pages) (n : ℕ) (error : PageError) → is_page_number pages.count n ≡ true → MayRefuse tells pages n error → IsReadRefusal error
-read_refusal tells pages n OutOfRange num refused = let no : true ≡ false = sym num ∙ refused in cc
-read_refusal tells pages n (TagRefused page) num refused = tt
-read_refusal tells pages n DiskFault num refused = tt
-read_refusal tells pages n EntropyFault num refused = refused
-read_refusal tells pages n AllPinned num refused = tt
 
 -- whether a refusal names a page, and which
 is_tag : PageError → Bool
@@ -79,7 +72,7 @@ accepted_more pages passed done before next m some most used = elim (cases_lt m 
 
 -- a walk that stopped, over pages that keep their count while they are read
 pub given_stop : {T : Type 0} (tells : Bool) (read : T → T → Type 0) (plain : T → Pages) (before : T) (error : WalkError PageError)
-    → ((s t : T) → read s t → (plain t).count ≡ (plain s).count) → IsGivenBy read plain (MayRefuse tells) before error → IsWalkStop error
+    → ((s t : T) → read s t → (plain t).count ≡ (plain s).count) → IsGivenBy read plain (MayRefuse tells) before error → IsWalkStop IsReadRefusal error
 given_stop tells read plain before (WalkDefect d) same given = tt
 given_stop tells read plain before (Source error) same given =
     read_refusal tells (plain given.state) given.page error

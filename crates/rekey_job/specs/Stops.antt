@@ -6,6 +6,8 @@ use Rattle.btree_model.specs.Plain.{is_leaf}
 use Rattle.btree_walk.specs.declared.error.WalkError.{WalkError}
 use Rattle.btree_walk.specs.declared.error.WalkError.TheVariants.{Defect as WalkDefect, Source, OutOfMemory as WalkMemory}
 use Rattle.db_format.specs.Pages.{Pages, Test, is_page}
+use Rattle.page_plan.specs.declared.error.WriteError.{WriteError}
+use Rattle.page_plan.specs.declared.error.WriteError.TheVariants.{LayoutDiffers as WriteLayout, OutOfMemory as WriteMemory, TagRefused as WriteTag, DiskFault as WriteDisk, EntropyFault as WriteEntropy}
 use Rattle.pager.specs.declared.fill.PageError.{PageError}
 use Rattle.pager.specs.declared.fill.PageError.TheVariants.{OutOfRange, TagRefused, DiskFault as PageFault, EntropyFault as DrawFault, AllPinned}
 use Rattle.rekey_job.specs.declared.error.RekeyError.{RekeyError}
@@ -51,27 +53,13 @@ IsLateRekey DiskFault = ⊤
 IsLateRekey EntropyFault = ⊤
 IsLateRekey OutOfMemory = ⊤
 
--- a page of the file may be refused so by a call that only reads
-abbrev pub IsReadRefusal : PageError → Type 0
-IsReadRefusal OutOfRange = ⊥
-IsReadRefusal (TagRefused n) = ⊤
-IsReadRefusal PageFault = ⊤
-IsReadRefusal DrawFault = ⊥
-IsReadRefusal AllPinned = ⊤
-
--- and so by one that changes it, which needs no frame without a pin
-abbrev pub IsChangeRefusal : PageError → Type 0
-IsChangeRefusal OutOfRange = ⊥
-IsChangeRefusal (TagRefused n) = ⊤
-IsChangeRefusal PageFault = ⊤
-IsChangeRefusal DrawFault = ⊤
-IsChangeRefusal AllPinned = ⊥
-
--- a walk may stop so, which only reads
-abbrev pub IsWalkStop : WalkError PageError → Type 0
-IsWalkStop (WalkDefect d) = ⊤
-IsWalkStop (Source refusal) = IsReadRefusal refusal
-IsWalkStop WalkMemory = ⊤
+-- how a plan that is not written stops a rekey
+abbrev pub rekey_write_error : WriteError → RekeyError
+rekey_write_error WriteLayout = LayoutDiffers
+rekey_write_error WriteMemory = OutOfMemory
+rekey_write_error (WriteTag n) = PageTag n
+rekey_write_error WriteDisk = DiskFault
+rekey_write_error WriteEntropy = EntropyFault
 
 -- how a page that is refused stops a rekey; it asks for pages of the file alone, and pins few
 abbrev pub rekey_page_error : PageError → RekeyError

@@ -2,16 +2,17 @@
 ghost use Rattle.std.specs.Prelude.{◌≡◌, ◌≢◌, ◌≤◌, ℕ, true, false, Err, IfOk, IfErr, OnOk, IsTrue};
 ghost use Rattle.edge_model.specs.Causes.{Rose};
 ghost use Rattle.btree_model.specs.Plain.{is_leaf};
+ghost use Rattle.btree_walk.specs.Causes.{IsWalkStop};
 ghost use Rattle.db_format.specs.Header.{header_fields};
 ghost use Rattle.db_format.specs.Seen.{marked};
 ghost use Rattle.db_format.specs.Source.{no_pins};
-ghost use Rattle.pager.specs.Causes.{MayRefuse};
+ghost use Rattle.pager.specs.Causes.{IsReadRefusal, MayRefuse};
 ghost use Rattle.edge_model.specs.Files.{main_of};
 ghost use Rattle.pager.specs.Held.{pins_of};
 ghost use Rattle.pager.specs.Pages.{opened_pages};
 ghost use Rattle.pager.specs.Reads.{DiskRead, Untouched};
 ghost use Rattle.schema_map.specs.Census.{IsWhole};
-ghost use Rattle.rekey_job.specs.Stops.{AreClean, IsFirstRefused, IsReadRefusal, IsRekeyShown, IsWalkStop, rekey_page_error, rekey_walk_error};
+ghost use Rattle.rekey_job.specs.Stops.{AreClean, IsFirstRefused, IsRekeyShown, rekey_page_error, rekey_walk_error};
 
 use crate::error::RekeyError;
 use btree_walk::WalkError;
@@ -142,7 +143,7 @@ fn read_error(error: PageError) -> RekeyError
 
 // How a walk does.
 fn walk_error(error: &WalkError<PageError>) -> RekeyError
-    requires { IsWalkStop error.now }
+    requires { IsWalkStop IsReadRefusal error.now }
     ensures { result ≡ rekey_walk_error error.now }
 {
     match error {

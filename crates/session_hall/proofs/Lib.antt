@@ -9,7 +9,6 @@ pub mod PutOver
 pub mod Recovered
 pub mod Runs
 pub mod Shared
-pub mod SoFar
 pub mod Sound
 pub mod Standing
 pub mod Written

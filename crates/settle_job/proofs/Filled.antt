@@ -12,7 +12,7 @@ use Rattle.pager.specs.declared.fill.PageError.{PageError}
 use Rattle.pager.specs.declared.fill.PageError.TheVariants.{TagRefused}
 use Rattle.rollback_journal.specs.Writing.{Writing}
 use Rattle.atomic_commit.specs.Marks.{is_marked}
-use Rattle.rekey_job.proofs.Rewriting.{never_opened, never_refused}
+use Rattle.page_plan.proofs.Accepting.{never_opened, never_refused}
 use Rattle.settle_job.specs.Put.{filled}
 
 -- bytes over a page of zeros

@@ -1,9 +1,9 @@
 -- Why a new trunk is not written.
 use Rattle.std.specs.Prelude.{Bool, true, false, ⊤}
 use Rattle.pager.specs.UnderWay.{is_failure}
-use Rattle.rekey_job.specs.Stops.{IsChangeRefusal}
 use Rattle.settle_job.specs.declared.trunks.TrunkError.{TrunkError}
 use Rattle.settle_job.specs.declared.trunks.TrunkError.TheVariants.{Page, OutOfMemory}
+use Rattle.pager.specs.Causes.{IsChangeRefusal}
 
 -- its page is one of the file, and no frame is pinned
 abbrev pub IsTrunkRefusal : TrunkError → Type 0

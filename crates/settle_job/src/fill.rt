@@ -8,7 +8,7 @@ ghost use Rattle.pager.specs.Pages.{is_page_number};
 ghost use Rattle.pager.specs.UnderWay.{IsReadyFor, IsUnderWay, Start, is_failure, is_touched, seen_pages};
 ghost use Rattle.atomic_commit.specs.Database.{HoldsOld};
 ghost use Rattle.atomic_commit.specs.Facts.{SameFresh};
-ghost use Rattle.rekey_job.specs.Stops.{IsChangeRefusal};
+ghost use Rattle.pager.specs.Causes.{IsChangeRefusal};
 ghost use Rattle.settle_job.specs.Put.{filled};
 
 use edge_model::{Disk, Entropy};

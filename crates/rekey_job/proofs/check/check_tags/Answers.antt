@@ -6,7 +6,8 @@ use Rattle.pager.specs.Causes.{MayRefuse}
 use Rattle.pager.specs.Pages.{opened_pages}
 use Rattle.pager.specs.Reads.{disk_then_read, then_untouched}
 use Rattle.pager.proofs.BatchLemmas.{number_is}
-use Rattle.rekey_job.proofs.Stopped.{accepted_more, first_refused, read_refusal}
+use Rattle.pager.proofs.Refusals.{read_refusal}
+use Rattle.rekey_job.proofs.Stopped.{accepted_more, first_refused}
 use Rattle.rekey_job.proofs.check.check_tags.Goals as goal
 
 pub returns-in-Err-clause-read : goal.returns-in-Err-clause-read

@@ -1,7 +1,4 @@
 use Rattle.session_hall.proofs.writing.write_changes.Given as goal
 
-abbrev pub ghost-begin : goal.ghost-begin
-ghost-begin g a = g.start
-
-abbrev pub ghost-write_all : goal.ghost-write_all
-ghost-write_all g a = g.start
+abbrev pub ghost-write_plan : goal.ghost-write_plan
+ghost-write_plan g a = g.start

@@ -11,7 +11,7 @@ use Rattle.migrate_job.specs.declared.error.MigrateError.TheVariants.{DiskFault 
 use Rattle.page_codec.specs.Page.{keys_of}
 use Rattle.pager.specs.Opening.{Opened}
 use Rattle.pager.specs.Pages.{opened_pages}
-use Rattle.rekey_job.proofs.Rewriting.{err_at}
+use Rattle.page_plan.proofs.Results.{err_at}
 use Rattle.sqlcipher_tool.specs.Answer.{done}
 use Rattle.sqlcipher_tool.specs.Change.{IsLateChange, KeepsOrCommits, change_answer, change_status}
 use Rattle.sqlcipher_tool.specs.Holding.{HoldsOnly, held_by}

@@ -14,7 +14,7 @@ use Rattle.rekey_job.specs.Rekeyed.{IsRekeyed}
 use Rattle.sqlcipher_tool.specs.Renewal.{WithDraws}
 use Rattle.rekey_job.specs.Stops.{IsRekeyShown, is_unwritten}
 use Rattle.rekey_job.specs.declared.error.RekeyError.{RekeyError}
-use Rattle.rekey_job.proofs.Rewriting.{err_at}
+use Rattle.page_plan.proofs.Results.{err_at}
 use Rattle.edge_model.specs.OnlyRead.{OnlyRead}
 use Rattle.sqlcipher_tool.proofs.rekey.rekey_pages.Goals as goal
 

@@ -1,0 +1,4 @@
+pub mod Accepting
+pub mod Planning
+pub mod Results
+pub mod SoFar

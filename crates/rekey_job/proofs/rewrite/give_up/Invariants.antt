@@ -1,4 +1,0 @@
-use Rattle.rekey_job.proofs.rewrite.give_up.Given as goal
-
-abbrev pub ghost-abandon : goal.ghost-abandon
-ghost-abandon g a = g.start

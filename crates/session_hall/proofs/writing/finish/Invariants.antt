@@ -1,4 +1,0 @@
-use Rattle.session_hall.proofs.writing.finish.Given as goal
-
-abbrev pub ghost-end : goal.ghost-end
-ghost-end g a = g.start

@@ -1,4 +1,0 @@
-use Rattle.session_hall.proofs.writing.keep_segment.Given as goal
-
-abbrev pub ghost-keep_ahead : goal.ghost-keep_ahead
-ghost-keep_ahead g a = g.start

@@ -1,7 +1,0 @@
-use Rattle.session_hall.proofs.writing.replace.Given as goal
-
-abbrev pub ghost-page_zero : goal.ghost-page_zero
-ghost-page_zero g a = g.start
-
-abbrev pub ghost-write : goal.ghost-write
-ghost-write g a = g.start
