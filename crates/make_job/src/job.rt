@@ -1,5 +1,5 @@
 // A database is made where no file is.
-ghost use Rattle.std.specs.Prelude.{◌≡◌, ◌⊎◌, ◌≤◌, ◌<◌, ◌++◌, ℕ, true, false, is_some, None, Some, Err, IfOk, IfErr, OnOk, OnErr, IsTrue, drop, length};
+ghost use Rattle.std.specs.Prelude.{◌≡◌, ◌⊎◌, ◌≤◌, ◌<◌, ◌++◌, ℕ, true, false, is_some, None, Some, Err, IfOk, IfErr, OnOk, OnErr, IsTrue, length};
 ghost use Rattle.cipher_profile.specs.Profile.{IsListed, is_clear, usable};
 ghost use Rattle.edge_model.specs.Causes.{Rose};
 ghost use Rattle.edge_model.specs.Files.{file_at, main_of};
@@ -12,6 +12,7 @@ ghost use Rattle.make_job.specs.Made.{IsMade};
 ghost use Rattle.fresh_disk.specs.Place.{TakesPlace, LeavesOld, MayTakePlace};
 ghost use Rattle.fresh_file.specs.State.{most_pages};
 ghost use Rattle.make_job.specs.Stops.{in_the_way, is_make_refusal};
+ghost use Rattle.pager.specs.Drawn.{drawn_since};
 
 use crate::error::MakeError;
 use crate::publishing::publish_rows;
@@ -36,12 +37,11 @@ pub fn make<D: Disk, E: Entropy>(
     ensures counts { IfOk result (λ made. (made.rows ≡ rows) × (made.bytes ≡ total_len rows)) }
     ensures made { OnOk result (IsTrue D.tells → TakesPlace D.reads D.images D.moment D.since (IsMade profile secret.now rows) disk.old disk.new) }
     ensures own_draws { OnOk result (IsTrue D.tells → IsTrue E.tells
-        → HasOwnDraws (keys_of profile secret.now (main_of (D.reads disk.new))) (main_of (D.reads disk.new)) (drop (length (E.drawn entropy.old)) (E.drawn entropy.new))) }
+        → HasOwnDraws (keys_of profile secret.now (main_of (D.reads disk.new))) (main_of (D.reads disk.new)) (drawn_since (E.drawn entropy.old) (E.drawn entropy.new))) }
     // each moment: the files of the start, or one made file, each page of which has drawn bytes of its own; after an error that is no fault
     // of the disk those of the start alone
-    ensures any_moment { IsTrue D.tells → LeavesOld D.reads D.images D.moment D.since disk.old disk.new
-        ⊎ MayTakePlace D.images D.moment D.since
-        (λ file. IsMade profile secret.now rows file × (IsTrue E.tells → HasOwnDraws (keys_of profile secret.now file) file (drop (length (E.drawn entropy.old)) (E.drawn entropy.new))))
+    ensures any_moment { IsTrue D.tells → LeavesOld D.reads D.images D.moment D.since disk.old disk.new ⊎ MayTakePlace D.images D.moment D.since
+        (λ file. IsMade profile secret.now rows file × (IsTrue E.tells → HasOwnDraws (keys_of profile secret.now file) file (drawn_since (E.drawn entropy.old) (E.drawn entropy.new))))
         disk.old disk.new }
     ensures only_old { IfErr result (λ e. (e ≡ MakeError.DiskFault → ⊥) → IsTrue D.tells → LeavesOld D.reads D.images D.moment D.since disk.old disk.new) }
     // a file in the way: it is answered, the disk was only read, and nothing was drawn

@@ -7,9 +7,8 @@ ghost use Rattle.db_format.specs.Header.{header_fields};
 ghost use Rattle.db_format.specs.Source.{no_pins};
 ghost use Rattle.edge_model.specs.Causes.{Rose};
 ghost use Rattle.migrate_job.specs.Stops.{IsFoundEarly};
-ghost use Rattle.edge_model.specs.Files.{main_of};
 ghost use Rattle.pager.specs.Held.{pins_of};
-ghost use Rattle.pager.specs.Pages.{opened_pages};
+ghost use Rattle.pager.specs.PagesOf.{pages_of};
 ghost use Rattle.pager.specs.Reads.{DiskRead, Untouched};
 ghost use Rattle.schema_map.specs.Census.{schema_after};
 ghost use Rattle.schema_map.specs.Schema.{schema_row};
@@ -27,12 +26,11 @@ pub(crate) fn check_database<D: Disk, E: Entropy>(
     pager: &mut Pager<'_, D, E>,
 ) -> Result<Schema, MigrateError>
     requires unpinned { pins_of pager.old.cache.held ≡ no_pins }
-    requires header { IsTrue D.tells → pager.old.header ≡ header_fields ((opened_pages pager.old.codec (main_of (D.reads pager.old.disk.now)) pager.old.count).page 1) }
-    ensures sound { OnOk result (IsTrue D.tells → is_database (opened_pages pager.old.codec (main_of (D.reads pager.old.disk.now)) pager.old.count) ≡ true) }
-    ensures schema { IfOk result (λ schema. IsTrue D.tells
-        → schema ≡ map schema_row (entries (schema_after (opened_pages pager.old.codec (main_of (D.reads pager.old.disk.now)) pager.old.count)))) }
+    requires header { IsTrue D.tells → pager.old.header ≡ header_fields ((pages_of pager.old).page 1) }
+    ensures sound { OnOk result (IsTrue D.tells → is_database (pages_of pager.old) ≡ true) }
+    ensures schema { IfOk result (λ schema. IsTrue D.tells → schema ≡ map schema_row (entries (schema_after (pages_of pager.old)))) }
     ensures roots { IfOk result (All (λ row. row.root ≤ pager.old.count)) }
-    ensures found { IfErr result (λ e. IsTrue D.tells → IsFoundEarly (opened_pages pager.old.codec (main_of (D.reads pager.old.disk.now)) pager.old.count) e) }
+    ensures found { IfErr result (λ e. IsTrue D.tells → IsFoundEarly (pages_of pager.old) e) }
     ensures reading { IfErr result (λ e. (e ≡ MigrateError.EntropyFault → ⊥) × ((limit : ℕ) → e ≡ MigrateError.TooManyPages limit → ⊥)) }
     ensures fault { result ≡ Err MigrateError.DiskFault → Rose (D.faults pager.old.disk.now) (D.faults pager.new.disk.now) }
     ensures unpinned { OnOk result (pins_of pager.new.cache.held ≡ no_pins) }

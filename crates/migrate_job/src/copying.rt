@@ -15,12 +15,12 @@ ghost use Rattle.db_format.specs.Pages.{Test};
 ghost use Rattle.db_format.specs.Seen.{marked};
 ghost use Rattle.db_format.specs.Source.{no_pins};
 ghost use Rattle.edge_model.specs.Causes.{Rose};
-ghost use Rattle.edge_model.specs.Files.{bytes_of, main_of};
+ghost use Rattle.edge_model.specs.Files.{bytes_of};
 ghost use Rattle.fresh_file.specs.State.{IsWellAs, fresh_pages};
 ghost use Rattle.pager.specs.Beside.{Beside};
 ghost use Rattle.pager.specs.Causes.{IsReadRefusal, MayRefuse};
 ghost use Rattle.pager.specs.Held.{pins_of};
-ghost use Rattle.pager.specs.Pages.{opened_pages};
+ghost use Rattle.pager.specs.PagesOf.{pages_of};
 ghost use Rattle.migrate_job.specs.Copying.{FollowsBeside, FollowsTarget, IsOfWalk, KeepsBeside, KeepsTarget, asked_by, beside_main, migrate_load_error, migrate_page_error, pushed_then, migrate_walk_error};
 ghost use Rattle.migrate_job.specs.Stops.{is_early_stop};
 
@@ -46,9 +46,8 @@ pub fn copy_next<'d, D: Disk, E: Entropy>(
     requires loader { IsLoader loader.old (usable fresh.old.codec.profile) }
     requires last { loader.old.last ≡ cursor.old.last }
     // exactly one entry more was given, and exactly this one was pushed; or the walk is at its end, and nothing was
-    ensures advanced { IfOk result (λ more. IsTrue D.tells → (taken : Test) (given : List Row)
-        → IsCursorAt (opened_pages pager.old.codec (main_of (D.reads pager.old.disk.now)) pager.old.count) taken given cursor.old (marked seen.old)
-        → IsAdvanced (MayRefuse D.tells) (opened_pages pager.old.codec (main_of (D.reads pager.old.disk.now)) pager.old.count) taken given cursor.new (marked seen.new) (Ok more)) }
+    ensures advanced { IfOk result (λ more. IsTrue D.tells → (taken : Test) (given : List Row) → IsCursorAt (pages_of pager.old) taken given cursor.old (marked seen.old)
+        → IsAdvanced (MayRefuse D.tells) (pages_of pager.old) taken given cursor.new (marked seen.new) (Ok more)) }
     ensures pushed { (start : ℕ) → IsWellAs fresh.old start D.tells E.tells (bytes_of (D.reads pager.old.disk.now).fresh) (E.drawn pager.old.entropy.now)
         → (own : Test) → Covers false own (fresh_pages fresh.old (bytes_of (D.reads pager.old.disk.now).fresh)) (fresh_pages fresh.new (bytes_of (D.reads pager.new.disk.now).fresh))
         → (pushed : List Entry) → Loaded (only own (fresh_pages fresh.old (bytes_of (D.reads pager.old.disk.now).fresh))) loader.old pushed
@@ -68,10 +67,8 @@ pub fn copy_next<'d, D: Disk, E: Entropy>(
         → result ≡ Err (MigrateError.Defect (Defect.BadKind cursor.new.page)) }
     ensures unpushed { is_for (family_of_loader loader.old) cursor.new.rowid ≡ false → (loader.new ≡ loader.old) × (fresh.new ≡ fresh.old) }
     // why it stopped: a defect is one of the walk where the pages are told, since there no entry is of another family
-    ensures of_walk { IfErr result (λ error. IsTrue D.tells → (taken : Test) (given : List Row)
-        → IsCursorAt (opened_pages pager.old.codec (main_of (D.reads pager.old.disk.now)) pager.old.count) taken given cursor.old (marked seen.old)
-        → family_of_loader loader.old ≡ walked_family (opened_pages pager.old.codec (main_of (D.reads pager.old.disk.now)) pager.old.count) cursor.old
-        → IsOfWalk (walked (opened_pages pager.old.codec (main_of (D.reads pager.old.disk.now)) pager.old.count) taken cursor.old) error) }
+    ensures of_walk { IfErr result (λ error. IsTrue D.tells → (taken : Test) (given : List Row) → IsCursorAt (pages_of pager.old) taken given cursor.old (marked seen.old)
+        → family_of_loader loader.old ≡ walked_family (pages_of pager.old) cursor.old → IsOfWalk (walked (pages_of pager.old) taken cursor.old) error) }
     ensures limit { (limit : ℕ) → result ≡ Err (MigrateError.TooManyPages limit) → (limit ≡ fresh.old.limit) × (fresh.old.limit ≤ fresh.new.taken + 1) }
     // how many pages were taken since the loader was made: after an error no more than a tree of all entries takes, with the one that was
     // asked for
@@ -80,11 +77,10 @@ pub fn copy_next<'d, D: Disk, E: Entropy>(
     ensures shallow { (from : ℕ) → IsShallow (usable fresh.old.codec.profile) from (fresh.old.taken + 1) loader.old
         → OnOk result (IsShallow (usable fresh.old.codec.profile) from (fresh.new.taken + 1) loader.new) }
     ensures few { IfErr result (λ error. IsTrue D.tells → (taken : Test) (given more : List Row)
-        → IsCursorAt (opened_pages pager.old.codec (main_of (D.reads pager.old.disk.now)) pager.old.count) taken given cursor.old (marked seen.old)
-        → entries (walked (opened_pages pager.old.codec (main_of (D.reads pager.old.disk.now)) pager.old.count) taken cursor.old) ≡ given ++ more
+        → IsCursorAt (pages_of pager.old) taken given cursor.old (marked seen.old) → entries (walked (pages_of pager.old) taken cursor.old) ≡ given ++ more
         → (from : ℕ) → TookFew (family_of_loader loader.old) (usable fresh.old.codec.profile) from (map entry_of given) (fresh.old.taken + 1) loader.old
         → fresh.new.taken + 1 + asked_by error ≤ from + load_pages (family_of_loader loader.old) (usable fresh.old.codec.profile)
-        (map entry_of (entries (walked (opened_pages pager.old.codec (main_of (D.reads pager.old.disk.now)) pager.old.count) taken cursor.old)))) }
+        (map entry_of (entries (walked (pages_of pager.old) taken cursor.old)))) }
     ensures disk_fault { result ≡ Err MigrateError.DiskFault → Rose (D.faults pager.old.disk.now) (D.faults pager.new.disk.now) }
     ensures entropy_fault { result ≡ Err MigrateError.EntropyFault → Rose (E.faults pager.old.entropy.now) (E.faults pager.new.entropy.now) }
     // what stays

@@ -14,11 +14,11 @@ ghost use Rattle.db_format.specs.Pages.{Test};
 ghost use Rattle.db_format.specs.Source.{no_pins};
 ghost use Rattle.db_format.specs.Value.{Datum};
 ghost use Rattle.edge_model.specs.Causes.{Rose};
-ghost use Rattle.edge_model.specs.Files.{bytes_of, main_of};
+ghost use Rattle.edge_model.specs.Files.{bytes_of};
 ghost use Rattle.fresh_file.specs.State.{IsWellAs, most_pages, fresh_pages};
 ghost use Rattle.pager.specs.Beside.{Beside};
 ghost use Rattle.pager.specs.Held.{pins_of};
-ghost use Rattle.pager.specs.Pages.{opened_pages};
+ghost use Rattle.pager.specs.PagesOf.{pages_of};
 ghost use Rattle.migrate_job.specs.Bound.{pages_at_most};
 ghost use Rattle.migrate_job.specs.Copied.{AreCopied, AreRenamed, HasLongRow, IsCopiedTree, IsRooted, IsSoundRow, new_entries, rows_error, tree_most, trees_most};
 ghost use Rattle.migrate_job.specs.Copying.{FollowsBeside, IsTargetWell, KeepsBeside, beside_main, target_faults, target_limit, target_pages};
@@ -51,23 +51,23 @@ pub(crate) fn copy_database<'d, D: Disk, E: Entropy>(
     requires roots { All (λ row. row.root ≤ pager.old.count) schema.now }
     // what the new pages hold behind a header
     ensures copied { (start : ℕ) → IsWellAs state.old start D.tells E.tells (bytes_of (D.reads pager.old.disk.now).fresh) (E.drawn pager.old.entropy.now)
-        → is_database (opened_pages pager.old.codec (main_of (D.reads pager.old.disk.now)) pager.old.count) ≡ true → schema.now ≡ map schema_row (entries (schema_after (opened_pages pager.old.codec (main_of (D.reads pager.old.disk.now)) pager.old.count)))
-        → OnOk result (HoldsItems (fresh_pages state.new (bytes_of (D.reads pager.new.disk.now).fresh)) (content (opened_pages pager.old.codec (main_of (D.reads pager.old.disk.now)) pager.old.count)).rows) }
+        → is_database (pages_of pager.old) ≡ true → schema.now ≡ map schema_row (entries (schema_after (pages_of pager.old)))
+        → OnOk result (HoldsItems (fresh_pages state.new (bytes_of (D.reads pager.new.disk.now).fresh)) (content (pages_of pager.old)).rows) }
     // and that none of them stands beside the schema and the trees
     ensures tight { (start : ℕ) → IsWellAs state.old start D.tells E.tells (bytes_of (D.reads pager.old.disk.now).fresh) (E.drawn pager.old.entropy.now)
-        → is_database (opened_pages pager.old.codec (main_of (D.reads pager.old.disk.now)) pager.old.count) ≡ true → schema.now ≡ map schema_row (entries (schema_after (opened_pages pager.old.codec (main_of (D.reads pager.old.disk.now)) pager.old.count)))
+        → is_database (pages_of pager.old) ≡ true → schema.now ≡ map schema_row (entries (schema_after (pages_of pager.old)))
         → OnOk result (IsTightBehind (fresh_pages state.new (bytes_of (D.reads pager.new.disk.now).fresh))) }
     ensures well { (start : ℕ) → IsWellAs state.old start D.tells E.tells (bytes_of (D.reads pager.old.disk.now).fresh) (E.drawn pager.old.entropy.now)
         → OnOk result (IsWellAs state.new start D.tells E.tells (bytes_of (D.reads pager.new.disk.now).fresh) (E.drawn pager.new.entropy.now)) }
     ensures whole { OnOk result (AreAllPut (fresh_pages state.new (bytes_of (D.reads pager.new.disk.now).fresh))) }
     // why it stopped: nothing that is found in the old pages
-    ensures late { IfErr result (λ error. IsTrue D.tells → is_database (opened_pages pager.old.codec (main_of (D.reads pager.old.disk.now)) pager.old.count) ≡ true → schema.now ≡ map schema_row (entries (schema_after (opened_pages pager.old.codec (main_of (D.reads pager.old.disk.now)) pager.old.count))) → is_early_stop error ≡ false) }
+    ensures late { IfErr result (λ error. IsTrue D.tells → is_database (pages_of pager.old) ≡ true → schema.now ≡ map schema_row (entries (schema_after (pages_of pager.old))) → is_early_stop error ≡ false) }
     ensures limit { (limit : ℕ) → result ≡ Err (MigrateError.TooManyPages limit) → limit ≡ state.old.limit }
     ensures few { (start : ℕ) → IsWellAs state.old start D.tells E.tells (bytes_of (D.reads pager.old.disk.now).fresh) (E.drawn pager.old.entropy.now)
         → IsListed state.old.codec.profile → state.old.limit ≡ most_pages state.old.codec.profile
-        → is_database (opened_pages pager.old.codec (main_of (D.reads pager.old.disk.now)) pager.old.count) ≡ true → schema.now ≡ map schema_row (entries (schema_after (opened_pages pager.old.codec (main_of (D.reads pager.old.disk.now)) pager.old.count)))
+        → is_database (pages_of pager.old) ≡ true → schema.now ≡ map schema_row (entries (schema_after (pages_of pager.old)))
         → (limit : ℕ) → result ≡ Err (MigrateError.TooManyPages limit)
-        → state.old.limit < pages_at_most (usable state.old.codec.profile) state.old.limit (content (opened_pages pager.old.codec (main_of (D.reads pager.old.disk.now)) pager.old.count)) }
+        → state.old.limit < pages_at_most (usable state.old.codec.profile) state.old.limit (content (pages_of pager.old)) }
     ensures disk_fault { result ≡ Err MigrateError.DiskFault → Rose (D.faults pager.old.disk.now) (D.faults pager.new.disk.now) }
     ensures entropy_fault { result ≡ Err MigrateError.EntropyFault → Rose (E.faults pager.old.entropy.now) (E.faults pager.new.entropy.now) }
     // what stays
@@ -96,12 +96,12 @@ fn copy_trees<'d, D: Disk, E: Entropy>(
     requires high { All (λ row. row.root ≤ pager.old.count) rows.now }
     ensures each { IfOk result (λ roots. length roots.items ≡ length rows.now) }
     ensures trees { (start : ℕ) → IsWellAs state.old start D.tells E.tells (bytes_of (D.reads pager.old.disk.now).fresh) (E.drawn pager.old.entropy.now)
-        → IfOk result (λ roots. AreCopied (opened_pages pager.old.codec (main_of (D.reads pager.old.disk.now)) pager.old.count) (fresh_pages state.new (bytes_of (D.reads pager.new.disk.now).fresh)) (fresh_pages state.old (bytes_of (D.reads pager.old.disk.now).fresh)).count (fresh_pages state.new (bytes_of (D.reads pager.new.disk.now).fresh)).count rows.now roots.items) }
-    ensures late { IfErr result (λ error. IsTrue D.tells → All (IsSoundRow (opened_pages pager.old.codec (main_of (D.reads pager.old.disk.now)) pager.old.count)) rows.now → is_early_stop error ≡ false) }
+        → IfOk result (λ roots. AreCopied (pages_of pager.old) (fresh_pages state.new (bytes_of (D.reads pager.new.disk.now).fresh)) (fresh_pages state.old (bytes_of (D.reads pager.old.disk.now).fresh)).count (fresh_pages state.new (bytes_of (D.reads pager.new.disk.now).fresh)).count rows.now roots.items) }
+    ensures late { IfErr result (λ error. IsTrue D.tells → All (IsSoundRow (pages_of pager.old)) rows.now → is_early_stop error ≡ false) }
     ensures limit { (limit : ℕ) → result ≡ Err (MigrateError.TooManyPages limit) → limit ≡ state.old.limit }
-    ensures few { OnOk result (IsTrue D.tells → state.new.taken ≤ state.old.taken + trees_most (opened_pages pager.old.codec (main_of (D.reads pager.old.disk.now)) pager.old.count) (usable state.old.codec.profile) rows.now) }
+    ensures few { OnOk result (IsTrue D.tells → state.new.taken ≤ state.old.taken + trees_most (pages_of pager.old) (usable state.old.codec.profile) rows.now) }
     ensures asked { (limit : ℕ) → result ≡ Err (MigrateError.TooManyPages limit) → IsTrue D.tells
-        → state.old.limit ≤ state.old.taken + trees_most (opened_pages pager.old.codec (main_of (D.reads pager.old.disk.now)) pager.old.count) (usable state.old.codec.profile) rows.now }
+        → state.old.limit ≤ state.old.taken + trees_most (pages_of pager.old) (usable state.old.codec.profile) rows.now }
     ensures disk_fault { result ≡ Err MigrateError.DiskFault → Rose (D.faults pager.old.disk.now) (D.faults pager.new.disk.now) }
     ensures entropy_fault { result ≡ Err MigrateError.EntropyFault → Rose (E.faults pager.old.entropy.now) (E.faults pager.new.entropy.now) }
     // what stays
@@ -135,12 +135,12 @@ fn copy_row<'d, D: Disk, E: Entropy>(
     requires unpinned { pins_of pager.old.cache.held ≡ no_pins }
     requires high { root ≤ pager.old.count }
     ensures tree { (start : ℕ) → IsWellAs state.old start D.tells E.tells (bytes_of (D.reads pager.old.disk.now).fresh) (E.drawn pager.old.entropy.now)
-        → IfOk result (λ new. IsCopiedTree (opened_pages pager.old.codec (main_of (D.reads pager.old.disk.now)) pager.old.count) (fresh_pages state.new (bytes_of (D.reads pager.new.disk.now).fresh)) (fresh_pages state.old (bytes_of (D.reads pager.old.disk.now).fresh)).count (fresh_pages state.new (bytes_of (D.reads pager.new.disk.now).fresh)).count root new) }
-    ensures late { IfErr result (λ error. IsTrue D.tells → (values : List Datum) → IsRooted (opened_pages pager.old.codec (main_of (D.reads pager.old.disk.now)) pager.old.count) values root → is_early_stop error ≡ false) }
+        → IfOk result (λ new. IsCopiedTree (pages_of pager.old) (fresh_pages state.new (bytes_of (D.reads pager.new.disk.now).fresh)) (fresh_pages state.old (bytes_of (D.reads pager.old.disk.now).fresh)).count (fresh_pages state.new (bytes_of (D.reads pager.new.disk.now).fresh)).count root new) }
+    ensures late { IfErr result (λ error. IsTrue D.tells → (values : List Datum) → IsRooted (pages_of pager.old) values root → is_early_stop error ≡ false) }
     ensures limit { (limit : ℕ) → result ≡ Err (MigrateError.TooManyPages limit) → limit ≡ state.old.limit }
-    ensures few { IsTrue D.tells → state.new.taken ≤ state.old.taken + tree_most (opened_pages pager.old.codec (main_of (D.reads pager.old.disk.now)) pager.old.count) (usable state.old.codec.profile) root }
+    ensures few { IsTrue D.tells → state.new.taken ≤ state.old.taken + tree_most (pages_of pager.old) (usable state.old.codec.profile) root }
     ensures asked { (limit : ℕ) → result ≡ Err (MigrateError.TooManyPages limit) → IsTrue D.tells
-        → state.old.limit ≤ state.old.taken + tree_most (opened_pages pager.old.codec (main_of (D.reads pager.old.disk.now)) pager.old.count) (usable state.old.codec.profile) root }
+        → state.old.limit ≤ state.old.taken + tree_most (pages_of pager.old) (usable state.old.codec.profile) root }
     ensures disk_fault { result ≡ Err MigrateError.DiskFault → Rose (D.faults pager.old.disk.now) (D.faults pager.new.disk.now) }
     ensures entropy_fault { result ≡ Err MigrateError.EntropyFault → Rose (E.faults pager.old.entropy.now) (E.faults pager.new.entropy.now) }
     // what stays

@@ -1,5 +1,5 @@
 // A file is migrated.
-ghost use Rattle.std.specs.Prelude.{◌≡◌, ◌⊎◌, ◌≤◌, ◌*◌, ℕ, List, true, Some, Err, IfOk, IfErr, OnOk, IsTrue, drop, length};
+ghost use Rattle.std.specs.Prelude.{◌≡◌, ◌⊎◌, ◌≤◌, ◌*◌, ℕ, List, true, Some, Err, IfOk, IfErr, OnOk, IsTrue, length};
 ghost use Rattle.cipher_profile.specs.Profile.{IsListed};
 ghost use Rattle.db_format.specs.Header.{header_fields};
 ghost use Rattle.db_format.specs.Source.{no_pins};
@@ -12,10 +12,11 @@ ghost use Rattle.fresh_disk.specs.Beside.{IsNewBeside};
 ghost use Rattle.fresh_file.specs.Draws.{HasOwnDraws};
 ghost use Rattle.fresh_file.specs.State.{most_pages};
 ghost use Rattle.page_codec.specs.Page.{keys_of};
+ghost use Rattle.pager.specs.Drawn.{drawn_since};
 ghost use Rattle.pager.specs.Beside.{Beside};
 ghost use Rattle.pager.specs.Held.{pins_of};
 ghost use Rattle.pager.specs.Opening.{HasNoJournal};
-ghost use Rattle.pager.specs.Pages.{opened_pages};
+ghost use Rattle.pager.specs.PagesOf.{pages_of};
 ghost use Rattle.migrate_job.specs.Migrated.{IsMigrated};
 ghost use Rattle.migrate_job.specs.Stops.{IsMigrateShown, is_early_stop};
 
@@ -41,29 +42,26 @@ pub fn migrate<'d, D: Disk, E: Entropy>(
     requires listed { IsListed profile }
     requires unpinned { pins_of pager.cache.held ≡ no_pins }
     requires alone { IsTrue D.tells → Each (D.images pager.disk.now) HasNoJournal }
-    requires header { IsTrue D.tells → pager.header ≡ header_fields ((opened_pages pager.codec (main_of (D.reads pager.disk.now)) pager.count).page 1) }
+    requires header { IsTrue D.tells → pager.header ≡ header_fields ((pages_of pager).page 1) }
     ensures disk { result.0.ghost_name ≡ pager.entry.disk.ghost_name }
     ensures entropy { result.1.ghost_name ≡ pager.entry.entropy.ghost_name }
     // what Ok comes to: no part of the old database has a defect, and one migrated file has taken Main's place
     ensures migrated { OnOk result.2 (IsTrue D.tells → TakesPlace D.reads D.images D.moment D.since
-        (IsMigrated profile secret.now pager.entry.header (opened_pages pager.entry.codec (main_of (D.reads pager.entry.disk.now)) pager.entry.count))
-        pager.entry.disk.now result.0.now) }
+        (IsMigrated profile secret.now pager.entry.header (pages_of pager.entry)) pager.entry.disk.now result.0.now) }
     ensures counts { IfOk result.2 (λ count. IsTrue D.tells → length (main_of (D.reads result.0.now)) ≡ count * profile.page_size) }
     ensures own_draws { OnOk result.2 (IsTrue D.tells → IsTrue E.tells
         → HasOwnDraws (keys_of profile secret.now (main_of (D.reads result.0.now))) (main_of (D.reads result.0.now))
-        (drop (length (E.drawn pager.entry.entropy.now)) (E.drawn result.1.now))) }
+        (drawn_since (E.drawn pager.entry.entropy.now) (E.drawn result.1.now))) }
     // each moment: the files of the start, or one migrated file, each page of which has drawn bytes of its own; after an error that is no
     // fault of the disk those of the start alone
-    ensures any_moment { IsTrue D.tells → LeavesOld D.reads D.images D.moment D.since pager.entry.disk.now result.0.now
-        ⊎ MayTakePlace D.images D.moment D.since
-        (λ file. IsMigrated profile secret.now pager.entry.header (opened_pages pager.entry.codec (main_of (D.reads pager.entry.disk.now)) pager.entry.count) file
-        × (IsTrue E.tells → HasOwnDraws (keys_of profile secret.now file) file (drop (length (E.drawn pager.entry.entropy.now)) (E.drawn result.1.now))))
+    ensures any_moment { IsTrue D.tells → LeavesOld D.reads D.images D.moment D.since pager.entry.disk.now result.0.now ⊎ MayTakePlace D.images D.moment D.since
+        (λ file. IsMigrated profile secret.now pager.entry.header (pages_of pager.entry) file
+        × (IsTrue E.tells → HasOwnDraws (keys_of profile secret.now file) file (drawn_since (E.drawn pager.entry.entropy.now) (E.drawn result.1.now))))
         pager.entry.disk.now result.0.now }
     ensures only_old { IfErr result.2 (λ e. (e ≡ MigrateError.DiskFault → ⊥) → IsTrue D.tells
         → LeavesOld D.reads D.images D.moment D.since pager.entry.disk.now result.0.now) }
     // why it stopped, and what that leaves
-    ensures shown { IfErr result.2 (λ e. IsTrue D.tells
-        → IsMigrateShown profile (opened_pages pager.entry.codec (main_of (D.reads pager.entry.disk.now)) pager.entry.count) e) }
+    ensures shown { IfErr result.2 (λ e. IsTrue D.tells → IsMigrateShown profile (pages_of pager.entry) e) }
     ensures limit { (limit : ℕ) → result.2 ≡ Err (MigrateError.TooManyPages limit) → limit ≡ most_pages profile }
     ensures early { IfErr result.2 (λ e. is_early_stop e ≡ true → IsTrue D.tells
         → OnlyRead D.reads D.images D.moment D.since pager.entry.disk.now result.0.now × (result.1.now ≡ pager.entry.entropy.now)) }
@@ -97,15 +95,13 @@ fn write_new<'d, D: Disk, E: Entropy>(
 ) -> Result<u32, MigrateError>
     requires listed { IsListed profile }
     requires unpinned { pins_of pager.old.cache.held ≡ no_pins }
-    requires header { IsTrue D.tells → pager.old.header ≡ header_fields ((opened_pages pager.old.codec (main_of (D.reads pager.old.disk.now)) pager.old.count).page 1) }
-    ensures written { OnOk result (IsTrue D.tells → IsNewBeside D.reads D.images (IsMigrated profile secret.now pager.old.header
-        (opened_pages pager.old.codec (main_of (D.reads pager.old.disk.now)) pager.old.count)) pager.new.disk.now) }
+    requires header { IsTrue D.tells → pager.old.header ≡ header_fields ((pages_of pager.old).page 1) }
+    ensures written { OnOk result (IsTrue D.tells → IsNewBeside D.reads D.images (IsMigrated profile secret.now pager.old.header (pages_of pager.old)) pager.new.disk.now) }
     ensures size { IfOk result (λ count. IsTrue D.tells → (file : List ℕ) → bytes_of (D.reads pager.new.disk.now).fresh ≡ Some file
         → length file ≡ count * profile.page_size) }
     ensures own_draws { OnOk result (IsTrue D.tells → IsTrue E.tells → (file : List ℕ) → bytes_of (D.reads pager.new.disk.now).fresh ≡ Some file
-        → HasOwnDraws (keys_of profile secret.now file) file (drop (length (E.drawn pager.old.entropy.now)) (E.drawn pager.new.entropy.now))) }
-    ensures shown { IfErr result (λ e. IsTrue D.tells
-        → IsMigrateShown profile (opened_pages pager.old.codec (main_of (D.reads pager.old.disk.now)) pager.old.count) e) }
+        → HasOwnDraws (keys_of profile secret.now file) file (drawn_since (E.drawn pager.old.entropy.now) (E.drawn pager.new.entropy.now))) }
+    ensures shown { IfErr result (λ e. IsTrue D.tells → IsMigrateShown profile (pages_of pager.old) e) }
     ensures limit { (limit : ℕ) → result ≡ Err (MigrateError.TooManyPages limit) → limit ≡ most_pages profile }
     ensures early { IfErr result (λ e. is_early_stop e ≡ true → IsTrue D.tells
         → OnlyRead D.reads D.images D.moment D.since pager.old.disk.now pager.new.disk.now × (pager.new.entropy.now ≡ pager.old.entropy.now)) }

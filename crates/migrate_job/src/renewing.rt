@@ -1,5 +1,5 @@
 // The database of a file, written beside in another profile.
-ghost use Rattle.std.specs.Prelude.{◌≡◌, ◌≤◌, ◌++◌, ◌*◌, ℕ, List, true, false, Some, Err, IfOk, IfErr, OnOk, OnErr, IsTrue, drop, length, map};
+ghost use Rattle.std.specs.Prelude.{◌≡◌, ◌≤◌, ◌++◌, ◌*◌, ℕ, List, true, false, Some, Err, IfOk, IfErr, OnOk, OnErr, IsTrue, length, map};
 ghost use Rattle.std.specs.List.{All};
 ghost use Rattle.btree_model.specs.Finding.{entries};
 ghost use Rattle.btree_model.specs.Parts.{is_database};
@@ -8,7 +8,7 @@ ghost use Rattle.db_format.specs.Header.{IsPageSize, header_fields};
 ghost use Rattle.db_format.specs.Source.{no_pins};
 ghost use Rattle.fresh_disk.specs.OnlyFresh.{IsFreshSynced};
 ghost use Rattle.edge_model.specs.Causes.{Rose};
-ghost use Rattle.edge_model.specs.Files.{bytes_of, main_of};
+ghost use Rattle.edge_model.specs.Files.{bytes_of};
 ghost use Rattle.fresh_disk.specs.Beside.{IsNewBeside, IsNewWritten};
 ghost use Rattle.fresh_file.specs.Salted.{IsSalted};
 ghost use Rattle.fresh_file.specs.Draws.{AreOwnDraws, HasOwnDraws};
@@ -16,9 +16,10 @@ ghost use Rattle.fresh_file.specs.State.{most_pages};
 ghost use Rattle.migrate_job.specs.Migrated.{IsMigrated, IsMigratedUnder, migrated_header};
 ghost use Rattle.migrate_job.specs.Stops.{IsMigrateShown, is_early_stop};
 ghost use Rattle.page_codec.specs.Page.{keys_of, magic};
+ghost use Rattle.pager.specs.Drawn.{drawn_since};
 ghost use Rattle.pager.specs.Beside.{Beside};
 ghost use Rattle.pager.specs.Held.{pins_of};
-ghost use Rattle.pager.specs.Pages.{opened_pages};
+ghost use Rattle.pager.specs.PagesOf.{pages_of};
 ghost use Rattle.schema_map.specs.Census.{schema_after};
 ghost use Rattle.schema_map.specs.Schema.{schema_row};
 
@@ -44,21 +45,18 @@ pub(crate) fn write_beside<'d, D: Disk, E: Entropy>(
 ) -> Result<u32, MigrateError>
     requires listed { IsListed profile }
     requires unpinned { pins_of pager.old.cache.held ≡ no_pins }
-    requires header { IsTrue D.tells → pager.old.header ≡ header_fields ((opened_pages pager.old.codec (main_of (D.reads pager.old.disk.now)) pager.old.count).page 1) }
+    requires header { IsTrue D.tells → pager.old.header ≡ header_fields ((pages_of pager.old).page 1) }
     requires roots { All (λ row. row.root ≤ pager.old.count) schema.now }
-    requires sound { IsTrue D.tells → is_database (opened_pages pager.old.codec (main_of (D.reads pager.old.disk.now)) pager.old.count) ≡ true }
-    requires schema { IsTrue D.tells
-        → schema.now ≡ map schema_row (entries (schema_after (opened_pages pager.old.codec (main_of (D.reads pager.old.disk.now)) pager.old.count))) }
+    requires sound { IsTrue D.tells → is_database (pages_of pager.old) ≡ true }
+    requires schema { IsTrue D.tells → schema.now ≡ map schema_row (entries (schema_after (pages_of pager.old))) }
     // what Ok comes to
-    ensures written { OnOk result (IsTrue D.tells → IsNewBeside D.reads D.images (IsMigrated profile secret.now pager.old.header
-        (opened_pages pager.old.codec (main_of (D.reads pager.old.disk.now)) pager.old.count)) pager.new.disk.now) }
+    ensures written { OnOk result (IsTrue D.tells → IsNewBeside D.reads D.images (IsMigrated profile secret.now pager.old.header (pages_of pager.old)) pager.new.disk.now) }
     ensures size { IfOk result (λ count. IsTrue D.tells → (file : List ℕ) → bytes_of (D.reads pager.new.disk.now).fresh ≡ Some file
         → length file ≡ count * profile.page_size) }
     ensures own_draws { OnOk result (IsTrue D.tells → IsTrue E.tells → (file : List ℕ) → bytes_of (D.reads pager.new.disk.now).fresh ≡ Some file
-        → HasOwnDraws (keys_of profile secret.now file) file (drop (length (E.drawn pager.old.entropy.now)) (E.drawn pager.new.entropy.now))) }
+        → HasOwnDraws (keys_of profile secret.now file) file (drawn_since (E.drawn pager.old.entropy.now) (E.drawn pager.new.entropy.now))) }
     // why it stopped
-    ensures shown { IfErr result (λ e. IsTrue D.tells
-        → (is_early_stop e ≡ false) × IsMigrateShown profile (opened_pages pager.old.codec (main_of (D.reads pager.old.disk.now)) pager.old.count) e) }
+    ensures shown { IfErr result (λ e. IsTrue D.tells → (is_early_stop e ≡ false) × IsMigrateShown profile (pages_of pager.old) e) }
     ensures limit { (limit : ℕ) → result ≡ Err (MigrateError.TooManyPages limit) → limit ≡ most_pages profile }
     ensures disk_fault { result ≡ Err MigrateError.DiskFault → Rose (D.faults pager.old.disk.now) (D.faults pager.new.disk.now) }
     ensures entropy_fault { result ≡ Err MigrateError.EntropyFault → Rose (E.faults pager.old.entropy.now) (E.faults pager.new.entropy.now) }
@@ -83,22 +81,20 @@ fn write_database<'d, D: Disk, E: Entropy>(
     schema: &Schema,
 ) -> Result<u32, MigrateError>
     requires unpinned { pins_of pager.old.cache.held ≡ no_pins }
-    requires header { IsTrue D.tells → pager.old.header ≡ header_fields ((opened_pages pager.old.codec (main_of (D.reads pager.old.disk.now)) pager.old.count).page 1) }
+    requires header { IsTrue D.tells → pager.old.header ≡ header_fields ((pages_of pager.old).page 1) }
     requires roots { All (λ row. row.root ≤ pager.old.count) schema.now }
-    requires sound { IsTrue D.tells → is_database (opened_pages pager.old.codec (main_of (D.reads pager.old.disk.now)) pager.old.count) ≡ true }
-    requires schema { IsTrue D.tells
-        → schema.now ≡ map schema_row (entries (schema_after (opened_pages pager.old.codec (main_of (D.reads pager.old.disk.now)) pager.old.count))) }
+    requires sound { IsTrue D.tells → is_database (pages_of pager.old) ≡ true }
+    requires schema { IsTrue D.tells → schema.now ≡ map schema_row (entries (schema_after (pages_of pager.old))) }
     // what Ok comes to
     ensures written { OnOk result (IsTrue D.tells → IsNewWritten (IsSalted codec (IsMigratedUnder codec pager.old.header
-        (opened_pages pager.old.codec (main_of (D.reads pager.old.disk.now)) pager.old.count))) (bytes_of (D.reads pager.new.disk.now).fresh)) }
+        (pages_of pager.old))) (bytes_of (D.reads pager.new.disk.now).fresh)) }
     ensures size { IfOk result (λ count. IsTrue D.tells → (file : List ℕ) → bytes_of (D.reads pager.new.disk.now).fresh ≡ Some file
         → length file ≡ count * codec.profile.page_size) }
     ensures synced { OnOk result (IsTrue D.tells → IsFreshSynced (D.images pager.new.disk.now) (D.reads pager.new.disk.now)) }
     ensures own_draws { OnOk result (IsTrue D.tells → IsTrue E.tells → (file : List ℕ) → bytes_of (D.reads pager.new.disk.now).fresh ≡ Some file
         → AreOwnDraws codec file (length (E.drawn pager.old.entropy.now)) (E.drawn pager.new.entropy.now)) }
     // why it stopped
-    ensures shown { IfErr result (λ e. IsTrue D.tells
-        → (is_early_stop e ≡ false) × IsMigrateShown codec.profile (opened_pages pager.old.codec (main_of (D.reads pager.old.disk.now)) pager.old.count) e) }
+    ensures shown { IfErr result (λ e. IsTrue D.tells → (is_early_stop e ≡ false) × IsMigrateShown codec.profile (pages_of pager.old) e) }
     ensures limit { (limit : ℕ) → result ≡ Err (MigrateError.TooManyPages limit) → limit ≡ most_pages codec.profile }
     ensures disk_fault { result ≡ Err MigrateError.DiskFault → Rose (D.faults pager.old.disk.now) (D.faults pager.new.disk.now) }
     ensures entropy_fault { result ≡ Err MigrateError.EntropyFault → Rose (E.faults pager.old.entropy.now) (E.faults pager.new.entropy.now) }

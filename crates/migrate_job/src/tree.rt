@@ -16,11 +16,11 @@ ghost use Rattle.db_format.specs.Pages.{IsUsable, Pages, Test, nothing};
 ghost use Rattle.db_format.specs.Seen.{marked};
 ghost use Rattle.db_format.specs.Source.{no_pins};
 ghost use Rattle.edge_model.specs.Causes.{Rose};
-ghost use Rattle.edge_model.specs.Files.{bytes_of, main_of};
+ghost use Rattle.edge_model.specs.Files.{bytes_of};
 ghost use Rattle.fresh_file.specs.State.{IsWellAs, fresh_pages};
 ghost use Rattle.pager.specs.Beside.{Beside};
 ghost use Rattle.pager.specs.Held.{pins_of};
-ghost use Rattle.pager.specs.Pages.{opened_pages};
+ghost use Rattle.pager.specs.PagesOf.{pages_of};
 ghost use Rattle.migrate_job.specs.Copying.{FollowsBeside, FollowsTarget, IsOfWalk, KeepsBeside, KeepsTarget, asked_by, beside_main};
 ghost use Rattle.migrate_job.specs.Stops.{is_early_stop};
 
@@ -50,24 +50,19 @@ pub(crate) fn copy_tree<'d, D: Disk, E: Entropy>(
     ensures tree { (start : ℕ) → IsWellAs state.old start D.tells E.tells (bytes_of (D.reads pager.old.disk.now).fresh) (E.drawn pager.old.entropy.now)
         → (own : Test) → CoversNew false own (fresh_pages state.old (bytes_of (D.reads pager.old.disk.now).fresh)) (fresh_pages state.new (bytes_of (D.reads pager.new.disk.now).fresh))
         → IfOk result (λ new_root. HasTree (only own (fresh_pages state.new (bytes_of (D.reads pager.new.disk.now).fresh)))
-        (root_family root ((opened_pages pager.old.codec (main_of (D.reads pager.old.disk.now)) pager.old.count).page root)) new_root
-        (map entry_of (entries (tree_walk (opened_pages pager.old.codec (main_of (D.reads pager.old.disk.now)) pager.old.count)
-        (root_family root ((opened_pages pager.old.codec (main_of (D.reads pager.old.disk.now)) pager.old.count).page root)) nothing root)))) }
-    ensures sound { OnOk result (IsTrue D.tells → is_sound (tree_walk (opened_pages pager.old.codec (main_of (D.reads pager.old.disk.now)) pager.old.count)
-        (root_family root ((opened_pages pager.old.codec (main_of (D.reads pager.old.disk.now)) pager.old.count).page root)) nothing root) ≡ true) }
+        (root_family root ((pages_of pager.old).page root)) new_root (map entry_of (entries (tree_walk (pages_of pager.old)
+        (root_family root ((pages_of pager.old).page root)) nothing root)))) }
+    ensures sound { OnOk result (IsTrue D.tells → is_sound (tree_walk (pages_of pager.old) (root_family root ((pages_of pager.old).page root)) nothing root) ≡ true) }
     // why it stopped: a defect or a refused page of the tree, which a sound one has not, or what is told by a count
-    ensures cause { IfErr result (λ error. IsTrue D.tells → IsOfWalk (tree_walk (opened_pages pager.old.codec (main_of (D.reads pager.old.disk.now)) pager.old.count)
-        (root_family root ((opened_pages pager.old.codec (main_of (D.reads pager.old.disk.now)) pager.old.count).page root)) nothing root) error) }
-    ensures late { IfErr result (λ error. IsTrue D.tells → is_sound (tree_walk (opened_pages pager.old.codec (main_of (D.reads pager.old.disk.now)) pager.old.count)
-        (root_family root ((opened_pages pager.old.codec (main_of (D.reads pager.old.disk.now)) pager.old.count).page root)) nothing root) ≡ true → is_early_stop error ≡ false) }
+    ensures cause { IfErr result (λ error. IsTrue D.tells → IsOfWalk (tree_walk (pages_of pager.old) (root_family root ((pages_of pager.old).page root)) nothing root) error) }
+    ensures late { IfErr result (λ error. IsTrue D.tells → is_sound (tree_walk (pages_of pager.old)
+        (root_family root ((pages_of pager.old).page root)) nothing root) ≡ true → is_early_stop error ≡ false) }
     // no more pages are taken than a tree of these entries may have, with the one that was asked for in vain
-    ensures few { IsTrue D.tells → state.new.taken ≤ state.old.taken + load_pages (root_family root ((opened_pages pager.old.codec (main_of (D.reads pager.old.disk.now)) pager.old.count).page root)) (usable state.old.codec.profile)
-        (map entry_of (entries (tree_walk (opened_pages pager.old.codec (main_of (D.reads pager.old.disk.now)) pager.old.count)
-        (root_family root ((opened_pages pager.old.codec (main_of (D.reads pager.old.disk.now)) pager.old.count).page root)) nothing root))) }
+    ensures few { IsTrue D.tells → state.new.taken ≤ state.old.taken + load_pages (root_family root ((pages_of pager.old).page root)) (usable state.old.codec.profile)
+        (map entry_of (entries (tree_walk (pages_of pager.old) (root_family root ((pages_of pager.old).page root)) nothing root))) }
     ensures asked { (limit : ℕ) → result ≡ Err (MigrateError.TooManyPages limit) → IsTrue D.tells → state.new.taken + 1 ≤ state.old.taken + load_pages
-        (root_family root ((opened_pages pager.old.codec (main_of (D.reads pager.old.disk.now)) pager.old.count).page root)) (usable state.old.codec.profile)
-        (map entry_of (entries (tree_walk (opened_pages pager.old.codec (main_of (D.reads pager.old.disk.now)) pager.old.count)
-        (root_family root ((opened_pages pager.old.codec (main_of (D.reads pager.old.disk.now)) pager.old.count).page root)) nothing root))) }
+        (root_family root ((pages_of pager.old).page root)) (usable state.old.codec.profile) (map entry_of (entries (tree_walk (pages_of pager.old)
+        (root_family root ((pages_of pager.old).page root)) nothing root))) }
     ensures limit { (limit : ℕ) → result ≡ Err (MigrateError.TooManyPages limit) → (limit ≡ state.old.limit) × (state.old.limit ≤ state.new.taken + 1) }
     ensures disk_fault { result ≡ Err MigrateError.DiskFault → Rose (D.faults pager.old.disk.now) (D.faults pager.new.disk.now) }
     ensures entropy_fault { result ≡ Err MigrateError.EntropyFault → Rose (E.faults pager.old.entropy.now) (E.faults pager.new.entropy.now) }
@@ -102,13 +97,13 @@ fn copy_family<'d, D: Disk, E: Entropy>(
     ensures tree { (start : ℕ) → IsWellAs state.old start D.tells E.tells (bytes_of (D.reads pager.old.disk.now).fresh) (E.drawn pager.old.entropy.now)
         → (own : Test) → CoversNew false own (fresh_pages state.old (bytes_of (D.reads pager.old.disk.now).fresh)) (fresh_pages state.new (bytes_of (D.reads pager.new.disk.now).fresh))
         → IfOk result (λ new_root. HasTree (only own (fresh_pages state.new (bytes_of (D.reads pager.new.disk.now).fresh))) family new_root
-        (map entry_of (entries (tree_walk (opened_pages pager.old.codec (main_of (D.reads pager.old.disk.now)) pager.old.count) family nothing root)))) }
-    ensures sound { OnOk result (IsTrue D.tells → is_sound (tree_walk (opened_pages pager.old.codec (main_of (D.reads pager.old.disk.now)) pager.old.count) family nothing root) ≡ true) }
-    ensures cause { IfErr result (λ error. IsTrue D.tells → IsOfWalk (tree_walk (opened_pages pager.old.codec (main_of (D.reads pager.old.disk.now)) pager.old.count) family nothing root) error) }
+        (map entry_of (entries (tree_walk (pages_of pager.old) family nothing root)))) }
+    ensures sound { OnOk result (IsTrue D.tells → is_sound (tree_walk (pages_of pager.old) family nothing root) ≡ true) }
+    ensures cause { IfErr result (λ error. IsTrue D.tells → IsOfWalk (tree_walk (pages_of pager.old) family nothing root) error) }
     ensures few { IsTrue D.tells → state.new.taken ≤ state.old.taken + load_pages family (usable state.old.codec.profile)
-        (map entry_of (entries (tree_walk (opened_pages pager.old.codec (main_of (D.reads pager.old.disk.now)) pager.old.count) family nothing root))) }
+        (map entry_of (entries (tree_walk (pages_of pager.old) family nothing root))) }
     ensures asked { IfErr result (λ error. IsTrue D.tells → state.new.taken + asked_by error ≤ state.old.taken + load_pages family (usable state.old.codec.profile)
-        (map entry_of (entries (tree_walk (opened_pages pager.old.codec (main_of (D.reads pager.old.disk.now)) pager.old.count) family nothing root)))) }
+        (map entry_of (entries (tree_walk (pages_of pager.old) family nothing root)))) }
     ensures limit { (limit : ℕ) → result ≡ Err (MigrateError.TooManyPages limit) → (limit ≡ state.old.limit) × (state.old.limit ≤ state.new.taken + 1) }
     ensures disk_fault { result ≡ Err MigrateError.DiskFault → Rose (D.faults pager.old.disk.now) (D.faults pager.new.disk.now) }
     ensures entropy_fault { result ≡ Err MigrateError.EntropyFault → Rose (E.faults pager.old.entropy.now) (E.faults pager.new.entropy.now) }
@@ -169,36 +164,30 @@ fn copy_entries<'d, D: Disk, E: Entropy>(
     // all entries of the walk, behind those that were given and pushed before
     ensures loaded { (start : ℕ) → IsWellAs state.old start D.tells E.tells (bytes_of (D.reads pager.old.disk.now).fresh) (E.drawn pager.old.entropy.now)
         → (own : Test) → Covers false own (fresh_pages state.old (bytes_of (D.reads pager.old.disk.now).fresh)) (fresh_pages state.new (bytes_of (D.reads pager.new.disk.now).fresh))
-        → (taken : Test) (given : List Row)
-        → IsCursorAt (opened_pages pager.old.codec (main_of (D.reads pager.old.disk.now)) pager.old.count) taken given cursor.old (marked seen.old)
+        → (taken : Test) (given : List Row) → IsCursorAt (pages_of pager.old) taken given cursor.old (marked seen.old)
         → Loaded (only own (fresh_pages state.old (bytes_of (D.reads pager.old.disk.now).fresh))) loader.old (map entry_of given)
         → OnOk result (Loaded (only own (fresh_pages state.new (bytes_of (D.reads pager.new.disk.now).fresh))) loader.new
-        (map entry_of (entries (walked (opened_pages pager.old.codec (main_of (D.reads pager.old.disk.now)) pager.old.count) taken cursor.old)))) }
-    ensures sound { OnOk result (IsTrue D.tells → (taken : Test) (given : List Row)
-        → IsCursorAt (opened_pages pager.old.codec (main_of (D.reads pager.old.disk.now)) pager.old.count) taken given cursor.old (marked seen.old)
-        → is_sound (walked (opened_pages pager.old.codec (main_of (D.reads pager.old.disk.now)) pager.old.count) taken cursor.old) ≡ true) }
+        (map entry_of (entries (walked (pages_of pager.old) taken cursor.old)))) }
+    ensures sound { OnOk result (IsTrue D.tells → (taken : Test) (given : List Row) → IsCursorAt (pages_of pager.old) taken given cursor.old (marked seen.old)
+        → is_sound (walked (pages_of pager.old) taken cursor.old) ≡ true) }
     ensures loader { OnOk result (IsLoader loader.new (usable state.old.codec.profile)) }
     ensures family { OnOk result (family_of_loader loader.new ≡ family_of_loader loader.old) }
     ensures at_one { OnOk result (loader.new.at_one ≡ loader.old.at_one) }
     ensures unpinned { OnOk result (pins_of pager.new.cache.held ≡ no_pins) }
-    ensures of_walk { IfErr result (λ error. IsTrue D.tells → (taken : Test) (given : List Row)
-        → IsCursorAt (opened_pages pager.old.codec (main_of (D.reads pager.old.disk.now)) pager.old.count) taken given cursor.old (marked seen.old)
-        → family_of_loader loader.old ≡ walked_family (opened_pages pager.old.codec (main_of (D.reads pager.old.disk.now)) pager.old.count) cursor.old
-        → IsOfWalk (walked (opened_pages pager.old.codec (main_of (D.reads pager.old.disk.now)) pager.old.count) taken cursor.old) error) }
+    ensures of_walk { IfErr result (λ error. IsTrue D.tells → (taken : Test) (given : List Row) → IsCursorAt (pages_of pager.old) taken given cursor.old (marked seen.old)
+        → family_of_loader loader.old ≡ walked_family (pages_of pager.old) cursor.old → IsOfWalk (walked (pages_of pager.old) taken cursor.old) error) }
     ensures shallow { (from : ℕ) → IsShallow (usable state.old.codec.profile) from (state.old.taken + 1) loader.old
         → OnOk result (IsShallow (usable state.old.codec.profile) from (state.new.taken + 1) loader.new) }
-    ensures took { IsTrue D.tells → (taken : Test) (given more : List Row)
-        → IsCursorAt (opened_pages pager.old.codec (main_of (D.reads pager.old.disk.now)) pager.old.count) taken given cursor.old (marked seen.old)
-        → entries (walked (opened_pages pager.old.codec (main_of (D.reads pager.old.disk.now)) pager.old.count) taken cursor.old) ≡ given ++ more
+    ensures took { IsTrue D.tells → (taken : Test) (given more : List Row) → IsCursorAt (pages_of pager.old) taken given cursor.old (marked seen.old)
+        → entries (walked (pages_of pager.old) taken cursor.old) ≡ given ++ more
         → (from : ℕ) → TookFew (family_of_loader loader.old) (usable state.old.codec.profile) from (map entry_of given) (state.old.taken + 1) loader.old
         → OnOk result (TookFew (family_of_loader loader.old) (usable state.old.codec.profile) from
-        (map entry_of (entries (walked (opened_pages pager.old.codec (main_of (D.reads pager.old.disk.now)) pager.old.count) taken cursor.old))) (state.new.taken + 1) loader.new) }
-    ensures few { IsTrue D.tells → (taken : Test) (given more : List Row)
-        → IsCursorAt (opened_pages pager.old.codec (main_of (D.reads pager.old.disk.now)) pager.old.count) taken given cursor.old (marked seen.old)
-        → entries (walked (opened_pages pager.old.codec (main_of (D.reads pager.old.disk.now)) pager.old.count) taken cursor.old) ≡ given ++ more
+        (map entry_of (entries (walked (pages_of pager.old) taken cursor.old))) (state.new.taken + 1) loader.new) }
+    ensures few { IsTrue D.tells → (taken : Test) (given more : List Row) → IsCursorAt (pages_of pager.old) taken given cursor.old (marked seen.old)
+        → entries (walked (pages_of pager.old) taken cursor.old) ≡ given ++ more
         → (from : ℕ) → TookFew (family_of_loader loader.old) (usable state.old.codec.profile) from (map entry_of given) (state.old.taken + 1) loader.old
         → IfErr result (λ error. state.new.taken + 1 + asked_by error ≤ from + load_pages (family_of_loader loader.old) (usable state.old.codec.profile)
-        (map entry_of (entries (walked (opened_pages pager.old.codec (main_of (D.reads pager.old.disk.now)) pager.old.count) taken cursor.old)))) }
+        (map entry_of (entries (walked (pages_of pager.old) taken cursor.old)))) }
     ensures limit { (limit : ℕ) → result ≡ Err (MigrateError.TooManyPages limit) → (limit ≡ state.old.limit) × (state.old.limit ≤ state.new.taken + 1) }
     ensures disk_fault { result ≡ Err MigrateError.DiskFault → Rose (D.faults pager.old.disk.now) (D.faults pager.new.disk.now) }
     ensures entropy_fault { result ≡ Err MigrateError.EntropyFault → Rose (E.faults pager.old.entropy.now) (E.faults pager.new.entropy.now) }

@@ -14,7 +14,8 @@ ghost use Rattle.page_plan.specs.Stops.{is_begun, is_fault, page_stop};
 ghost use Rattle.pager.specs.Causes.{IsChangeRefusal};
 ghost use Rattle.pager.specs.Changed.{same_layout};
 ghost use Rattle.pager.specs.File.{page_stored};
-ghost use Rattle.pager.specs.Pages.{is_page_number, opened_pages};
+ghost use Rattle.pager.specs.Pages.{is_page_number};
+ghost use Rattle.pager.specs.PagesOf.{pages_of};
 ghost use Rattle.pager.specs.UnderWay.{HasNewPages, IsReadyFor, IsUnderWay, Start, is_failure, is_touched, seen_pages};
 
 use crate::error::WriteError;
@@ -46,7 +47,7 @@ pub fn write_plan<'d, D: Disk, E: Entropy, P: Plan>(
     ensures disk { result.0.ghost_name ≡ pager.entry.disk.ghost_name }
     ensures entropy { result.1.ghost_name ≡ pager.entry.entropy.ghost_name }
     ensures changed { OnOk result.2 (IsTrue D.tells → HasNewPages start write (P.writes plan.now)
-        (λ n. P.becomes plan.now n ((opened_pages pager.entry.codec (main_of (D.reads pager.entry.disk.now)) pager.entry.count).page n)) E.tells (E.drawn result.1.now) (main_of (D.reads result.0.now))) }
+        (λ n. P.becomes plan.now n ((pages_of pager.entry).page n)) E.tells (E.drawn result.1.now) (main_of (D.reads result.0.now))) }
     ensures new { OnOk result.2 (IsTrue D.tells → Each (D.images result.0.now) (IsCommitted start.base (main_of (D.reads result.0.now)))) }
     // no page was written, and the disk was only read; or each image has Main as it reads
     ensures settled { OnOk result.2 (IsTrue D.tells → OnlyRead D.reads D.images D.moment D.since pager.entry.disk.now result.0.now
@@ -54,7 +55,7 @@ pub fn write_plan<'d, D: Disk, E: Entropy, P: Plan>(
     ensures one_new { OnOk result.2 (IsTrue D.tells → LeavesOnly D.moment D.since pager.entry.disk.now result.0.now
         (HoldsEither start.base (stored_pages start.base.size start.base.pages (main_of (D.reads result.0.now))))) }
     ensures any_moment { IsTrue D.tells → LeavesChanged D.moment D.since start.base (HasNewPages start write (P.writes plan.now)
-        (λ n. P.becomes plan.now n ((opened_pages pager.entry.codec (main_of (D.reads pager.entry.disk.now)) pager.entry.count).page n)) E.tells (E.drawn result.1.now)) pager.entry.disk.now result.0.now }
+        (λ n. P.becomes plan.now n ((pages_of pager.entry).page n)) E.tells (E.drawn result.1.now)) pager.entry.disk.now result.0.now }
     ensures only_old { result.2 ≡ Err WriteError.EntropyFault → IsTrue D.tells → LeavesOnly D.moment D.since pager.entry.disk.now result.0.now (HoldsOld start.base) }
     ensures fresh { IsTrue D.tells → LeavesOnly D.moment D.since pager.entry.disk.now result.0.now (From SameFresh (D.images pager.entry.disk.now)) }
     ensures unbegun { IfErr result.2 (λ e. is_begun e ≡ false → (result.0.now ≡ pager.entry.disk.now) × (result.1.now ≡ pager.entry.entropy.now)) }

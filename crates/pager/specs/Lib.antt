@@ -2,6 +2,8 @@ pub mod File
 pub mod Opening
 pub mod Database
 pub mod Pages
+pub mod PagesOf
+pub mod Drawn
 pub mod Held
 pub mod Ahead
 pub mod Causes

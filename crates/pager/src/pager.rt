@@ -10,7 +10,7 @@ ghost use Rattle.edge_model.specs.Files.{main_of};
 ghost use Rattle.pager.specs.Ahead.{IsAhead, IsAhead-prop};
 ghost use Rattle.pager.specs.Held.{plain_of_page, pins_of, AreOpened, AreOpened-prop, IsAllPinned};
 ghost use Rattle.pager.specs.Opening.{HasNoJournal, IsRefusedBy, file_opened};
-ghost use Rattle.pager.specs.Pages.{is_page_number, opened_pages};
+ghost use Rattle.pager.specs.Pages.{is_page_number};
 ghost use Rattle.pager.specs.Causes.{IsRefusedPage, MayRefuse};
 ghost use Rattle.pager.specs.Reads.{DiskRead, Untouched};
 
@@ -50,6 +50,8 @@ pub struct Pager<'d, D: Disk, E: Entropy> {
 }
 
 impl<'d, D: Disk, E: Entropy> Pager<'d, D, E> {
+    ghost use Rattle.pager.specs.PagesOf.{pages_of};
+
     /// Opens Main under this codec, for so many frames. All memory for reading pages is taken here, once the file is known to open. A
     /// caller that must know its disk after an `Err` takes the two steps of this call itself.
     pub fn open(
@@ -97,12 +99,11 @@ impl<'d, D: Disk, E: Entropy> Pager<'d, D, E> {
 
     /// Lends page n out of its frame, where its tag holds, whatever has left the frames before. A refused page leaves nothing in a frame.
     pub fn page(&mut self, n: u32) -> Result<&[u8], PageError>
-        ensures told { IfOk result (λ page. IsTrue D.tells
-            → page.now ≡ (opened_pages self.old.codec (main_of (D.reads self.old.disk.now)) self.old.count).page n) }
-        ensures accepted { OnOk result (IsTrue D.tells → (opened_pages self.old.codec (main_of (D.reads self.old.disk.now)) self.old.count).accepts n ≡ true) }
+        ensures told { IfOk result (λ page. IsTrue D.tells → page.now ≡ (pages_of self.old).page n) }
+        ensures accepted { OnOk result (IsTrue D.tells → (pages_of self.old).accepts n ≡ true) }
         ensures size { IfOk result (λ page. length page.now ≡ usable self.old.codec.profile) }
         ensures in_range { OnOk result (is_page_number self.old.count n ≡ true) }
-        ensures refused { IfErr result (MayRefuse D.tells (opened_pages self.old.codec (main_of (D.reads self.old.disk.now)) self.old.count) n) }
+        ensures refused { IfErr result (MayRefuse D.tells (pages_of self.old) n) }
         ensures out_of_range { is_page_number self.old.count n ≡ false → result ≡ Err PageError.OutOfRange }
         ensures all_pinned { is_page_number self.old.count n ≡ true → is_held n self.old.cache.held ≡ false → IsAllPinned self.old.cache → result ≡ Err PageError.AllPinned }
         ensures pinned { result ≡ Err PageError.AllPinned → (is_held n self.old.cache.held ≡ false) × IsAllPinned self.old.cache }
@@ -113,16 +114,14 @@ impl<'d, D: Disk, E: Entropy> Pager<'d, D, E> {
 
     /// Brings page n in, for `lent` to lend.
     pub(crate) fn bring_in(&mut self, n: u32) -> Result<(), PageError>
-        ensures told { OnOk result (IsTrue D.tells → plain_of_page self.new.codec.profile self.new.last self.new.cache.held
-            ≡ (opened_pages self.old.codec (main_of (D.reads self.old.disk.now)) self.old.count).page n) }
-        ensures accepted { OnOk result (IsTrue D.tells → (opened_pages self.old.codec (main_of (D.reads self.old.disk.now)) self.old.count).accepts n ≡ true) }
+        ensures told { OnOk result (IsTrue D.tells → plain_of_page self.new.codec.profile self.new.last self.new.cache.held ≡ (pages_of self.old).page n) }
+        ensures accepted { OnOk result (IsTrue D.tells → (pages_of self.old).accepts n ≡ true) }
         ensures size { OnOk result (length (plain_of_page self.new.codec.profile self.new.last self.new.cache.held) ≡ usable self.old.codec.profile) }
         ensures usable { OnOk result (IsUsable (usable self.old.codec.profile)) }
         ensures in_range { OnOk result (is_page_number self.old.count n ≡ true) }
         ensures held { OnOk result (is_held n self.new.cache.held ≡ true) }
         // why it is not given, and that nothing of it is left
-        ensures cause { IfErr result (IsRefusedPage D.tells (opened_pages self.old.codec (main_of (D.reads self.old.disk.now)) self.old.count)
-            n self.old.cache (D.faults self.old.disk.now) (D.faults self.new.disk.now)) }
+        ensures cause { IfErr result (IsRefusedPage D.tells (pages_of self.old) n self.old.cache (D.faults self.old.disk.now) (D.faults self.new.disk.now)) }
         ensures out_of_range { is_page_number self.old.count n ≡ false → result ≡ Err PageError.OutOfRange }
         ensures all_pinned { is_page_number self.old.count n ≡ true → is_held n self.old.cache.held ≡ false → IsAllPinned self.old.cache → result ≡ Err PageError.AllPinned }
         ensures gone { OnErr result (is_page_number self.old.count n ≡ true → is_held n self.new.cache.held ≡ false) }

@@ -7,9 +7,8 @@ ghost use Rattle.db_format.specs.Header.{header_fields};
 ghost use Rattle.db_format.specs.Seen.{marked};
 ghost use Rattle.db_format.specs.Source.{no_pins};
 ghost use Rattle.pager.specs.Causes.{IsReadRefusal, MayRefuse};
-ghost use Rattle.edge_model.specs.Files.{main_of};
 ghost use Rattle.pager.specs.Held.{pins_of};
-ghost use Rattle.pager.specs.Pages.{opened_pages};
+ghost use Rattle.pager.specs.PagesOf.{pages_of};
 ghost use Rattle.pager.specs.Reads.{DiskRead, Untouched};
 ghost use Rattle.schema_map.specs.Census.{IsWhole};
 ghost use Rattle.rekey_job.specs.Stops.{AreClean, IsFirstRefused, IsRekeyShown, rekey_page_error, rekey_walk_error};
@@ -28,11 +27,10 @@ pub fn check_pages<D: Disk, E: Entropy>(
     pager: &mut Pager<'_, D, E>,
 ) -> Result<FreeMap, RekeyError>
     requires unpinned { pins_of pager.old.cache.held ≡ no_pins }
-    requires header { IsTrue D.tells → pager.old.header ≡ header_fields ((opened_pages pager.old.codec (main_of (D.reads pager.old.disk.now)) pager.old.count).page 1) }
-    ensures clean { OnOk result (IsTrue D.tells → AreClean (opened_pages pager.old.codec (main_of (D.reads pager.old.disk.now)) pager.old.count)) }
-    ensures leaves { IfOk result (λ leaves. IsTrue D.tells → (n : ℕ)
-        → marked leaves.leaves n ≡ is_leaf (opened_pages pager.old.codec (main_of (D.reads pager.old.disk.now)) pager.old.count) n) }
-    ensures shown { IfErr result (λ e. IsTrue D.tells → IsRekeyShown (opened_pages pager.old.codec (main_of (D.reads pager.old.disk.now)) pager.old.count) e) }
+    requires header { IsTrue D.tells → pager.old.header ≡ header_fields ((pages_of pager.old).page 1) }
+    ensures clean { OnOk result (IsTrue D.tells → AreClean (pages_of pager.old)) }
+    ensures leaves { IfOk result (λ leaves. IsTrue D.tells → (n : ℕ) → marked leaves.leaves n ≡ is_leaf (pages_of pager.old) n) }
+    ensures shown { IfErr result (λ e. IsTrue D.tells → IsRekeyShown (pages_of pager.old) e) }
     ensures reading { IfErr result (λ e. (e ≢ RekeyError.LayoutDiffers) × (e ≢ RekeyError.EntropyFault)) }
     ensures fault { result ≡ Err RekeyError.DiskFault → Rose (D.faults pager.old.disk.now) (D.faults pager.new.disk.now) }
     ensures disk { DiskRead D.tells D.reads D.images D.moment D.since D.faults pager.old.disk pager.new.disk }
@@ -51,11 +49,10 @@ fn check_others<D: Disk, E: Entropy>(
     pager: &mut Pager<'_, D, E>,
     census: Census,
 ) -> Result<FreeMap, RekeyError>
-    requires whole { IsTrue D.tells → IsWhole (opened_pages pager.old.codec (main_of (D.reads pager.old.disk.now)) pager.old.count) census }
-    ensures clean { OnOk result (IsTrue D.tells → AreClean (opened_pages pager.old.codec (main_of (D.reads pager.old.disk.now)) pager.old.count)) }
-    ensures leaves { IfOk result (λ leaves. IsTrue D.tells → (n : ℕ)
-        → marked leaves.leaves n ≡ is_leaf (opened_pages pager.old.codec (main_of (D.reads pager.old.disk.now)) pager.old.count) n) }
-    ensures shown { IfErr result (λ e. IsTrue D.tells → IsRekeyShown (opened_pages pager.old.codec (main_of (D.reads pager.old.disk.now)) pager.old.count) e) }
+    requires whole { IsTrue D.tells → IsWhole (pages_of pager.old) census }
+    ensures clean { OnOk result (IsTrue D.tells → AreClean (pages_of pager.old)) }
+    ensures leaves { IfOk result (λ leaves. IsTrue D.tells → (n : ℕ) → marked leaves.leaves n ≡ is_leaf (pages_of pager.old) n) }
+    ensures shown { IfErr result (λ e. IsTrue D.tells → IsRekeyShown (pages_of pager.old) e) }
     ensures reading { IfErr result (λ e. (e ≢ RekeyError.LayoutDiffers) × (e ≢ RekeyError.EntropyFault)) }
     ensures fault { result ≡ Err RekeyError.DiskFault → Rose (D.faults pager.old.disk.now) (D.faults pager.new.disk.now) }
     ensures disk { DiskRead D.tells D.reads D.images D.moment D.since D.faults pager.old.disk pager.new.disk }
@@ -85,10 +82,8 @@ fn check_tags<D: Disk, E: Entropy>(
     pager: &mut Pager<'_, D, E>,
     leaves: &FreeMap,
 ) -> Result<(), PageError>
-    ensures accepted { OnOk result (IsTrue D.tells → (n : ℕ) → 1 ≤ n → n ≤ pager.old.count → marked leaves.now.leaves n ≡ false
-        → (opened_pages pager.old.codec (main_of (D.reads pager.old.disk.now)) pager.old.count).accepts n ≡ true) }
-    ensures refused { IfErr result (λ e. (n : ℕ) → e ≡ PageError.TagRefused n → IsTrue D.tells
-        → IsFirstRefused (opened_pages pager.old.codec (main_of (D.reads pager.old.disk.now)) pager.old.count) (marked leaves.now.leaves) n) }
+    ensures accepted { OnOk result (IsTrue D.tells → (n : ℕ) → 1 ≤ n → n ≤ pager.old.count → marked leaves.now.leaves n ≡ false → (pages_of pager.old).accepts n ≡ true) }
+    ensures refused { IfErr result (λ e. (n : ℕ) → e ≡ PageError.TagRefused n → IsTrue D.tells → IsFirstRefused (pages_of pager.old) (marked leaves.now.leaves) n) }
     ensures read { IfErr result IsReadRefusal }
     ensures fault { result ≡ Err PageError.DiskFault → Rose (D.faults pager.old.disk.now) (D.faults pager.new.disk.now) }
     ensures disk { DiskRead D.tells D.reads D.images D.moment D.since D.faults pager.old.disk pager.new.disk }
@@ -111,10 +106,8 @@ fn check_tag<D: Disk, E: Entropy>(
     n: u32,
     leaves: &FreeMap,
 ) -> Result<(), PageError>
-    ensures accepted { OnOk result (IsTrue D.tells → marked leaves.now.leaves n ≡ false
-        → (opened_pages pager.old.codec (main_of (D.reads pager.old.disk.now)) pager.old.count).accepts n ≡ true) }
-    ensures refused { IfErr result (λ e. (marked leaves.now.leaves n ≡ false)
-        × MayRefuse D.tells (opened_pages pager.old.codec (main_of (D.reads pager.old.disk.now)) pager.old.count) n e) }
+    ensures accepted { OnOk result (IsTrue D.tells → marked leaves.now.leaves n ≡ false → (pages_of pager.old).accepts n ≡ true) }
+    ensures refused { IfErr result (λ e. (marked leaves.now.leaves n ≡ false) × MayRefuse D.tells (pages_of pager.old) n e) }
     ensures fault { result ≡ Err PageError.DiskFault → Rose (D.faults pager.old.disk.now) (D.faults pager.new.disk.now) }
     ensures disk { DiskRead D.tells D.reads D.images D.moment D.since D.faults pager.old.disk pager.new.disk }
     ensures entropy { Untouched pager.old.entropy pager.new.entropy }

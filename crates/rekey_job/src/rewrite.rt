@@ -5,7 +5,7 @@ ghost use Rattle.edge_model.specs.Images.{Each, From, LeavesOnly};
 ghost use Rattle.btree_model.specs.Plain.{is_leaf, with_zeros};
 ghost use Rattle.db_format.specs.Seen.{marked};
 ghost use Rattle.pager.specs.Changed.{same_layout};
-ghost use Rattle.pager.specs.Pages.{opened_pages};
+ghost use Rattle.pager.specs.PagesOf.{pages_of};
 ghost use Rattle.pager.specs.UnderWay.{HasNewPages, Start};
 ghost use Rattle.edge_model.specs.Files.{main_of};
 ghost use Rattle.atomic_commit.specs.Commit.{IsCommitted, LeavesChanged};
@@ -91,17 +91,17 @@ pub fn rewrite_pages<'d, D: Disk, E: Entropy>(
     requires base_is { IsBase start.base }
     requires begun { IsTrue D.tells → IsCommitBegun start.base (D.images pager.disk.now) }
     requires same { IsTrue D.tells → start.base.start ≡ main_of (D.reads pager.disk.now) }
-    requires clean { IsTrue D.tells → AreClean (opened_pages pager.codec (main_of (D.reads pager.disk.now)) pager.count) }
-    requires leaves { IsTrue D.tells → (n : ℕ) → marked leaves.now.leaves n ≡ is_leaf (opened_pages pager.codec (main_of (D.reads pager.disk.now)) pager.count) n }
+    requires clean { IsTrue D.tells → AreClean (pages_of pager) }
+    requires leaves { IsTrue D.tells → (n : ℕ) → marked leaves.now.leaves n ≡ is_leaf (pages_of pager) n }
     ensures disk { result.0.ghost_name ≡ pager.entry.disk.ghost_name }
     ensures entropy { result.1.ghost_name ≡ pager.entry.entropy.ghost_name }
     ensures changed { OnOk result.2 (IsTrue D.tells → HasNewPages start write (λ n. true)
-        (with_zeros (opened_pages pager.entry.codec (main_of (D.reads pager.entry.disk.now)) pager.entry.count)).page E.tells (E.drawn result.1.now) (main_of (D.reads result.0.now))) }
+        (with_zeros (pages_of pager.entry)).page E.tells (E.drawn result.1.now) (main_of (D.reads result.0.now))) }
     ensures new { OnOk result.2 (IsTrue D.tells → Each (D.images result.0.now) (IsCommitted start.base (main_of (D.reads result.0.now)))) }
     ensures one_new { OnOk result.2 (IsTrue D.tells → LeavesOnly D.moment D.since pager.entry.disk.now result.0.now
         (HoldsEither start.base (stored_pages start.base.size start.base.pages (main_of (D.reads result.0.now))))) }
     ensures any_moment { IsTrue D.tells → LeavesChanged D.moment D.since start.base (HasNewPages start write (λ n. true)
-        (with_zeros (opened_pages pager.entry.codec (main_of (D.reads pager.entry.disk.now)) pager.entry.count)).page E.tells (E.drawn result.1.now)) pager.entry.disk.now result.0.now }
+        (with_zeros (pages_of pager.entry)).page E.tells (E.drawn result.1.now)) pager.entry.disk.now result.0.now }
     ensures only_old { result.2 ≡ Err RekeyError.EntropyFault → IsTrue D.tells → LeavesOnly D.moment D.since pager.entry.disk.now result.0.now (HoldsOld start.base) }
     ensures fresh { IsTrue D.tells → LeavesOnly D.moment D.since pager.entry.disk.now result.0.now (From SameFresh (D.images pager.entry.disk.now)) }
     ensures unwritten { result.2 ≡ Err RekeyError.OutOfMemory → IsTrue D.tells → (result.0.now ≡ pager.entry.disk.now) × (result.1.now ≡ pager.entry.entropy.now) }

@@ -11,7 +11,8 @@ ghost use Rattle.edge_model.specs.OnlyRead.{OnlyRead};
 ghost use Rattle.page_codec.specs.Page.{accepts};
 ghost use Rattle.pager.specs.Changed.{with_bytes};
 ghost use Rattle.pager.specs.File.{page_stored};
-ghost use Rattle.pager.specs.Pages.{is_page_number, opened_pages};
+ghost use Rattle.pager.specs.Pages.{is_page_number};
+ghost use Rattle.pager.specs.PagesOf.{pages_of};
 ghost use Rattle.pager.specs.UnderWay.{Start};
 ghost use Rattle.session_hall.specs.Commit.{put_change, put_over};
 ghost use Rattle.session_hall.specs.Machine.{is_sealed};
@@ -55,13 +56,13 @@ pub fn write_changes<'d, D: Disk, E: Entropy>(
     ensures disk { result.0.ghost_name ≡ pager.entry.disk.ghost_name }
     ensures entropy { result.1.ghost_name ≡ pager.entry.entropy.ghost_name }
     ensures changed { OnOk result.2 (IsTrue D.tells → HasWritten start pager.entry.codec write session.now
-        (λ n. put_over session.now n ((opened_pages pager.entry.codec (main_of (D.reads pager.entry.disk.now)) pager.entry.count).page n)) E.tells (E.drawn result.1.now) (main_of (D.reads result.0.now))) }
+        (λ n. put_over session.now n ((pages_of pager.entry).page n)) E.tells (E.drawn result.1.now) (main_of (D.reads result.0.now))) }
     ensures new { OnOk result.2 (IsTrue D.tells → Each (D.images result.0.now) (IsCommitted start.base (main_of (D.reads result.0.now)))) }
     // no page was sealed anew, and the disk was only read; or each image has Main as it reads
     ensures settled { OnOk result.2 (IsTrue D.tells → OnlyRead D.reads D.images D.moment D.since pager.entry.disk.now result.0.now
         ⊎ Each (D.images result.0.now) (λ c. c.main ≡ (D.reads result.0.now).main)) }
     ensures any_moment { IsTrue D.tells → LeavesChanged D.moment D.since start.base (HasWritten start pager.entry.codec write session.now
-        (λ n. put_over session.now n ((opened_pages pager.entry.codec (main_of (D.reads pager.entry.disk.now)) pager.entry.count).page n)) E.tells (E.drawn result.1.now)) pager.entry.disk.now result.0.now }
+        (λ n. put_over session.now n ((pages_of pager.entry).page n)) E.tells (E.drawn result.1.now)) pager.entry.disk.now result.0.now }
     ensures only_old { result.2 ≡ Err Answer.EntropyFault → IsTrue D.tells → LeavesOnly D.moment D.since pager.entry.disk.now result.0.now (HoldsOld start.base) }
     ensures fresh { IsTrue D.tells → LeavesOnly D.moment D.since pager.entry.disk.now result.0.now (From SameFresh (D.images pager.entry.disk.now)) }
     ensures unwritten { result.2 ≡ Err Answer.OutOfMemory → IsTrue D.tells → (result.0.now ≡ pager.entry.disk.now) × (result.1.now ≡ pager.entry.entropy.now) }

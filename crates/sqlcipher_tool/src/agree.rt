@@ -2,9 +2,8 @@
 ghost use Rattle.std.specs.Prelude.{◌≡◌, ◌≤◌, IsTrue};
 ghost use Rattle.db_format.specs.Header.{header_fields};
 ghost use Rattle.db_format.specs.Source.{no_pins};
-ghost use Rattle.edge_model.specs.Files.{main_of};
 ghost use Rattle.pager.specs.Held.{pins_of};
-ghost use Rattle.pager.specs.Pages.{opened_pages};
+ghost use Rattle.pager.specs.PagesOf.{pages_of};
 ghost use Rattle.pager.specs.Reads.{DiskRead, Untouched};
 ghost use Rattle.sqlcipher_tool.specs.Answer.{HasCauses, PutsLine};
 ghost use Rattle.sqlcipher_tool.specs.Agree.{agree_answers};
@@ -25,11 +24,9 @@ pub fn agree_pages<S: Sink, E: Entropy, D: Disk>(
     pager: &mut Pager<'_, D, E>,
     out: &mut S,
 ) -> Status
-    requires header { IsTrue D.tells → 1 ≤ pager.old.count
-        → pager.old.header ≡ header_fields ((opened_pages pager.old.codec (main_of (D.reads pager.old.disk.now)) pager.old.count).page 1) }
+    requires header { IsTrue D.tells → 1 ≤ pager.old.count → pager.old.header ≡ header_fields ((pages_of pager.old).page 1) }
     requires unpinned { pins_of pager.old.cache.held ≡ no_pins }
-    ensures answer { IsTrue D.tells
-        → AnswersOne (agree_answers (opened_pages pager.old.codec (main_of (D.reads pager.old.disk.now)) pager.old.count)) result S.tells (S.taken out.old) (S.taken out.new) }
+    ensures answer { IsTrue D.tells → AnswersOne (agree_answers (pages_of pager.old)) result S.tells (S.taken out.old) (S.taken out.new) }
     ensures line { IsTrue S.tells → PutsLine result (S.taken out.old) (S.taken out.new) }
     ensures causes { HasCauses result (D.faults pager.old.disk.now) (D.faults pager.new.disk.now) (S.faults out.old) (S.faults out.new) }
     ensures disk { DiskRead D.tells D.reads D.images D.moment D.since D.faults pager.old.disk pager.new.disk }

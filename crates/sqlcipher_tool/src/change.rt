@@ -1,5 +1,5 @@
 // A change of the file: it is recovered, opened, and changed in one transaction, or written anew.
-ghost use Rattle.std.specs.Prelude.{◌≡◌, ◌≤◌, drop, length, true, false, None, Some, Err, IfErr, IsErr, OnOk, IsTrue};
+ghost use Rattle.std.specs.Prelude.{◌≡◌, ◌≤◌, length, true, false, None, Some, Err, IfErr, IsErr, OnOk, IsTrue};
 ghost use Rattle.std.specs.List.{Contains};
 ghost use Rattle.fresh_disk.specs.OnlyFresh.{IsOld};
 ghost use Rattle.fresh_disk.specs.Published.{IsAlone};
@@ -22,6 +22,7 @@ ghost use Rattle.sqlcipher_tool.specs.Renewal.{AreDrawnBy, IsNewDrawn, renewed, 
 ghost use Rattle.sqlcipher_tool.specs.Untouched.{HasNoFile, IsUnwritten};
 ghost use Rattle.sqlcipher_tool.specs.Words.{IsServed, second_form, changes_layout, is_in_place, profile_after, profile_before};
 ghost use Rattle.sqlcipher_tool.specs.declared.command.Command.TheVariants.{Change as ChangeFile};
+ghost use Rattle.pager.specs.Drawn.{drawn_since};
 
 use crate::command::Field;
 use crate::conclusion::{conclude, conclude_stop};
@@ -129,13 +130,13 @@ pub fn change_file<S: Sink, E: Entropy, D: Disk>(
     ensures line { IsTrue S.tells → PutsLine result (S.taken out.old) (S.taken out.new) }
     ensures causes { HasDrawnCauses result true (D.faults disk.old) (D.faults disk.new) (S.faults out.old) (S.faults out.new) (E.faults entropy.old) (E.faults entropy.new) }
     // old or new
-    ensures changes { IsTrue D.tells → IsSafely result (ChangeFile profile change) E.tells (drop (length (E.drawn entropy.old)) (E.drawn entropy.new))
+    ensures changes { IsTrue D.tells → IsSafely result (ChangeFile profile change) E.tells (drawn_since (E.drawn entropy.old) (E.drawn entropy.new))
         (disk_run D.reads D.images D.moment D.since disk.old disk.new) (Some (renewed profile change secrets.now.first secrets.now.second)) }
     ensures fresh { IsTrue D.tells → is_in_place change ≡ true → LeavesOnly D.moment D.since disk.old disk.new (From SameFresh (D.images disk.old)) }
     ensures fresh_gone { IsTrue D.tells → result ≡ Status.Done → is_in_place change ≡ false → (D.reads disk.new).fresh ≡ None }
     ensures own_draws { IsTrue D.tells → IsTrue E.tells → result ≡ Status.Done
         → AreDrawnBy (ChangeFile profile change) (renewed profile change secrets.now.first secrets.now.second)
-        (main_of (D.reads disk.new)) (drop (length (E.drawn entropy.old)) (E.drawn entropy.new)) }
+        (main_of (D.reads disk.new)) (drawn_since (E.drawn entropy.old) (E.drawn entropy.new)) }
     ensures unrecovered { IsTrue D.tells → IsUnrecovered result → D.reads disk.new ≡ D.reads disk.old }
     ensures recovered { IsTrue D.tells → HasOnlyRead true result → IsRecovered profile (disk_run D.reads D.images D.moment D.since disk.old disk.new) }
     ensures untouched { IsTrue D.tells → HasNoFile profile (D.reads disk.old) → IsUnwritten (disk_run D.reads D.images D.moment D.since disk.old disk.new) }
@@ -169,7 +170,7 @@ fn change_main<S: Sink, E: Entropy, D: Disk>(
     ensures safely { IsTrue D.tells → Each (D.images disk.old) (HoldsOnly (held_by (keys_of (profile_before profile change) secrets.now.first (main_of (D.reads disk.old))) (main_of (D.reads disk.old))))
         → KeepsOrCommits D.reads D.images D.moment D.since result
         (IsNewDrawn (ChangeFile profile change) (renewed profile change secrets.now.first secrets.now.second) E.tells
-        (drop (length (E.drawn entropy.old)) (E.drawn entropy.new)) (main_of (D.reads disk.old)))
+        (drawn_since (E.drawn entropy.old) (E.drawn entropy.new)) (main_of (D.reads disk.old)))
         (HoldsOnly (held_by (keys_of (profile_before profile change) secrets.now.first (main_of (D.reads disk.old))) (main_of (D.reads disk.old))))
         (λ file. HoldsOnly (held_by (keys_of (profile_after profile change) (secret_after change secrets.now.first secrets.now.second) file) file)) disk.old disk.new }
     ensures fresh { IsTrue D.tells → is_in_place change ≡ true → LeavesOnly D.moment D.since disk.old disk.new (From SameFresh (D.images disk.old)) }
@@ -179,7 +180,7 @@ fn change_main<S: Sink, E: Entropy, D: Disk>(
     ensures fresh_gone { IsTrue D.tells → result ≡ Status.Done → is_in_place change ≡ false → (D.reads disk.new).fresh ≡ None }
     ensures own_draws { IsTrue D.tells → IsTrue E.tells → result ≡ Status.Done
         → AreDrawnBy (ChangeFile profile change) (renewed profile change secrets.now.first secrets.now.second)
-        (main_of (D.reads disk.new)) (drop (length (E.drawn entropy.old)) (E.drawn entropy.new)) }
+        (main_of (D.reads disk.new)) (drawn_since (E.drawn entropy.old) (E.drawn entropy.new)) }
 {
     match change_opened(alloc, profile, change, secrets, entropy, disk) {
         Ok(report) => conclude(out, &report, Status::Done),
@@ -207,7 +208,7 @@ fn change_opened<E: Entropy, D: Disk>(
     ensures safely { IsTrue D.tells → Each (D.images disk.old) (HoldsOnly (held_by (keys_of (profile_before profile change) secrets.now.first (main_of (D.reads disk.old))) (main_of (D.reads disk.old))))
         → KeepsOrCommits D.reads D.images D.moment D.since (change_status result)
         (IsNewDrawn (ChangeFile profile change) (renewed profile change secrets.now.first secrets.now.second) E.tells
-        (drop (length (E.drawn entropy.old)) (E.drawn entropy.new)) (main_of (D.reads disk.old)))
+        (drawn_since (E.drawn entropy.old) (E.drawn entropy.new)) (main_of (D.reads disk.old)))
         (HoldsOnly (held_by (keys_of (profile_before profile change) secrets.now.first (main_of (D.reads disk.old))) (main_of (D.reads disk.old))))
         (λ file. HoldsOnly (held_by (keys_of (profile_after profile change) (secret_after change secrets.now.first secrets.now.second) file) file)) disk.old disk.new }
     ensures fresh { IsTrue D.tells → is_in_place change ≡ true → LeavesOnly D.moment D.since disk.old disk.new (From SameFresh (D.images disk.old)) }
@@ -217,7 +218,7 @@ fn change_opened<E: Entropy, D: Disk>(
     ensures fresh_gone { IsTrue D.tells → is_in_place change ≡ false → OnOk result ((D.reads disk.new).fresh ≡ None) }
     ensures own_draws { OnOk result (IsTrue D.tells → IsTrue E.tells
         → AreDrawnBy (ChangeFile profile change) (renewed profile change secrets.now.first secrets.now.second)
-        (main_of (D.reads disk.new)) (drop (length (E.drawn entropy.old)) (E.drawn entropy.new))) }
+        (main_of (D.reads disk.new)) (drawn_since (E.drawn entropy.old) (E.drawn entropy.new))) }
     ensures late { IfErr result IsLateChange }
     ensures disk_fault { result ≡ Err (ChangeError.Stopped Stop.DiskFault) → Rose (D.faults disk.old) (D.faults disk.new) }
     ensures entropy_fault { result ≡ Err ChangeError.EntropyFault → Rose (E.faults entropy.old) (E.faults entropy.new) }

@@ -1,9 +1,8 @@
 // `find`: the rows of a table whose rowids lie in a range, read through the schema and the table's tree.
 ghost use Rattle.std.specs.Prelude.{◌≡◌, ◌≤◌, ◌∷◌, [], false, IsTrue};
 ghost use Rattle.db_format.specs.Source.{no_pins};
-ghost use Rattle.edge_model.specs.Files.{main_of};
 ghost use Rattle.pager.specs.Held.{pins_of};
-ghost use Rattle.pager.specs.Pages.{opened_pages};
+ghost use Rattle.pager.specs.PagesOf.{pages_of};
 ghost use Rattle.pager.specs.Reads.{DiskRead, Untouched};
 ghost use Rattle.sqlcipher_tool.specs.Answer.{HasCauses, PutsLine, is_defect_status};
 ghost use Rattle.sqlcipher_tool.specs.Find.{find_answers, rows_answer};
@@ -29,8 +28,7 @@ pub fn find_pages<S: Sink, E: Entropy, D: Disk>(
     out: &mut S,
 ) -> Status
     requires unpinned { pins_of pager.old.cache.held ≡ no_pins }
-    ensures answer { IsTrue D.tells
-        → AnswersOne (find_answers (opened_pages pager.old.codec (main_of (D.reads pager.old.disk.now)) pager.old.count) name.now low high) result S.tells (S.taken out.old) (S.taken out.new) }
+    ensures answer { IsTrue D.tells → AnswersOne (find_answers (pages_of pager.old) name.now low high) result S.tells (S.taken out.old) (S.taken out.new) }
     ensures line { IsTrue S.tells → is_defect_status result ≡ false → PutsLine result (S.taken out.old) (S.taken out.new) }
     ensures causes { HasCauses result (D.faults pager.old.disk.now) (D.faults pager.new.disk.now) (S.faults out.old) (S.faults out.new) }
     ensures disk { DiskRead D.tells D.reads D.images D.moment D.since D.faults pager.old.disk pager.new.disk }
@@ -54,8 +52,7 @@ fn print_rows<S: Sink, E: Entropy, D: Disk>(
 ) -> Status
     requires low { 1 ≤ root }
     requires high { root ≤ pager.old.count }
-    ensures answer { IsTrue D.tells
-        → AnswersOne (rows_answer (opened_pages pager.old.codec (main_of (D.reads pager.old.disk.now)) pager.old.count) root low high ∷ []) result S.tells (S.taken out.old) (S.taken out.new) }
+    ensures answer { IsTrue D.tells → AnswersOne (rows_answer (pages_of pager.old) root low high ∷ []) result S.tells (S.taken out.old) (S.taken out.new) }
     ensures line { IsTrue S.tells → is_defect_status result ≡ false → PutsLine result (S.taken out.old) (S.taken out.new) }
     ensures causes { HasCauses result (D.faults pager.old.disk.now) (D.faults pager.new.disk.now) (S.faults out.old) (S.faults out.new) }
     ensures disk { DiskRead D.tells D.reads D.images D.moment D.since D.faults pager.old.disk pager.new.disk }

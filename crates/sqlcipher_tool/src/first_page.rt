@@ -1,10 +1,11 @@
 // Page 1 is changed by itself, in one transaction.
-ghost use Rattle.std.specs.Prelude.{◌≡◌, ◌≢◌, ◌⊎◌, ◌+◌, ◌≤◌, ◌==◌, ℕ, drop, length, true, Ok, Err, IfErr, OnOk, IsTrue, if◌then◌else◌};
+ghost use Rattle.std.specs.Prelude.{◌≡◌, ◌≢◌, ◌⊎◌, ◌+◌, ◌≤◌, ◌==◌, ℕ, length, true, Ok, Err, IfErr, OnOk, IsTrue, if◌then◌else◌};
 ghost use Rattle.fresh_disk.specs.Published.{IsAlone};
 ghost use Rattle.edge_model.specs.Causes.{Rose};
 ghost use Rattle.edge_model.specs.Images.{Each, From, LeavesOnly};
 ghost use Rattle.cipher_profile.specs.Profile.{IsListed, usable};
 ghost use Rattle.page_codec.specs.Page.{salt_of};
+ghost use Rattle.pager.specs.Drawn.{drawn_since};
 ghost use Rattle.pager.specs.Base.{base_of};
 ghost use Rattle.edge_model.specs.Files.{main_of};
 ghost use Rattle.pager.specs.Changed.{with_bytes};
@@ -55,12 +56,12 @@ pub fn change_first<'d, D: Disk, E: Entropy>(
     ensures told { IsTrue D.tells → IsFault (change_status result.2) ⊎ (result.2 ≡ Ok report) }
     ensures safely { IsTrue D.tells → KeepsOrCommits D.reads D.images D.moment D.since (change_status result.2)
         (WithDraws (IsFirstChanged pager.entry.codec at bytes.now (main_of (D.reads pager.entry.disk.now))) E.tells
-        (λ file. FileDraws pager.entry.codec file (λ n. n == 1) 0 (drop (length (E.drawn pager.entry.entropy.now)) (E.drawn result.1.now))))
+        (λ file. FileDraws pager.entry.codec file (λ n. n == 1) 0 (drawn_since (E.drawn pager.entry.entropy.now) (E.drawn result.1.now))))
         (HoldsOnly (held_by pager.entry.codec (main_of (D.reads pager.entry.disk.now))))
         (λ file. HoldsOnly (held_by pager.entry.codec file)) pager.entry.disk.now result.0.now }
     ensures fresh { IsTrue D.tells → LeavesOnly D.moment D.since pager.entry.disk.now result.0.now (From SameFresh (D.images pager.entry.disk.now)) }
     ensures own_draws { OnOk result.2 (IsTrue D.tells → IsTrue E.tells
-        → FileDraws pager.entry.codec (main_of (D.reads result.0.now)) (λ n. n == 1) 0 (drop (length (E.drawn pager.entry.entropy.now)) (E.drawn result.1.now))) }
+        → FileDraws pager.entry.codec (main_of (D.reads result.0.now)) (λ n. n == 1) 0 (drawn_since (E.drawn pager.entry.entropy.now) (E.drawn result.1.now))) }
     ensures late { IfErr result.2 IsLateChange }
     ensures disk_fault { result.2 ≡ Err (ChangeError.Stopped Stop.DiskFault) → Rose (D.faults pager.entry.disk.now) (D.faults result.0.now) }
     ensures entropy_fault { result.2 ≡ Err ChangeError.EntropyFault → Rose (E.faults pager.entry.entropy.now) (E.faults result.1.now) }

@@ -2,8 +2,7 @@
 ghost use Rattle.std.specs.Prelude.{◌≡◌, ◌⊎◌, ◌≤◌, ◌++◌, ◌∷◌, [], slice_get, option_to_list, None, Some, Ok, IfOk, IfErr, OnOk, OnErr, IsTrue, Err};
 ghost use Rattle.edge_model.specs.Causes.{Rose};
 ghost use Rattle.db_format.specs.Seen.{marked};
-ghost use Rattle.edge_model.specs.Files.{main_of};
-ghost use Rattle.pager.specs.Pages.{opened_pages};
+ghost use Rattle.pager.specs.PagesOf.{pages_of};
 ghost use Rattle.pager.specs.Reads.{DiskRead, Untouched};
 ghost use Rattle.text_lines.specs.Text.{PutsPart};
 ghost use Rattle.sqlcipher_tool.specs.Plain.{is_left, refused_but};
@@ -22,14 +21,10 @@ pub fn check_tags<S: Sink, D: Disk, E: Entropy>(
     pager: &mut Pager<'_, D, E>,
     leaves: &FreeMap,
 ) -> Result<Option<u32>, Status>
-    ensures first { IfOk result (λ first. IsTrue D.tells → first
-        ≡ slice_get (refused_but (opened_pages pager.old.codec (main_of (D.reads pager.old.disk.now)) pager.old.count) (marked leaves.now.leaves)) 0) }
-    ensures text { OnOk result (IsTrue S.tells → IsTrue D.tells → S.taken out.new ≡ S.taken out.old
-        ++ tag_lines (refused_but (opened_pages pager.old.codec (main_of (D.reads pager.old.disk.now)) pager.old.count) (marked leaves.now.leaves))) }
+    ensures first { IfOk result (λ first. IsTrue D.tells → first ≡ slice_get (refused_but (pages_of pager.old) (marked leaves.now.leaves)) 0) }
+    ensures text { OnOk result (IsTrue S.tells → IsTrue D.tells → S.taken out.new ≡ S.taken out.old ++ tag_lines (refused_but (pages_of pager.old) (marked leaves.now.leaves))) }
     ensures unprinted { result ≡ Ok None → IsTrue S.tells → S.taken out.new ≡ S.taken out.old }
-    ensures part { OnErr result (IsTrue S.tells → IsTrue D.tells
-        → PutsPart (tag_lines (refused_but (opened_pages pager.old.codec (main_of (D.reads pager.old.disk.now)) pager.old.count) (marked leaves.now.leaves)))
-        (S.taken out.old) (S.taken out.new)) }
+    ensures part { OnErr result (IsTrue S.tells → IsTrue D.tells → PutsPart (tag_lines (refused_but (pages_of pager.old) (marked leaves.now.leaves))) (S.taken out.old) (S.taken out.new)) }
     ensures fault { IfErr result (λ status. (status ≡ Status.DiskFault) ⊎ ((status ≡ Status.OutputFault) ⊎ (status ≡ Status.OutOfMemory))) }
     ensures disk_fault { result ≡ Err Status.DiskFault → Rose (D.faults pager.old.disk.now) (D.faults pager.new.disk.now) }
     ensures output_fault { result ≡ Err Status.OutputFault → Rose (S.faults out.old) (S.faults out.new) }
@@ -57,12 +52,10 @@ fn check_one<S: Sink, D: Disk, E: Entropy>(
 ) -> Result<Option<u32>, Status>
     requires low { 1 ≤ n }
     requires high { n ≤ pager.old.count }
-    ensures refused { IfOk result (λ refused. IsTrue D.tells
-        → refused ≡ number_where (is_left (opened_pages pager.old.codec (main_of (D.reads pager.old.disk.now)) pager.old.count) (marked leaves.now.leaves)) n) }
+    ensures refused { IfOk result (λ refused. IsTrue D.tells → refused ≡ number_where (is_left (pages_of pager.old) (marked leaves.now.leaves)) n) }
     ensures text { IfOk result (λ refused. IsTrue S.tells → S.taken out.new ≡ S.taken out.old ++ tag_lines (option_to_list refused)) }
     ensures part { result ≡ Err Status.OutputFault → IsTrue S.tells → PutsPart (tag_lines (n ∷ [])) (S.taken out.old) (S.taken out.new) }
-    ensures is_refused { result ≡ Err Status.OutputFault → IsTrue D.tells
-        → number_where (is_left (opened_pages pager.old.codec (main_of (D.reads pager.old.disk.now)) pager.old.count) (marked leaves.now.leaves)) n ≡ Some n }
+    ensures is_refused { result ≡ Err Status.OutputFault → IsTrue D.tells → number_where (is_left (pages_of pager.old) (marked leaves.now.leaves)) n ≡ Some n }
     ensures fault { IfErr result (λ status. (status ≡ Status.DiskFault) ⊎ ((status ≡ Status.OutputFault) ⊎ (status ≡ Status.OutOfMemory))) }
     ensures unread { IfErr result (λ status. ((status ≡ Status.DiskFault) ⊎ (status ≡ Status.OutOfMemory)) → out.new ≡ out.old) }
     ensures disk_fault { result ≡ Err Status.DiskFault → Rose (D.faults pager.old.disk.now) (D.faults pager.new.disk.now) }

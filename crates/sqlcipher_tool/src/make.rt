@@ -1,5 +1,5 @@
 // `make`: a database of so many rows, where no file is.
-ghost use Rattle.std.specs.Prelude.{◌≡◌, ◌≤◌, drop, length, true, None, Some, Err, IfErr, OnOk, IsTrue};
+ghost use Rattle.std.specs.Prelude.{◌≡◌, ◌≤◌, true, None, Some, Err, IfErr, OnOk, IsTrue};
 ghost use Rattle.std.specs.List.{Contains};
 ghost use Rattle.cipher_profile.specs.Profile.{IsListed};
 ghost use Rattle.fresh_disk.specs.Published.{IsAlone};
@@ -18,6 +18,7 @@ ghost use Rattle.sqlcipher_tool.specs.Holding.{disk_run};
 ghost use Rattle.sqlcipher_tool.specs.Make.{has_main_or_journal, make_answers, make_error};
 ghost use Rattle.sqlcipher_tool.specs.Promises.{AnswersOne, IsUnrecovered};
 ghost use Rattle.sqlcipher_tool.specs.Renewal.{WithDraws};
+ghost use Rattle.pager.specs.Drawn.{drawn_since};
 
 use crate::conclusion::{conclude, conclude_stop};
 use crate::opening::{ChangeError, Stop};
@@ -44,14 +45,14 @@ pub fn make_file<S: Sink, E: Entropy, D: Disk>(
     ensures line { IsTrue S.tells → PutsLine result (S.taken out.old) (S.taken out.new) }
     ensures causes { HasDrawnCauses result true (D.faults disk.old) (D.faults disk.new) (S.faults out.old) (S.faults out.new) (E.faults entropy.old) (E.faults entropy.new) }
     // none or new
-    ensures changes { IsTrue D.tells → Makes result profile secret.now rows E.tells (drop (length (E.drawn entropy.old)) (E.drawn entropy.new))
+    ensures changes { IsTrue D.tells → Makes result profile secret.now rows E.tells (drawn_since (E.drawn entropy.old) (E.drawn entropy.new))
         (disk_run D.reads D.images D.moment D.since disk.old disk.new) }
     ensures only_read { IsTrue D.tells → has_main_or_journal (D.reads disk.old) ≡ true → OnlyRead D.reads D.images D.moment D.since disk.old disk.new }
     ensures journal { IsTrue D.tells → LeavesOnly D.moment D.since disk.old disk.new (From SameJournal (D.images disk.old)) }
     ensures undrawn { IsTrue D.tells → has_main_or_journal (D.reads disk.old) ≡ true → entropy.new ≡ entropy.old }
     ensures fresh_gone { IsTrue D.tells → result ≡ Status.Done → (D.reads disk.new).fresh ≡ None }
     ensures own_draws { IsTrue D.tells → IsTrue E.tells → result ≡ Status.Done
-        → HasOwnDraws (keys_of profile secret.now (main_of (D.reads disk.new))) (main_of (D.reads disk.new)) (drop (length (E.drawn entropy.old)) (E.drawn entropy.new)) }
+        → HasOwnDraws (keys_of profile secret.now (main_of (D.reads disk.new))) (main_of (D.reads disk.new)) (drawn_since (E.drawn entropy.old) (E.drawn entropy.new)) }
     ensures unrecovered { IsTrue D.tells → IsUnrecovered result → D.reads disk.new ≡ D.reads disk.old }
 {
     match make_database(alloc, profile, rows, secret, entropy, disk) {
@@ -73,15 +74,14 @@ fn make_database<E: Entropy, D: Disk>(
     requires { IsListed profile }
     ensures told { IsTrue D.tells → (answer : Answer) → change_answer result ≡ Some answer → Contains (make_answers profile rows (D.reads disk.old)) answer }
     ensures made { OnOk result (IsTrue D.tells → IsMade profile secret.now rows (main_of (D.reads disk.new))) }
-    ensures safely { IsTrue D.tells → Each (D.images disk.old) HasNeither
-        → KeepsOrCommits D.reads D.images D.moment D.since (change_status result)
-        (WithDraws (IsMade profile secret.now rows) E.tells (λ file. HasOwnDraws (keys_of profile secret.now file) file (drop (length (E.drawn entropy.old)) (E.drawn entropy.new)))) HasNoMain IsAlone disk.old disk.new }
+    ensures safely { IsTrue D.tells → Each (D.images disk.old) HasNeither → KeepsOrCommits D.reads D.images D.moment D.since (change_status result)
+        (WithDraws (IsMade profile secret.now rows) E.tells (λ file. HasOwnDraws (keys_of profile secret.now file) file (drawn_since (E.drawn entropy.old) (E.drawn entropy.new)))) HasNoMain IsAlone disk.old disk.new }
     ensures only_read { IsTrue D.tells → has_main_or_journal (D.reads disk.old) ≡ true → OnlyRead D.reads D.images D.moment D.since disk.old disk.new }
     ensures journal { IsTrue D.tells → LeavesOnly D.moment D.since disk.old disk.new (From SameJournal (D.images disk.old)) }
     ensures undrawn { IsTrue D.tells → has_main_or_journal (D.reads disk.old) ≡ true → entropy.new ≡ entropy.old }
     ensures fresh_gone { IsTrue D.tells → OnOk result ((D.reads disk.new).fresh ≡ None) }
     ensures own_draws { OnOk result (IsTrue D.tells → IsTrue E.tells
-        → HasOwnDraws (keys_of profile secret.now (main_of (D.reads disk.new))) (main_of (D.reads disk.new)) (drop (length (E.drawn entropy.old)) (E.drawn entropy.new))) }
+        → HasOwnDraws (keys_of profile secret.now (main_of (D.reads disk.new))) (main_of (D.reads disk.new)) (drawn_since (E.drawn entropy.old) (E.drawn entropy.new))) }
     ensures late { IfErr result IsLateChange }
     ensures disk_fault { result ≡ Err (ChangeError.Stopped Stop.DiskFault) → Rose (D.faults disk.old) (D.faults disk.new) }
     ensures entropy_fault { result ≡ Err ChangeError.EntropyFault → Rose (E.faults entropy.old) (E.faults entropy.new) }

@@ -1,5 +1,5 @@
 // The pointer-map pages of a file go onto its freelist, in one transaction.
-ghost use Rattle.std.specs.Prelude.{◌≡◌, ◌⊎◌, ◌+◌, ◌≤◌, ◌==◌, ◌%◌, ◌^◌, ℕ, drop, length, true, false, Ok, Err, IfErr, OnOk, IsTrue, if◌then◌else◌};
+ghost use Rattle.std.specs.Prelude.{◌≡◌, ◌⊎◌, ◌+◌, ◌≤◌, ◌==◌, ◌%◌, ◌^◌, ℕ, true, false, Ok, Err, IfErr, OnOk, IsTrue, if◌then◌else◌};
 ghost use Rattle.fresh_disk.specs.Published.{IsAlone};
 ghost use Rattle.edge_model.specs.Causes.{Rose};
 ghost use Rattle.edge_model.specs.Files.{main_of};
@@ -9,6 +9,7 @@ ghost use Rattle.db_format.specs.Pages.{IsUsable};
 ghost use Rattle.map_pages.specs.Maps.{map_count};
 ghost use Rattle.map_pages.specs.Trunks.{trunk_from};
 ghost use Rattle.page_codec.specs.Page.{salt_of};
+ghost use Rattle.pager.specs.Drawn.{drawn_since};
 ghost use Rattle.pager.specs.Base.{base_of};
 ghost use Rattle.pager.specs.Changed.{with_bytes};
 ghost use Rattle.pager.specs.Opening.{file_opened};
@@ -82,13 +83,12 @@ pub fn free_maps<'d, D: Disk, E: Entropy>(
     ensures told { IsTrue D.tells → IsFault (change_status result.2) ⊎ (result.2 ≡ Ok report) }
     ensures safely { IsTrue D.tells → KeepsOrCommits D.reads D.images D.moment D.since (change_status result.2)
         (WithDraws (AreMapsFreed pager.entry.codec pager.entry.codec (main_of (D.reads pager.entry.disk.now))) E.tells
-        (λ file. FileDraws pager.entry.codec file (is_rewritten (usable pager.entry.codec.profile) (page_count_of pager.entry.codec file)) 0 (drop (length (E.drawn pager.entry.entropy.now)) (E.drawn result.1.now))))
+        (λ file. FileDraws pager.entry.codec file (is_rewritten (usable pager.entry.codec.profile) (page_count_of pager.entry.codec file)) 0 (drawn_since (E.drawn pager.entry.entropy.now) (E.drawn result.1.now))))
         (HoldsOnly (held_by pager.entry.codec (main_of (D.reads pager.entry.disk.now))))
         (λ file. HoldsOnly (held_by pager.entry.codec file)) pager.entry.disk.now result.0.now }
     ensures fresh { IsTrue D.tells → LeavesOnly D.moment D.since pager.entry.disk.now result.0.now (From SameFresh (D.images pager.entry.disk.now)) }
-    ensures own_draws { OnOk result.2 (IsTrue D.tells → IsTrue E.tells
-        → FileDraws pager.entry.codec (main_of (D.reads result.0.now))
-        (is_rewritten (usable pager.entry.codec.profile) (page_count_of pager.entry.codec (main_of (D.reads result.0.now)))) 0 (drop (length (E.drawn pager.entry.entropy.now)) (E.drawn result.1.now))) }
+    ensures own_draws { OnOk result.2 (IsTrue D.tells → IsTrue E.tells → FileDraws pager.entry.codec (main_of (D.reads result.0.now))
+        (is_rewritten (usable pager.entry.codec.profile) (page_count_of pager.entry.codec (main_of (D.reads result.0.now)))) 0 (drawn_since (E.drawn pager.entry.entropy.now) (E.drawn result.1.now))) }
     ensures late { IfErr result.2 IsLateChange }
     ensures disk_fault { result.2 ≡ Err (ChangeError.Stopped Stop.DiskFault) → Rose (D.faults pager.entry.disk.now) (D.faults result.0.now) }
     ensures entropy_fault { result.2 ≡ Err ChangeError.EntropyFault → Rose (E.faults pager.entry.entropy.now) (E.faults result.1.now) }

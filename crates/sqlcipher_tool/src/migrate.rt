@@ -1,5 +1,5 @@
 // `migrate`: the database is written anew in another profile, and takes the file's place.
-ghost use Rattle.std.specs.Prelude.{◌≡◌, ◌≤◌, ℕ, List, drop, length, Ok, Err, IfErr, IsErr, OnOk, IsTrue, None, Some};
+ghost use Rattle.std.specs.Prelude.{◌≡◌, ◌≤◌, ℕ, List, length, Ok, Err, IfErr, IsErr, OnOk, IsTrue, None, Some};
 ghost use Rattle.std.specs.List.{Contains};
 ghost use Rattle.cipher_profile.specs.Profile.{IsListed};
 ghost use Rattle.db_format.specs.Source.{no_pins};
@@ -11,9 +11,10 @@ ghost use Rattle.edge_model.specs.OnlyRead.{OnlyRead};
 ghost use Rattle.fresh_file.specs.Draws.{HasOwnDraws};
 ghost use Rattle.page_codec.specs.Page.{keys_of};
 ghost use Rattle.edge_model.specs.Files.{main_of};
+ghost use Rattle.pager.specs.Drawn.{drawn_since};
 ghost use Rattle.pager.specs.Held.{pins_of};
 ghost use Rattle.pager.specs.Opening.{file_opened};
-ghost use Rattle.pager.specs.Pages.{opened_pages};
+ghost use Rattle.pager.specs.PagesOf.{pages_of};
 ghost use Rattle.sqlcipher_tool.specs.Answer.{Answer};
 ghost use Rattle.sqlcipher_tool.specs.Behind.{IsRefusedChange};
 ghost use Rattle.sqlcipher_tool.specs.Change.{IsLateChange, KeepsOrCommits, change_answer, change_status};
@@ -51,14 +52,14 @@ pub fn migrate_file<E: Entropy, D: Disk>(
     ensures safely { IsTrue D.tells → Each (D.images disk.old) (HoldsOnly (held_by (keys_of old first.now (main_of (D.reads disk.old))) (main_of (D.reads disk.old))))
         → KeepsOrCommits D.reads D.images D.moment D.since (change_status result)
         (WithDraws (λ file. IsMigratedSo (keys_of old first.now (main_of (D.reads disk.old))) (keys_of new second.now file) (main_of (D.reads disk.old)) file) E.tells
-        (λ file. HasOwnDraws (keys_of new second.now file) file (drop (length (E.drawn entropy.old)) (E.drawn entropy.new))))
+        (λ file. HasOwnDraws (keys_of new second.now file) file (drawn_since (E.drawn entropy.old) (E.drawn entropy.new))))
         (HoldsOnly (held_by (keys_of old first.now (main_of (D.reads disk.old))) (main_of (D.reads disk.old))))
         (λ file. HoldsOnly (held_by (keys_of new second.now file) file)) disk.old disk.new }
     ensures stays { IfErr result (λ e. IsRefusedChange e → IsTrue D.tells → Each (D.images disk.new) (IsOld (D.images disk.old))) }
     ensures unopened { IsTrue D.tells → IsErr (opened_with old first.now (main_of (D.reads disk.old))) → OnlyRead D.reads D.images D.moment D.since disk.old disk.new }
     ensures fresh_gone { IsTrue D.tells → OnOk result ((D.reads disk.new).fresh ≡ None) }
     ensures own_draws { OnOk result (IsTrue D.tells → IsTrue E.tells
-        → HasOwnDraws (keys_of new second.now (main_of (D.reads disk.new))) (main_of (D.reads disk.new)) (drop (length (E.drawn entropy.old)) (E.drawn entropy.new))) }
+        → HasOwnDraws (keys_of new second.now (main_of (D.reads disk.new))) (main_of (D.reads disk.new)) (drawn_since (E.drawn entropy.old) (E.drawn entropy.new))) }
     ensures late { IfErr result IsLateChange }
     ensures disk_fault { result ≡ Err (ChangeError.Stopped Stop.DiskFault) → Rose (D.faults disk.old) (D.faults disk.new) }
     ensures entropy_fault { result ≡ Err ChangeError.EntropyFault → Rose (E.faults entropy.old) (E.faults entropy.new) }
@@ -91,17 +92,16 @@ fn migrate_pages<'d, D: Disk, E: Entropy>(
     ensures disk { result.0.ghost_name ≡ pager.entry.disk.ghost_name }
     ensures entropy { result.1.ghost_name ≡ pager.entry.entropy.ghost_name }
     ensures told { IsTrue D.tells → (answer : Answer) → change_answer result.2 ≡ Some answer
-        → Contains (migrate_due profile (pages_under profile secret.now (main_of (D.reads result.0.now)))
-        (opened_pages pager.entry.codec (main_of (D.reads pager.entry.disk.now)) pager.entry.count)) answer }
+        → Contains (migrate_due profile (pages_under profile secret.now (main_of (D.reads result.0.now))) (pages_of pager.entry)) answer }
     ensures safely { IsTrue D.tells → KeepsOrCommits D.reads D.images D.moment D.since (change_status result.2)
         (WithDraws (λ file. IsMigratedSo pager.entry.codec (keys_of profile secret.now file) (main_of (D.reads pager.entry.disk.now)) file) E.tells
-        (λ file. HasOwnDraws (keys_of profile secret.now file) file (drop (length (E.drawn pager.entry.entropy.now)) (E.drawn result.1.now))))
+        (λ file. HasOwnDraws (keys_of profile secret.now file) file (drawn_since (E.drawn pager.entry.entropy.now) (E.drawn result.1.now))))
         (HoldsOnly (held_by pager.entry.codec (main_of (D.reads pager.entry.disk.now))))
         (λ file. HoldsOnly (held_by (keys_of profile secret.now file) file)) pager.entry.disk.now result.0.now }
     ensures fresh_gone { IsTrue D.tells → OnOk result.2 ((D.reads result.0.now).fresh ≡ None) }
     ensures own_draws { OnOk result.2 (IsTrue D.tells → IsTrue E.tells
         → HasOwnDraws (keys_of profile secret.now (main_of (D.reads result.0.now))) (main_of (D.reads result.0.now))
-        (drop (length (E.drawn pager.entry.entropy.now)) (E.drawn result.1.now))) }
+        (drawn_since (E.drawn pager.entry.entropy.now) (E.drawn result.1.now))) }
     ensures stays { IfErr result.2 (λ e. IsRefusedChange e → IsTrue D.tells → Each (D.images result.0.now) (IsOld (D.images pager.entry.disk.now))) }
     ensures late { IfErr result.2 IsLateChange }
     ensures disk_fault { result.2 ≡ Err (ChangeError.Stopped Stop.DiskFault) → Rose (D.faults pager.entry.disk.now) (D.faults result.0.now) }

@@ -9,6 +9,7 @@ ghost use Rattle.edge_model.specs.Files.{main_of};
 ghost use Rattle.pager.specs.Held.{pins_of};
 ghost use Rattle.pager.specs.Opening.{file_opened};
 ghost use Rattle.pager.specs.Pages.{opened_pages};
+ghost use Rattle.pager.specs.PagesOf.{pages_of};
 ghost use Rattle.pager.specs.Reads.{DiskRead, Untouched};
 ghost use Rattle.sqlcipher_tool.specs.Names.{names_of, names_in};
 ghost use Rattle.sqlcipher_tool.specs.Opening.{AreRecovered};
@@ -108,8 +109,7 @@ fn near_in_pages<E: Entropy, D: Disk>(
     name: &Name<'_>,
 ) -> Result<Vec<NearName>, Stop>
     requires unpinned { pins_of pager.old.cache.held ≡ no_pins }
-    ensures found { IfOk result (λ list. IsTrue D.tells
-        → list.items ≡ names_in name.now (opened_pages pager.old.codec (main_of (D.reads pager.old.disk.now)) pager.old.count)) }
+    ensures found { IfOk result (λ list. IsTrue D.tells → list.items ≡ names_in name.now (pages_of pager.old)) }
     ensures cause { IfErr result (λ stop. stop ≡ Stop.DiskFault → Rose (D.faults pager.old.disk.now) (D.faults pager.new.disk.now)) }
     ensures disk { DiskRead D.tells D.reads D.images D.moment D.since D.faults pager.old.disk pager.new.disk }
     ensures entropy { Untouched pager.old.entropy pager.new.entropy }

@@ -1,5 +1,5 @@
 // `rekey`: every page is sealed under another key, in one transaction.
-ghost use Rattle.std.specs.Prelude.{◌≡◌, ◌≢◌, ◌≤◌, drop, length, true, Ok, Err, IfErr, IsErr, OnOk, IsTrue, Some, if◌then◌else◌};
+ghost use Rattle.std.specs.Prelude.{◌≡◌, ◌≢◌, ◌≤◌, length, true, Ok, Err, IfErr, IsErr, OnOk, IsTrue, Some, if◌then◌else◌};
 ghost use Rattle.std.specs.List.{Contains};
 ghost use Rattle.fresh_disk.specs.OnlyFresh.{IsOld};
 ghost use Rattle.fresh_disk.specs.Published.{IsAlone};
@@ -11,9 +11,11 @@ ghost use Rattle.cipher_profile.specs.Profile.{IsListed, is_clear, is_plain};
 ghost use Rattle.db_format.specs.Source.{no_pins};
 ghost use Rattle.page_codec.specs.Page.{keys_of, magic, salt_of};
 ghost use Rattle.edge_model.specs.Files.{main_of};
+ghost use Rattle.pager.specs.Drawn.{drawn_since};
 ghost use Rattle.pager.specs.Held.{pins_of};
 ghost use Rattle.pager.specs.Opening.{file_opened};
-ghost use Rattle.pager.specs.Pages.{is_page_number, opened_pages};
+ghost use Rattle.pager.specs.Pages.{is_page_number};
+ghost use Rattle.pager.specs.PagesOf.{pages_of};
 ghost use Rattle.rekey_job.specs.Rekeyed.{IsRekeyed};
 ghost use Rattle.atomic_commit.specs.Facts.{SameFresh};
 ghost use Rattle.sqlcipher_tool.specs.Answer.{Answer};
@@ -55,15 +57,14 @@ pub fn rekey_file<E: Entropy, D: Disk>(
         → KeepsOrCommits D.reads D.images D.moment D.since (change_status result)
         (WithDraws (λ file. IsRekeyedSo (keys_of old first.now (main_of (D.reads disk.old))) (keys_of new second.now file)
         (rekeyed_salt old first.now new (main_of (D.reads disk.old))) (main_of (D.reads disk.old)) file) E.tells
-        (λ file. FileDraws (keys_of new second.now file) file (is_page_number (page_count_of (keys_of new second.now file) file)) 0 (drop (length (E.drawn entropy.old)) (E.drawn entropy.new))))
+        (λ file. FileDraws (keys_of new second.now file) file (is_page_number (page_count_of (keys_of new second.now file) file)) 0 (drawn_since (E.drawn entropy.old) (E.drawn entropy.new))))
         (HoldsOnly (held_by (keys_of old first.now (main_of (D.reads disk.old))) (main_of (D.reads disk.old))))
         (λ file. HoldsOnly (held_by (keys_of new second.now file) file)) disk.old disk.new }
     ensures fresh { IsTrue D.tells → LeavesOnly D.moment D.since disk.old disk.new (From SameFresh (D.images disk.old)) }
     ensures stays { IfErr result (λ e. IsRefusedChange e → IsTrue D.tells → Each (D.images disk.new) (IsOld (D.images disk.old))) }
     ensures unopened { IsTrue D.tells → IsErr (opened_with old first.now (main_of (D.reads disk.old))) → OnlyRead D.reads D.images D.moment D.since disk.old disk.new }
-    ensures own_draws { OnOk result (IsTrue D.tells → IsTrue E.tells
-        → FileDraws (keys_of new second.now (main_of (D.reads disk.new))) (main_of (D.reads disk.new))
-        (is_page_number (page_count_of (keys_of new second.now (main_of (D.reads disk.new))) (main_of (D.reads disk.new)))) 0 (drop (length (E.drawn entropy.old)) (E.drawn entropy.new))) }
+    ensures own_draws { OnOk result (IsTrue D.tells → IsTrue E.tells → FileDraws (keys_of new second.now (main_of (D.reads disk.new))) (main_of (D.reads disk.new))
+        (is_page_number (page_count_of (keys_of new second.now (main_of (D.reads disk.new))) (main_of (D.reads disk.new)))) 0 (drawn_since (E.drawn entropy.old) (E.drawn entropy.new))) }
     ensures late { IfErr result IsLateChange }
     ensures disk_fault { result ≡ Err (ChangeError.Stopped Stop.DiskFault) → Rose (D.faults disk.old) (D.faults disk.new) }
     ensures entropy_fault { result ≡ Err ChangeError.EntropyFault → Rose (E.faults entropy.old) (E.faults entropy.new) }
@@ -109,17 +110,15 @@ fn rekey_pages<'d, D: Disk, E: Entropy>(
     requires alone { IsTrue D.tells → Each (D.images pager.disk.now) (IsAlone (main_of (D.reads pager.disk.now))) }
     ensures disk { result.0.ghost_name ≡ pager.entry.disk.ghost_name }
     ensures entropy { result.1.ghost_name ≡ pager.entry.entropy.ghost_name }
-    ensures told { IsTrue D.tells → (answer : Answer) → change_answer result.2 ≡ Some answer
-        → Contains (rekey_due (opened_pages pager.entry.codec (main_of (D.reads pager.entry.disk.now)) pager.entry.count)) answer }
+    ensures told { IsTrue D.tells → (answer : Answer) → change_answer result.2 ≡ Some answer → Contains (rekey_due (pages_of pager.entry)) answer }
     ensures safely { IsTrue D.tells → KeepsOrCommits D.reads D.images D.moment D.since (change_status result.2)
         (WithDraws (IsRekeyed pager.entry.codec write pager.entry.count (main_of (D.reads pager.entry.disk.now))) E.tells
-        (λ file. FileDraws write file (is_page_number pager.entry.count) 0 (drop (length (E.drawn pager.entry.entropy.now)) (E.drawn result.1.now))))
-        (HoldsOnly (held_by pager.entry.codec (main_of (D.reads pager.entry.disk.now))))
-        (λ file. HoldsOnly (held_by write file)) pager.entry.disk.now result.0.now }
+        (λ file. FileDraws write file (is_page_number pager.entry.count) 0 (drawn_since (E.drawn pager.entry.entropy.now) (E.drawn result.1.now))))
+        (HoldsOnly (held_by pager.entry.codec (main_of (D.reads pager.entry.disk.now)))) (λ file. HoldsOnly (held_by write file)) pager.entry.disk.now result.0.now }
     ensures fresh { IsTrue D.tells → LeavesOnly D.moment D.since pager.entry.disk.now result.0.now (From SameFresh (D.images pager.entry.disk.now)) }
     ensures rekeyed { OnOk result.2 (IsTrue D.tells → IsRekeyed pager.entry.codec write pager.entry.count (main_of (D.reads pager.entry.disk.now)) (main_of (D.reads result.0.now))) }
     ensures own_draws { OnOk result.2 (IsTrue D.tells → IsTrue E.tells
-        → FileDraws write (main_of (D.reads result.0.now)) (is_page_number pager.entry.count) 0 (drop (length (E.drawn pager.entry.entropy.now)) (E.drawn result.1.now))) }
+        → FileDraws write (main_of (D.reads result.0.now)) (is_page_number pager.entry.count) 0 (drawn_since (E.drawn pager.entry.entropy.now) (E.drawn result.1.now))) }
     ensures stays { IfErr result.2 (λ e. IsRefusedChange e → IsTrue D.tells → Each (D.images result.0.now) (IsOld (D.images pager.entry.disk.now))) }
     ensures late { IfErr result.2 IsLateChange }
     ensures disk_fault { result.2 ≡ Err (ChangeError.Stopped Stop.DiskFault) → Rose (D.faults pager.entry.disk.now) (D.faults result.0.now) }

@@ -1,5 +1,5 @@
 // `settle`: a file that is marked for WAL mode becomes one in rollback mode, in one transaction that changes page 1 alone. Its log was laid before.
-ghost use Rattle.std.specs.Prelude.{◌≡◌, ◌≤◌, drop, length, true, Some, Ok, Err, IfOk, IfErr, IsErr, OnOk, IsTrue};
+ghost use Rattle.std.specs.Prelude.{◌≡◌, ◌≤◌, length, true, Some, Ok, Err, IfOk, IfErr, IsErr, OnOk, IsTrue};
 ghost use Rattle.fresh_disk.specs.OnlyFresh.{IsOld};
 ghost use Rattle.fresh_disk.specs.Published.{IsAlone};
 ghost use Rattle.edge_model.specs.Causes.{Rose};
@@ -9,10 +9,11 @@ ghost use Rattle.edge_model.specs.OnlyRead.{OnlyRead};
 ghost use Rattle.cipher_profile.specs.Profile.{IsListed, usable, with_log};
 ghost use Rattle.map_pages.specs.Maps.{map_count};
 ghost use Rattle.page_codec.specs.Page.{keys_of, salt_of};
+ghost use Rattle.pager.specs.Drawn.{drawn_since};
 ghost use Rattle.pager.specs.Base.{base_of};
 ghost use Rattle.pager.specs.Held.{pins_of};
 ghost use Rattle.pager.specs.Opening.{file_opened};
-ghost use Rattle.pager.specs.Pages.{opened_pages};
+ghost use Rattle.pager.specs.PagesOf.{pages_of};
 ghost use Rattle.pager.specs.Reads.{DiskRead, Untouched};
 ghost use Rattle.pager.specs.UnderWay.{Start};
 ghost use Rattle.atomic_commit.specs.Facts.{IsBase, SameFresh};
@@ -66,14 +67,14 @@ pub fn settle_file<E: Entropy, D: Disk>(
     ensures safely { IsTrue D.tells → Each (D.images disk.old) (HoldsOnly (held_by (keys_of (with_log profile) secret.now (main_of (D.reads disk.old))) (main_of (D.reads disk.old))))
         → KeepsOrCommits D.reads D.images D.moment D.since (change_status result)
         (WithDraws (λ file. IsSettledFrom (keys_of (with_log profile) secret.now (main_of (D.reads disk.old))) (keys_of profile secret.now file) (main_of (D.reads disk.old)) file) E.tells
-        (λ file. SettledDraws (keys_of profile secret.now file) file (drop (length (E.drawn entropy.old)) (E.drawn entropy.new))))
+        (λ file. SettledDraws (keys_of profile secret.now file) file (drawn_since (E.drawn entropy.old) (E.drawn entropy.new))))
         (HoldsOnly (held_by (keys_of (with_log profile) secret.now (main_of (D.reads disk.old))) (main_of (D.reads disk.old))))
         (λ file. HoldsOnly (held_by (keys_of profile secret.now file) file)) disk.old disk.new }
     ensures fresh { IsTrue D.tells → LeavesOnly D.moment D.since disk.old disk.new (From SameFresh (D.images disk.old)) }
     ensures stays { IfErr result (λ e. IsRefusedChange e → IsTrue D.tells → Each (D.images disk.new) (IsOld (D.images disk.old))) }
     ensures unopened { IsTrue D.tells → IsErr (opened_with (with_log profile) secret.now (main_of (D.reads disk.old))) → OnlyRead D.reads D.images D.moment D.since disk.old disk.new }
     ensures own_draws { OnOk result (IsTrue D.tells → IsTrue E.tells
-        → SettledDraws (keys_of profile secret.now (main_of (D.reads disk.new))) (main_of (D.reads disk.new)) (drop (length (E.drawn entropy.old)) (E.drawn entropy.new))) }
+        → SettledDraws (keys_of profile secret.now (main_of (D.reads disk.new))) (main_of (D.reads disk.new)) (drawn_since (E.drawn entropy.old) (E.drawn entropy.new))) }
     ensures late { IfErr result IsLateChange }
     ensures disk_fault { result ≡ Err (ChangeError.Stopped Stop.DiskFault) → Rose (D.faults disk.old) (D.faults disk.new) }
     ensures entropy_fault { result ≡ Err ChangeError.EntropyFault → Rose (E.faults entropy.old) (E.faults entropy.new) }
@@ -118,13 +119,13 @@ fn settle_pages<'d, D: Disk, E: Entropy>(
         → answer ≡ marked_answer frames (map_count (usable pager.entry.codec.profile) pager.entry.count) (marks_of (first_plain pager.entry.codec (main_of (D.reads pager.entry.disk.now)))) }
     ensures safely { IsTrue D.tells → KeepsOrCommits D.reads D.images D.moment D.since (change_status result.2)
         (WithDraws (IsSettledUnder pager.entry.codec (main_of (D.reads pager.entry.disk.now))) E.tells
-        (λ file. SettledDraws pager.entry.codec file (drop (length (E.drawn pager.entry.entropy.now)) (E.drawn result.1.now))))
+        (λ file. SettledDraws pager.entry.codec file (drawn_since (E.drawn pager.entry.entropy.now) (E.drawn result.1.now))))
         (HoldsOnly (held_by pager.entry.codec (main_of (D.reads pager.entry.disk.now))))
         (λ file. HoldsOnly (held_by pager.entry.codec file)) pager.entry.disk.now result.0.now }
     ensures fresh { IsTrue D.tells → LeavesOnly D.moment D.since pager.entry.disk.now result.0.now (From SameFresh (D.images pager.entry.disk.now)) }
     ensures stays { IfErr result.2 (λ e. IsRefusedChange e → IsTrue D.tells → Each (D.images result.0.now) (IsOld (D.images pager.entry.disk.now))) }
     ensures own_draws { OnOk result.2 (IsTrue D.tells → IsTrue E.tells
-        → SettledDraws pager.entry.codec (main_of (D.reads result.0.now)) (drop (length (E.drawn pager.entry.entropy.now)) (E.drawn result.1.now))) }
+        → SettledDraws pager.entry.codec (main_of (D.reads result.0.now)) (drawn_since (E.drawn pager.entry.entropy.now) (E.drawn result.1.now))) }
     ensures late { IfErr result.2 IsLateChange }
     ensures disk_fault { result.2 ≡ Err (ChangeError.Stopped Stop.DiskFault) → Rose (D.faults pager.entry.disk.now) (D.faults result.0.now) }
     ensures entropy_fault { result.2 ≡ Err ChangeError.EntropyFault → Rose (E.faults pager.entry.entropy.now) (E.faults result.1.now) }
@@ -158,8 +159,8 @@ fn settle_pages<'d, D: Disk, E: Entropy>(
 
 /// What page 1 says of the file.
 pub fn read_marks<D: Disk, E: Entropy>(pager: &mut Pager<'_, D, E>) -> Result<Marks, Stop>
-    ensures told { IfOk result (λ marks. IsTrue D.tells → marks ≡ marks_of ((opened_pages pager.old.codec (main_of (D.reads pager.old.disk.now)) pager.old.count).page 1)) }
-    ensures stop { IfErr result (IsMarkStop D.tells (opened_pages pager.old.codec (main_of (D.reads pager.old.disk.now)) pager.old.count)) }
+    ensures told { IfOk result (λ marks. IsTrue D.tells → marks ≡ marks_of ((pages_of pager.old).page 1)) }
+    ensures stop { IfErr result (IsMarkStop D.tells (pages_of pager.old)) }
     ensures fault { result ≡ Err Stop.DiskFault → Rose (D.faults pager.old.disk.now) (D.faults pager.new.disk.now) }
     ensures disk { DiskRead D.tells D.reads D.images D.moment D.since D.faults pager.old.disk pager.new.disk }
     ensures entropy { Untouched pager.old.entropy pager.new.entropy }

@@ -1,5 +1,5 @@
 // `settle` of a file with its log: the steps of it, each over a disk of the same folder. `specs/Seams.antt` says how they join.
-ghost use Rattle.std.specs.Prelude.{◌≡◌, ◌⊎◌, ◌≢◌, ◌≤◌, ◌<◌, ◌∷◌, [], length, drop, true, false, None, Some, Ok, Err, IfErr, IfOk, IfSome, IsTrue, OnOk};
+ghost use Rattle.std.specs.Prelude.{◌≡◌, ◌⊎◌, ◌≢◌, ◌≤◌, ◌<◌, ◌∷◌, [], length, true, false, None, Some, Ok, Err, IfErr, IfOk, IfSome, IsTrue, OnOk};
 ghost use Rattle.btree_walk.specs.Causes.{is_failure};
 ghost use Rattle.cipher_profile.specs.Profile.{IsListed, form_of, is_plain};
 ghost use Rattle.db_format.specs.Header.{header_fields};
@@ -12,9 +12,10 @@ ghost use Rattle.log_recovery.specs.Opened.{IsLogDone, KeepsOpened, log_answer_t
 ghost use Rattle.log_recovery.specs.declared.settling.LogLaid.{LogLaid as Laying};
 ghost use Rattle.map_pages.specs.Beside.{is_fault_beside};
 ghost use Rattle.map_pages.specs.Settled.{CanBeSettled};
+ghost use Rattle.pager.specs.Drawn.{drawn_since};
 ghost use Rattle.pager.specs.Causes.{is_fault};
 ghost use Rattle.pager.specs.Held.{pins_of};
-ghost use Rattle.pager.specs.Pages.{opened_pages};
+ghost use Rattle.pager.specs.PagesOf.{pages_of};
 ghost use Rattle.pager.specs.Reads.{DiskRead, Untouched};
 ghost use Rattle.rollback_journal.specs.Recovery.{HasByte, IsPlaybackDone, KeepsRecovered};
 ghost use Rattle.sqlcipher_tool.specs.Answer.{HasDrawnCauses, IsKeyStatus, IsStopStatus, PutsLine};
@@ -196,10 +197,9 @@ fn check_recovered<D: Disk>(
 
 // The check of the pages of a file, as `verify` walks them.
 fn check_pages<D: Disk, E: Entropy>(alloc: Global, pager: &mut Pager<'_, D, E>) -> Result<(), Stop>
-    requires header { IsTrue D.tells → 1 ≤ pager.old.count
-        → pager.old.header ≡ header_fields ((opened_pages pager.old.codec (main_of (D.reads pager.old.disk.now)) pager.old.count).page 1) }
+    requires header { IsTrue D.tells → 1 ≤ pager.old.count → pager.old.header ≡ header_fields ((pages_of pager.old).page 1) }
     requires unpinned { pins_of pager.old.cache.held ≡ no_pins }
-    ensures checked { OnOk result (IsTrue D.tells → IsChecked (opened_pages pager.old.codec (main_of (D.reads pager.old.disk.now)) pager.old.count)) }
+    ensures checked { OnOk result (IsTrue D.tells → IsChecked (pages_of pager.old)) }
     ensures cause { result ≡ Err Stop.DiskFault → Rose (D.faults pager.old.disk.now) (D.faults pager.new.disk.now) }
     ensures disk { DiskRead D.tells D.reads D.images D.moment D.since D.faults pager.old.disk pager.new.disk }
     ensures entropy { Untouched pager.old.entropy pager.new.entropy }
@@ -214,11 +214,10 @@ fn check_pages<D: Disk, E: Entropy>(alloc: Global, pager: &mut Pager<'_, D, E>) 
 
 // The check of the pages of a file with map pages: none of its parts has a place on one.
 fn check_maps<D: Disk, E: Entropy>(alloc: Global, pager: &mut Pager<'_, D, E>) -> Result<(), Stop>
-    requires header { IsTrue D.tells → 1 ≤ pager.old.count
-        → pager.old.header ≡ header_fields ((opened_pages pager.old.codec (main_of (D.reads pager.old.disk.now)) pager.old.count).page 1) }
+    requires header { IsTrue D.tells → 1 ≤ pager.old.count → pager.old.header ≡ header_fields ((pages_of pager.old).page 1) }
     requires unpinned { pins_of pager.old.cache.held ≡ no_pins }
-    ensures walked { OnOk result (IsTrue D.tells → IsWalked (opened_pages pager.old.codec (main_of (D.reads pager.old.disk.now)) pager.old.count)) }
-    ensures apart { OnOk result (IsTrue D.tells → CanBeSettled (opened_pages pager.old.codec (main_of (D.reads pager.old.disk.now)) pager.old.count)) }
+    ensures walked { OnOk result (IsTrue D.tells → IsWalked (pages_of pager.old)) }
+    ensures apart { OnOk result (IsTrue D.tells → CanBeSettled (pages_of pager.old)) }
     ensures cause { result ≡ Err Stop.DiskFault → Rose (D.faults pager.old.disk.now) (D.faults pager.new.disk.now) }
     ensures disk { DiskRead D.tells D.reads D.images D.moment D.since D.faults pager.old.disk pager.new.disk }
     ensures entropy { Untouched pager.old.entropy pager.new.entropy }
@@ -256,10 +255,9 @@ fn map_stop(error: &WalkError<MapRefusal<PageError>>) -> Stop
 
 // The walk of `verify`, of which only the status is asked.
 fn check_walk<D: Disk, E: Entropy>(alloc: Global, pager: &mut Pager<'_, D, E>) -> Result<(), Stop>
-    requires header { IsTrue D.tells → 1 ≤ pager.old.count
-        → pager.old.header ≡ header_fields ((opened_pages pager.old.codec (main_of (D.reads pager.old.disk.now)) pager.old.count).page 1) }
+    requires header { IsTrue D.tells → 1 ≤ pager.old.count → pager.old.header ≡ header_fields ((pages_of pager.old).page 1) }
     requires unpinned { pins_of pager.old.cache.held ≡ no_pins }
-    ensures walked { OnOk result (IsTrue D.tells → IsWalked (opened_pages pager.old.codec (main_of (D.reads pager.old.disk.now)) pager.old.count)) }
+    ensures walked { OnOk result (IsTrue D.tells → IsWalked (pages_of pager.old)) }
     ensures cause { result ≡ Err Stop.DiskFault → Rose (D.faults pager.old.disk.now) (D.faults pager.new.disk.now) }
     ensures disk { DiskRead D.tells D.reads D.images D.moment D.since D.faults pager.old.disk pager.new.disk }
     ensures entropy { Untouched pager.old.entropy pager.new.entropy }
@@ -383,7 +381,7 @@ pub fn settle_marks<S: Sink, E: Entropy, D: Disk>(
     ensures line { IsTrue S.tells → PutsLine result (S.taken out.old) (S.taken out.new) }
     ensures causes { HasDrawnCauses result true (D.faults disk.old) (D.faults disk.new) (S.faults out.old) (S.faults out.new) (E.faults entropy.old) (E.faults entropy.new) }
     ensures drawn { result ≡ Status.EntropyFault → is_plain profile ≡ false }
-    ensures changes { IsTrue D.tells → IsSafely result (ChangeFile profile (SettleBy frames)) E.tells (drop (length (E.drawn entropy.old)) (E.drawn entropy.new))
+    ensures changes { IsTrue D.tells → IsSafely result (ChangeFile profile (SettleBy frames)) E.tells (drawn_since (E.drawn entropy.old) (E.drawn entropy.new))
         (disk_run D.reads D.images D.moment D.since disk.old disk.new) (Some (renewed profile (SettleBy frames) secrets.now.first secrets.now.second)) }
 {
     let change = Change::Settle { frames };

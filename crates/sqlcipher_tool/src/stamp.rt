@@ -1,5 +1,5 @@
 // `stamp`: a field of the database header is set, in one transaction that changes page 1 alone.
-ghost use Rattle.std.specs.Prelude.{◌≡◌, ◌≤◌, ◌==◌, drop, length, Some, Err, IfErr, IsErr, OnOk, IsTrue};
+ghost use Rattle.std.specs.Prelude.{◌≡◌, ◌≤◌, ◌==◌, length, Some, Err, IfErr, IsErr, OnOk, IsTrue};
 ghost use Rattle.fresh_disk.specs.OnlyFresh.{IsOld};
 ghost use Rattle.fresh_disk.specs.Published.{IsAlone};
 ghost use Rattle.edge_model.specs.Causes.{Rose};
@@ -17,6 +17,7 @@ ghost use Rattle.sqlcipher_tool.specs.Holding.{HoldsOnly, held_by};
 ghost use Rattle.sqlcipher_tool.specs.Opening.{AreRecovered, opened_with};
 ghost use Rattle.sqlcipher_tool.specs.Renewal.{WithDraws};
 ghost use Rattle.sqlcipher_tool.specs.Stamp.{IsStamped, field_at, stamp_answer};
+ghost use Rattle.pager.specs.Drawn.{drawn_since};
 
 use crate::command::Field;
 use crate::first_page::change_first;
@@ -47,14 +48,14 @@ pub fn stamp_file<E: Entropy, D: Disk>(
     ensures safely { IsTrue D.tells → Each (D.images disk.old) (HoldsOnly (held_by (keys_of profile secret.now (main_of (D.reads disk.old))) (main_of (D.reads disk.old))))
         → KeepsOrCommits D.reads D.images D.moment D.since (change_status result)
         (WithDraws (IsStamped (keys_of profile secret.now (main_of (D.reads disk.old))) field value (main_of (D.reads disk.old))) E.tells
-        (λ file. FileDraws (keys_of profile secret.now file) file (λ n. n == 1) 0 (drop (length (E.drawn entropy.old)) (E.drawn entropy.new))))
+        (λ file. FileDraws (keys_of profile secret.now file) file (λ n. n == 1) 0 (drawn_since (E.drawn entropy.old) (E.drawn entropy.new))))
         (HoldsOnly (held_by (keys_of profile secret.now (main_of (D.reads disk.old))) (main_of (D.reads disk.old))))
         (λ file. HoldsOnly (held_by (keys_of profile secret.now file) file)) disk.old disk.new }
     ensures fresh { IsTrue D.tells → LeavesOnly D.moment D.since disk.old disk.new (From SameFresh (D.images disk.old)) }
     ensures stays { IfErr result (λ e. IsRefusedChange e → IsTrue D.tells → Each (D.images disk.new) (IsOld (D.images disk.old))) }
     ensures unopened { IsTrue D.tells → IsErr (opened_with profile secret.now (main_of (D.reads disk.old))) → OnlyRead D.reads D.images D.moment D.since disk.old disk.new }
     ensures own_draws { OnOk result (IsTrue D.tells → IsTrue E.tells
-        → FileDraws (keys_of profile secret.now (main_of (D.reads disk.new))) (main_of (D.reads disk.new)) (λ n. n == 1) 0 (drop (length (E.drawn entropy.old)) (E.drawn entropy.new))) }
+        → FileDraws (keys_of profile secret.now (main_of (D.reads disk.new))) (main_of (D.reads disk.new)) (λ n. n == 1) 0 (drawn_since (E.drawn entropy.old) (E.drawn entropy.new))) }
     ensures late { IfErr result IsLateChange }
     ensures disk_fault { result ≡ Err (ChangeError.Stopped Stop.DiskFault) → Rose (D.faults disk.old) (D.faults disk.new) }
     ensures entropy_fault { result ≡ Err ChangeError.EntropyFault → Rose (E.faults entropy.old) (E.faults entropy.new) }

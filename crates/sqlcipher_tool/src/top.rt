@@ -1,5 +1,5 @@
 // The top call.
-ghost use Rattle.std.specs.Prelude.{◌≡◌, ◌⊎◌, ◌≤◌, ◌∷◌, [], drop, length, true, false, None, Some, Ok, Err, IsTrue, IsErr};
+ghost use Rattle.std.specs.Prelude.{◌≡◌, ◌⊎◌, ◌≤◌, ◌∷◌, [], true, false, None, Some, Ok, Err, IsTrue, IsErr};
 ghost use Rattle.cipher_profile.specs.declared.key_line.KeyError.{KeyError as KeyRefusal};
 ghost use Rattle.edge_model.specs.Causes.{Rose};
 ghost use Rattle.edge_model.specs.Files.{main_of};
@@ -20,6 +20,7 @@ ghost use Rattle.sqlcipher_tool.specs.declared.command.Command.{Command as Asked
 ghost use Rattle.sqlcipher_tool.specs.declared.status.Refusal.{Refusal as Refused};
 ghost use Rattle.sqlcipher_tool.specs.declared.status.Refusal.TheVariants.{OnlyRead as ReadAlone};
 ghost use Rattle.sqlcipher_tool.specs.Words.{alters, draws, finds, form, play_form, plays_with_log, texts, asked_keys, recovers_by, writes_beside, IsServed};
+ghost use Rattle.pager.specs.Drawn.{drawn_since};
 
 use crate::change::change_file;
 use crate::command::{Command, parse_words, played_profile, plays_with_log};
@@ -89,7 +90,7 @@ pub fn run<K: Source, S: Sink, E: Entropy, D: Disk>(
     ensures undrawn { IsTrue D.tells → (command : Asked) → form (texts words.now) ≡ Some command → is_in_the_way command (D.reads disk.old) ≡ true
         → entropy.new ≡ entropy.old }
     ensures own_draws { IsTrue D.tells → IsTrue E.tells → result ≡ Status.Done → (command : Asked) → form (texts words.now) ≡ Some command
-        → DrewOwn command (GaveKeys K.tells (asked_keys command) (K.left input.old)) (main_of (D.reads disk.new)) (drop (length (E.drawn entropy.old)) (E.drawn entropy.new)) }
+        → DrewOwn command (GaveKeys K.tells (asked_keys command) (K.left input.old)) (main_of (D.reads disk.new)) (drawn_since (E.drawn entropy.old) (E.drawn entropy.new)) }
 
     // The disk, at every moment of the run and after every status.
     ensures unrecovered { IsTrue D.tells → IsUnrecovered result → D.reads disk.new ≡ D.reads disk.old }
@@ -102,7 +103,7 @@ pub fn run<K: Source, S: Sink, E: Entropy, D: Disk>(
     ensures keeps { IsTrue D.tells → (command : Asked) → form (texts words.now) ≡ Some command
         → Keeps command (disk_run D.reads D.images D.moment D.since disk.old disk.new) }
     ensures changes { IsTrue D.tells → (command : Asked) → form (texts words.now) ≡ Some command
-        → ChangesBy result command (GaveKeys K.tells (asked_keys command) (K.left input.old)) E.tells (drop (length (E.drawn entropy.old)) (E.drawn entropy.new)) (disk_run D.reads D.images D.moment D.since disk.old disk.new) }
+        → ChangesBy result command (GaveKeys K.tells (asked_keys command) (K.left input.old)) E.tells (drawn_since (E.drawn entropy.old) (E.drawn entropy.new)) (disk_run D.reads D.images D.moment D.since disk.old disk.new) }
 
     // A script of sessions on a file that is only read with its log: it is refused by its words.
     ensures play_refused { plays_with_log (texts words.now) ≡ true

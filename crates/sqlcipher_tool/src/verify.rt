@@ -9,9 +9,8 @@ ghost use Rattle.btree_model.specs.Freelist.{first_trunk, free_field, freelist_w
 ghost use Rattle.btree_model.specs.Parts.{parts};
 ghost use Rattle.btree_walk.specs.Causes.{IsWalkStop, is_failure};
 ghost use Rattle.pager.specs.Causes.{IsReadRefusal, MayRefuse, is_fault};
-ghost use Rattle.edge_model.specs.Files.{main_of};
 ghost use Rattle.pager.specs.Held.{pins_of};
-ghost use Rattle.pager.specs.Pages.{opened_pages};
+ghost use Rattle.pager.specs.PagesOf.{pages_of};
 ghost use Rattle.pager.specs.Reads.{DiskRead, Untouched};
 ghost use Rattle.schema_map.specs.Census.{IsWhole};
 ghost use Rattle.schema_map.specs.Parts.{IsEarliest};
@@ -38,11 +37,10 @@ pub fn verify_pages<S: Sink, E: Entropy, D: Disk>(
     pager: &mut Pager<'_, D, E>,
     out: &mut S,
 ) -> Status
-    requires trunk { IsTrue D.tells → 1 ≤ pager.old.count → pager.old.header.first_trunk ≡ first_trunk (opened_pages pager.old.codec (main_of (D.reads pager.old.disk.now)) pager.old.count) }
-    requires free { IsTrue D.tells → 1 ≤ pager.old.count → pager.old.header.free_count ≡ free_field (opened_pages pager.old.codec (main_of (D.reads pager.old.disk.now)) pager.old.count) }
+    requires trunk { IsTrue D.tells → 1 ≤ pager.old.count → pager.old.header.first_trunk ≡ first_trunk (pages_of pager.old) }
+    requires free { IsTrue D.tells → 1 ≤ pager.old.count → pager.old.header.free_count ≡ free_field (pages_of pager.old) }
     requires unpinned { pins_of pager.old.cache.held ≡ no_pins }
-    ensures answer { IsTrue D.tells
-        → AnswersOne (pages_answers (opened_pages pager.old.codec (main_of (D.reads pager.old.disk.now)) pager.old.count)) result S.tells (S.taken out.old) (S.taken out.new) }
+    ensures answer { IsTrue D.tells → AnswersOne (pages_answers (pages_of pager.old)) result S.tells (S.taken out.old) (S.taken out.new) }
     ensures line { IsTrue S.tells → PutsLine result (S.taken out.old) (S.taken out.new) }
     ensures causes { HasCauses result (D.faults pager.old.disk.now) (D.faults pager.new.disk.now) (S.faults out.old) (S.faults out.new) }
     ensures disk { DiskRead D.tells D.reads D.images D.moment D.since D.faults pager.old.disk pager.new.disk }
@@ -64,9 +62,8 @@ fn report_census<S: Sink, E: Entropy, D: Disk>(
     pager: &mut Pager<'_, D, E>,
     census: &Census,
 ) -> Status
-    requires { IsTrue D.tells → IsWhole (opened_pages pager.old.codec (main_of (D.reads pager.old.disk.now)) pager.old.count) census.now }
-    ensures answer { IsTrue D.tells
-        → AnswersOne (pages_answers (opened_pages pager.old.codec (main_of (D.reads pager.old.disk.now)) pager.old.count)) result S.tells (S.taken out.old) (S.taken out.new) }
+    requires { IsTrue D.tells → IsWhole (pages_of pager.old) census.now }
+    ensures answer { IsTrue D.tells → AnswersOne (pages_answers (pages_of pager.old)) result S.tells (S.taken out.old) (S.taken out.new) }
     ensures line { IsTrue S.tells → PutsLine result (S.taken out.old) (S.taken out.new) }
     ensures causes { HasCauses result (D.faults pager.old.disk.now) (D.faults pager.new.disk.now) (S.faults out.old) (S.faults out.new) }
     ensures disk { DiskRead D.tells D.reads D.images D.moment D.since D.faults pager.old.disk pager.new.disk }
@@ -97,13 +94,11 @@ fn report_stop<S: Sink, E: Entropy, D: Disk>(
     header: &Header,
     error: &WalkError<PageError>,
 ) -> Status
-    requires trunk { IsTrue D.tells → header.now.first_trunk ≡ first_trunk (opened_pages pager.old.codec (main_of (D.reads pager.old.disk.now)) pager.old.count) }
-    requires free { IsTrue D.tells → header.now.free_count ≡ free_field (opened_pages pager.old.codec (main_of (D.reads pager.old.disk.now)) pager.old.count) }
+    requires trunk { IsTrue D.tells → header.now.first_trunk ≡ first_trunk (pages_of pager.old) }
+    requires free { IsTrue D.tells → header.now.free_count ≡ free_field (pages_of pager.old) }
     requires is_stop { IsWalkStop IsReadRefusal error.now }
-    requires stopped { IsTrue D.tells → IsEarliest (MayRefuse D.tells) (opened_pages pager.old.codec (main_of (D.reads pager.old.disk.now)) pager.old.count)
-        (parts (opened_pages pager.old.codec (main_of (D.reads pager.old.disk.now)) pager.old.count)) error.now }
-    ensures answer { IsTrue D.tells
-        → AnswersOne (pages_answers (opened_pages pager.old.codec (main_of (D.reads pager.old.disk.now)) pager.old.count)) result S.tells (S.taken out.old) (S.taken out.new) }
+    requires stopped { IsTrue D.tells → IsEarliest (MayRefuse D.tells) (pages_of pager.old) (parts (pages_of pager.old)) error.now }
+    ensures answer { IsTrue D.tells → AnswersOne (pages_answers (pages_of pager.old)) result S.tells (S.taken out.old) (S.taken out.new) }
     ensures line { IsTrue S.tells → PutsLine result (S.taken out.old) (S.taken out.new) }
     ensures causes { (faults : ℕ) → (IsTrue (is_failure is_fault error.now) → Rose faults (D.faults pager.old.disk.now)) → faults ≤ D.faults pager.old.disk.now
         → HasCauses result faults (D.faults pager.new.disk.now) (S.faults out.old) (S.faults out.new) }
