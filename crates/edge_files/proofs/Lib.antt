@@ -1,3 +1,3 @@
 pub mod Guarded
 pub mod Around
-pub mod Pair
+pub mod PutBack

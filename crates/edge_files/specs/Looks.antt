@@ -1,5 +1,5 @@
 -- What looks tell of the three files, and what they have to tell before a change.
-use Rattle.std.specs.Prelude.{◌≡◌, ℕ, Bool, ◌==◌, if◌then◌else◌, false, List, [], ◌∷◌, take, Option, Some, None, is_some}
+use Rattle.std.specs.Prelude.{◌≡◌, ℕ, Bool, ◌==◌, if◌then◌else◌, false, List, [], ◌∷◌, take, Option, Some, None, is_some, IsTrue}
 use Rattle.std.specs.Option.{option_map}
 use Rattle.edge_files.specs.Purposes.{is_on_log}
 use Rattle.edge_files.specs.declared.beside.SeenLog.{SeenLog}
@@ -56,6 +56,16 @@ pub record SameNotes (old new : Folder) : Type 0 where
   pub gate : new.gate ≡ old.gate
   pub purpose : new.purpose ≡ old.purpose
   pub seen : (log : SeenLog) → old.seen ≡ Some log → new.seen ≡ Some log
+  pub entered : new.is_entered ≡ old.is_entered
+
+-- What a change is compared with is not noted anew. Of the byte and the length of the journal clauses of their own speak.
+pub record KeptNotes (old new : Folder) : Type 0 where
+  pub main : IsTrue (is_some old.main.identity) → new.main ≡ old.main
+  pub journal : IsTrue (is_some old.journal.identity) → new.journal ≡ old.journal
+  pub mark : new.mark ≡ old.mark
+  pub purpose : new.purpose ≡ old.purpose
+  pub seen : (log : SeenLog) → old.seen ≡ Some log → new.seen ≡ Some log
+  pub entered : new.is_entered ≡ old.is_entered
 
 -- A log that is laid was read before, and nobody has written to it since.
 abbrev pub IsLogAsSeen : Looks → Folder → Type 0

@@ -1,8 +1,9 @@
 // What comes before each call of the disk: the files are open, nobody else is at them, and what is needed afterwards is kept. What the names
 // lead to and what a stop may leave stays the same, but that the new file is synced before its first page is written.
-ghost use Rattle.std.specs.Prelude.{◌≡◌, ◌<◌, true, None, OnOk, IsTrue, is_some, length};
+ghost use Rattle.std.specs.Prelude.{◌≡◌, ◌⊎◌, ◌<◌, false, true, None, OnOk, IsTrue, is_some, length};
 ghost use Rattle.edge_files.specs.Around.{NothingNew, OnlyLooked};
-ghost use Rattle.edge_files.specs.Looks.{IsGuarded, IsStillNamed, SameNotes, looks_at};
+ghost use Rattle.edge_files.specs.Looks.{IsAsLeft, IsGuarded, IsStillNamed, KeptNotes, SameNotes, looks_at};
+ghost use Rattle.edge_files.specs.Purposes.{is_on_log};
 ghost use Rattle.edge_model.specs.declared.role.Role.TheVariants.{Journal, Main};
 
 use crate::beside::remove_index;
@@ -25,9 +26,12 @@ impl<'a> Folder<'a> {
         role: Role,
     ) -> Result<(), Failure<'a>>
         ensures looked { OnlyLooked C.tells C.system C.images C.moment C.since C.next files.old.calls files.new.calls }
+        ensures notes { self.old.is_entered ≡ true → KeptNotes self.old self.new }
+        ensures gate { self.new.gate ≡ self.old.gate }
+        ensures entered { OnOk result (self.new.is_entered ≡ true) }
     {
         self.enter(files)?;
-        self.file_mut(role).attend_if_there(files)
+        self.attend_if_there(files, role)
     }
 
     pub(crate) fn prepare_read<C: Calls>(
@@ -36,9 +40,44 @@ impl<'a> Folder<'a> {
         role: Role,
     ) -> Result<(), Failure<'a>>
         ensures looked { OnlyLooked C.tells C.system C.images C.moment C.since C.next files.old.calls files.new.calls }
+        ensures notes { self.old.is_entered ≡ true → KeptNotes self.old self.new }
+        ensures gate { self.new.gate ≡ self.old.gate }
+        ensures known { self.new.journal.known ≡ self.old.journal.known }
+        ensures entered { OnOk result (self.new.is_entered ≡ true) }
     {
         self.enter(files)?;
-        self.file_mut(role).attend(files)
+        self.attend(files, role)
+    }
+
+    // The file of this role is open.
+    fn attend<C: Calls>(&mut self, files: &mut OpenFiles<C>, role: Role) -> Result<(), Failure<'a>>
+        ensures looked { OnlyLooked C.tells C.system C.images C.moment C.since C.next files.old.calls files.new.calls }
+        ensures notes { KeptNotes self.old self.new }
+        ensures gate { self.new.gate ≡ self.old.gate }
+        ensures known { self.new.journal.known ≡ self.old.journal.known }
+    {
+        match role {
+            Role::Main => self.main.attend(files),
+            Role::Journal => self.journal.attend(files),
+            Role::Fresh => self.fresh.attend(files),
+        }
+    }
+
+    // The same, where it is there.
+    fn attend_if_there<C: Calls>(
+        &mut self,
+        files: &mut OpenFiles<C>,
+        role: Role,
+    ) -> Result<(), Failure<'a>>
+        ensures looked { OnlyLooked C.tells C.system C.images C.moment C.since C.next files.old.calls files.new.calls }
+        ensures notes { KeptNotes self.old self.new }
+        ensures gate { self.new.gate ≡ self.old.gate }
+    {
+        match role {
+            Role::Main => self.main.attend_if_there(files),
+            Role::Journal => self.journal.attend_if_there(files),
+            Role::Fresh => self.fresh.attend_if_there(files),
+        }
     }
 
     pub(crate) fn prepare_write<C: Calls>(
@@ -51,7 +90,10 @@ impl<'a> Folder<'a> {
         ensures looked { NothingNew C.tells C.system C.images C.moment C.since files.old.calls files.new.calls }
         ensures main { role ≡ Main → IsTrue (is_some self.old.main.identity) → OnOk result (IsTrue C.tells → IsGuarded (looks_at C.system C.found files.new.calls) self.new) }
         ensures journal { role ≡ Journal → length bytes.now < 512 → IsTrue (is_some self.old.journal.identity) → OnOk result (IsTrue C.tells → IsGuarded (looks_at C.system C.found files.new.calls) self.new) }
-        ensures mark { self.old.is_entered ≡ true → self.new.mark ≡ self.old.mark }
+        ensures notes { self.old.is_entered ≡ true → KeptNotes self.old self.new }
+        ensures gate { self.new.gate ≡ self.old.gate }
+        ensures known { self.new.journal.known ≡ self.old.journal.known }
+        ensures entered { OnOk result (self.new.is_entered ≡ true) }
     {
         self.enter_to_change(files)?;
         self.progress.add_written(bytes.len(), self.main.known());
@@ -69,7 +111,9 @@ impl<'a> Folder<'a> {
         ensures looked { NothingNew C.tells C.system C.images C.moment C.since files.old.calls files.new.calls }
         ensures main { role ≡ Main → IsTrue (is_some self.old.main.identity) → OnOk result (IsTrue C.tells → IsGuarded (looks_at C.system C.found files.new.calls) self.new) }
         ensures journal { role ≡ Journal → length bytes.now < 512 → IsTrue (is_some self.old.journal.identity) → OnOk result (IsTrue C.tells → IsGuarded (looks_at C.system C.found files.new.calls) self.new) }
-        ensures mark { self.new.mark ≡ self.old.mark }
+        ensures notes { KeptNotes self.old self.new }
+        ensures gate { self.new.gate ≡ self.old.gate }
+        ensures known { self.new.journal.known ≡ self.old.journal.known }
     {
         match role {
             Role::Main => self.attend_main(files, at, bytes.len()),
@@ -87,7 +131,9 @@ impl<'a> Folder<'a> {
     ) -> Result<(), Failure<'a>>
         ensures looked { OnlyLooked C.tells C.system C.images C.moment C.since C.next files.old.calls files.new.calls }
         ensures guarded { IsTrue (is_some self.old.main.identity) → OnOk result (IsTrue C.tells → IsGuarded (looks_at C.system C.found files.new.calls) self.new) }
-        ensures mark { self.new.mark ≡ self.old.mark }
+        ensures notes { KeptNotes self.old self.new }
+        ensures gate { self.new.gate ≡ self.old.gate }
+        ensures known { self.new.journal.known ≡ self.old.journal.known }
     {
         self.guard(&files.calls, self.is_at_rest)?;
         self.is_at_rest = false;
@@ -108,11 +154,14 @@ impl<'a> Folder<'a> {
     ) -> Result<(), Failure<'a>>
         ensures looked { OnlyLooked C.tells C.system C.images C.moment C.since C.next files.old.calls files.new.calls }
         ensures guarded { length bytes.now < 512 → IsTrue (is_some self.old.journal.identity) → OnOk result (IsTrue C.tells → IsGuarded (looks_at C.system C.found files.new.calls) self.new) }
-        ensures mark { self.new.mark ≡ self.old.mark }
+        ensures notes { KeptNotes self.old self.new }
+        ensures gate { self.new.gate ≡ self.old.gate }
+        ensures known { self.new.journal.known ≡ self.old.journal.known }
     {
-        if bytes.len() < SECTOR {
-            self.guard(&files.calls, is_closing(at, bytes))?;
+        if bytes.len() >= SECTOR {
+            return self.journal.attend_to_write(files);
         }
+        self.guard(&files.calls, is_closing(at, bytes))?;
         self.journal.attend_to_write(files)
     }
 
@@ -124,7 +173,9 @@ impl<'a> Folder<'a> {
         at: u64,
     ) -> Result<(), Failure<'a>>
         ensures looked { NothingNew C.tells C.system C.images C.moment C.since files.old.calls files.new.calls }
-        ensures mark { self.new.mark ≡ self.old.mark }
+        ensures notes { KeptNotes self.old self.new }
+        ensures gate { self.new.gate ≡ self.old.gate }
+        ensures known { self.new.journal.known ≡ self.old.journal.known }
     {
         self.fresh.attend_to_write(files)?;
         if at > 0 {
@@ -141,7 +192,10 @@ impl<'a> Folder<'a> {
     ) -> Result<(), Failure<'a>>
         ensures looked { OnlyLooked C.tells C.system C.images C.moment C.since C.next files.old.calls files.new.calls }
         ensures main { role ≡ Main → IsTrue (is_some self.old.main.identity) → OnOk result (IsTrue C.tells → IsGuarded (looks_at C.system C.found files.new.calls) self.new) }
-        ensures mark { self.old.is_entered ≡ true → self.new.mark ≡ self.old.mark }
+        ensures notes { self.old.is_entered ≡ true → KeptNotes self.old self.new }
+        ensures gate { self.new.gate ≡ self.old.gate }
+        ensures known { self.new.journal.known ≡ self.old.journal.known }
+        ensures entered { OnOk result (self.new.is_entered ≡ true) }
     {
         self.enter_to_change(files)?;
         let outcome = self.attend_to_cut(files, role);
@@ -155,7 +209,9 @@ impl<'a> Folder<'a> {
     ) -> Result<(), Failure<'a>>
         ensures looked { OnlyLooked C.tells C.system C.images C.moment C.since C.next files.old.calls files.new.calls }
         ensures main { role ≡ Main → IsTrue (is_some self.old.main.identity) → OnOk result (IsTrue C.tells → IsGuarded (looks_at C.system C.found files.new.calls) self.new) }
-        ensures mark { self.new.mark ≡ self.old.mark }
+        ensures notes { KeptNotes self.old self.new }
+        ensures gate { self.new.gate ≡ self.old.gate }
+        ensures known { self.new.journal.known ≡ self.old.journal.known }
     {
         match role {
             Role::Main => {
@@ -174,9 +230,13 @@ impl<'a> Folder<'a> {
         role: Role,
     ) -> Result<(), Failure<'a>>
         ensures looked { OnlyLooked C.tells C.system C.images C.moment C.since C.next files.old.calls files.new.calls }
+        ensures notes { self.old.is_entered ≡ true → KeptNotes self.old self.new }
+        ensures gate { self.new.gate ≡ self.old.gate }
+        ensures known { self.new.journal.known ≡ self.old.journal.known }
+        ensures entered { OnOk result (self.new.is_entered ≡ true) }
     {
         self.enter(files)?;
-        let outcome = self.file_mut(role).attend(files);
+        let outcome = self.attend(files, role);
         self.changed(outcome)
     }
 
@@ -187,7 +247,12 @@ impl<'a> Folder<'a> {
     ) -> Result<(), Failure<'a>>
         ensures looked { OnlyLooked C.tells C.system C.images C.moment C.since C.next files.old.calls files.new.calls }
         ensures journal { role ≡ Journal → IsTrue (is_some self.old.main.identity) → OnOk result (IsTrue C.tells → IsGuarded (looks_at C.system C.found files.new.calls) self.new) }
-        ensures mark { self.old.is_entered ≡ true → self.new.mark ≡ self.old.mark }
+        ensures notes { self.old.is_entered ≡ true → KeptNotes self.old self.new }
+        ensures left { role ≡ Journal → IsTrue (is_some self.old.main.identity) → OnOk result (IsTrue C.tells → is_on_log self.new.purpose ≡ false → IsAsLeft (looks_at C.system C.found files.new.calls) self.new.journal self.old.gate) }
+        ensures gate { (self.new.gate ≡ self.old.gate) ⊎ ((role ≡ Journal) × (self.new.gate ≡ None)) }
+        ensures known { self.new.journal.known ≡ self.old.journal.known }
+        ensures begun { role ≡ Journal → OnOk result (self.new.gate ≡ None) }
+        ensures entered { OnOk result (self.new.is_entered ≡ true) }
     {
         self.enter_to_change(files)?;
         // The journal and the new file are to be like Main.
@@ -208,7 +273,11 @@ impl<'a> Folder<'a> {
     ) -> Result<(), Failure<'a>>
         ensures looked { OnlyLooked C.tells C.system C.images C.moment C.since C.next files.old.calls files.new.calls }
         ensures journal { role ≡ Journal → IsTrue (is_some self.old.main.identity) → OnOk result (IsTrue C.tells → IsGuarded (looks_at C.system C.found files.new.calls) self.new) }
-        ensures mark { self.new.mark ≡ self.old.mark }
+        ensures notes { KeptNotes self.old self.new }
+        ensures left { role ≡ Journal → IsTrue (is_some self.old.main.identity) → OnOk result (IsTrue C.tells → is_on_log self.new.purpose ≡ false → IsAsLeft (looks_at C.system C.found files.new.calls) self.new.journal self.old.gate) }
+        ensures gate { (self.new.gate ≡ self.old.gate) ⊎ ((role ≡ Journal) × (self.new.gate ≡ None)) }
+        ensures known { self.new.journal.known ≡ self.old.journal.known }
+        ensures begun { role ≡ Journal → OnOk result (self.new.gate ≡ None) }
     {
         match role {
             Role::Main => self.main.unbarred(),
@@ -228,7 +297,11 @@ impl<'a> Folder<'a> {
     ) -> Result<(), Failure<'a>>
         ensures looked { OnlyLooked C.tells C.system C.images C.moment C.since C.next files.old.calls files.new.calls }
         ensures guarded { IsTrue (is_some self.old.main.identity) → OnOk result (IsTrue C.tells → IsGuarded (looks_at C.system C.found files.new.calls) self.new) }
-        ensures mark { self.new.mark ≡ self.old.mark }
+        ensures notes { KeptNotes self.old self.new }
+        ensures left { IsTrue (is_some self.old.main.identity) → OnOk result (IsTrue C.tells → is_on_log self.new.purpose ≡ false → IsAsLeft (looks_at C.system C.found files.new.calls) self.new.journal self.old.gate) }
+        ensures gate { (self.new.gate ≡ self.old.gate) ⊎ (self.new.gate ≡ None) }
+        ensures known { self.new.journal.known ≡ self.old.journal.known }
+        ensures begun { OnOk result (self.new.gate ≡ None) }
     {
         self.guard(&files.calls, true)?;
         self.main.attend_to_write_where(files, has_model)?;
@@ -244,7 +317,10 @@ impl<'a> Folder<'a> {
     ) -> Result<(), Failure<'a>>
         ensures looked { OnlyLooked C.tells C.system C.images C.moment C.since C.next files.old.calls files.new.calls }
         ensures journal { role ≡ Journal → IsTrue (is_some self.old.main.identity) → OnOk result (IsTrue C.tells → IsGuarded (looks_at C.system C.found files.new.calls) self.new) }
-        ensures mark { self.old.is_entered ≡ true → self.new.mark ≡ self.old.mark }
+        ensures notes { self.old.is_entered ≡ true → KeptNotes self.old self.new }
+        ensures gate { self.new.gate ≡ self.old.gate }
+        ensures known { self.new.journal.known ≡ self.old.journal.known }
+        ensures entered { OnOk result (self.new.is_entered ≡ true) }
     {
         self.enter_to_change(files)?;
         let outcome = self.attend_to_remove(files, role);
@@ -258,7 +334,9 @@ impl<'a> Folder<'a> {
     ) -> Result<(), Failure<'a>>
         ensures looked { OnlyLooked C.tells C.system C.images C.moment C.since C.next files.old.calls files.new.calls }
         ensures journal { role ≡ Journal → IsTrue (is_some self.old.main.identity) → OnOk result (IsTrue C.tells → IsGuarded (looks_at C.system C.found files.new.calls) self.new) }
-        ensures mark { self.new.mark ≡ self.old.mark }
+        ensures notes { KeptNotes self.old self.new }
+        ensures gate { self.new.gate ≡ self.old.gate }
+        ensures known { self.new.journal.known ≡ self.old.journal.known }
     {
         match role {
             Role::Main => self.main.unbarred(),
@@ -271,7 +349,9 @@ impl<'a> Folder<'a> {
     fn attend_to_drop<C: Calls>(&mut self, files: &mut OpenFiles<C>) -> Result<(), Failure<'a>>
         ensures looked { OnlyLooked C.tells C.system C.images C.moment C.since C.next files.old.calls files.new.calls }
         ensures guarded { IsTrue (is_some self.old.main.identity) → OnOk result (IsTrue C.tells → IsGuarded (looks_at C.system C.found files.new.calls) self.new) }
-        ensures mark { self.new.mark ≡ self.old.mark }
+        ensures notes { KeptNotes self.old self.new }
+        ensures gate { self.new.gate ≡ self.old.gate }
+        ensures known { self.new.journal.known ≡ self.old.journal.known }
     {
         self.guard(&files.calls, true)?;
         if self.purpose != Purpose::LayLog {
@@ -285,7 +365,9 @@ impl<'a> Folder<'a> {
     // Only what a stop has left of an earlier new file is removed, or its second name.
     fn attend_to_clear<C: Calls>(&mut self, files: &mut OpenFiles<C>) -> Result<(), Failure<'a>>
         ensures looked { OnlyLooked C.tells C.system C.images C.moment C.since C.next files.old.calls files.new.calls }
-        ensures mark { self.new.mark ≡ self.old.mark }
+        ensures notes { KeptNotes self.old self.new }
+        ensures gate { self.new.gate ≡ self.old.gate }
+        ensures known { self.new.journal.known ≡ self.old.journal.known }
     {
         let is_there = self.fresh.measure(files)?.is_some();
         let calls = &files.calls;
@@ -307,7 +389,8 @@ impl<'a> Folder<'a> {
         ensures main { OnOk result (IsTrue C.tells → IsTrue (is_some self.new.main.identity) → IsGuarded (looks_at C.system C.found files.new.calls) self.new) }
         ensures absent { OnOk result (IsTrue C.tells → self.new.main.identity ≡ None → (looks_at C.system C.found files.new.calls).at_name self.new.main.role ≡ None) }
         ensures no_journal { OnOk result (IsTrue C.tells → (looks_at C.system C.found files.new.calls).at_name self.new.journal.role ≡ None) }
-        ensures mark { self.old.is_entered ≡ true → self.new.mark ≡ self.old.mark }
+        ensures notes { self.old.is_entered ≡ true → SameNotes self.old self.new }
+        ensures entered { OnOk result (self.new.is_entered ≡ true) }
     {
         self.enter_to_change(files)?;
         let outcome = self.check_to_rename(&files.calls);
@@ -319,7 +402,7 @@ impl<'a> Folder<'a> {
         ensures main { OnOk result (IsTrue C.tells → IsTrue (is_some self.new.main.identity) → IsGuarded (looks_at C.system C.found calls.now) self.new) }
         ensures absent { OnOk result (IsTrue C.tells → self.new.main.identity ≡ None → (looks_at C.system C.found calls.now).at_name self.new.main.role ≡ None) }
         ensures no_journal { OnOk result (IsTrue C.tells → (looks_at C.system C.found calls.now).at_name self.new.journal.role ≡ None) }
-        ensures mark { self.new.mark ≡ self.old.mark }
+        ensures notes { SameNotes self.old self.new }
     {
         if !self.fresh.is_named(calls)? {
             return Err(Failure::of(self.fresh.path(), Conflict::Replaced));
@@ -351,6 +434,8 @@ impl<'a> Folder<'a> {
         ensures looked { OnlyLooked C.tells C.system C.images C.moment C.since C.next files.old.calls files.new.calls }
         ensures main { IsTrue (is_some self.old.main.identity) → self.new.main.identity ≡ self.old.main.identity }
         ensures journal { self.new.journal ≡ self.old.journal }
+        ensures gate { self.new.gate ≡ self.old.gate }
+        ensures entered { OnOk result (self.new.is_entered ≡ true) }
         ensures again { self.old.is_entered ≡ true → self.new ≡ self.old }
     {
         if let Some(failure) = self.stopped {
@@ -372,6 +457,7 @@ impl<'a> Folder<'a> {
     fn meet_main<C: Calls>(&mut self, calls: &C) -> Result<(), Failure<'a>>
         ensures main { self.new.main ≡ self.old.main }
         ensures journal { self.new.journal ≡ self.old.journal }
+        ensures gate { self.new.gate ≡ self.old.gate }
     {
         self.require_main(calls)?;
         self.take_lock_up()?;
@@ -388,6 +474,8 @@ impl<'a> Folder<'a> {
         ensures looked { OnlyLooked C.tells C.system C.images C.moment C.since C.next files.old.calls files.new.calls }
         ensures main { IsTrue (is_some self.old.main.identity) → self.new.main.identity ≡ self.old.main.identity }
         ensures journal { self.new.journal ≡ self.old.journal }
+        ensures gate { self.new.gate ≡ self.old.gate }
+        ensures entered { OnOk result (self.new.is_entered ≡ true) }
         ensures again { self.old.is_entered ≡ true → self.new ≡ self.old }
     {
         self.enter(files)?;

@@ -1,7 +1,9 @@
 // The files behind a run: what a stop has left is taken back, and what stands there is looked at. It is no part of the disk that a run is
 // proved over.
-ghost use Rattle.std.specs.Prelude.{◌≡◌, false, IsTrue};
+ghost use Rattle.std.specs.Prelude.{◌≡◌, min, false, true, IsTrue};
 ghost use Rattle.edge_files.specs.Pair.{KeepsPair, TakesBack};
+ghost use Rattle.edge_files.specs.Parts.{main_bytes};
+ghost use Rattle.edge_files.specs.PutBack.{AllTakenBack, MayBeTakenBack, OnlyWithin, places_for};
 
 use crate::folder::Folder;
 use crate::host_calls::HostCalls;
@@ -52,6 +54,8 @@ impl<'a> Folder<'a> {
         ensures kept { self.old.is_met ≡ false → IsTrue C.tells → KeepsPair C.system C.images C.moment C.since calls.old calls.new }
         ensures others_new { self.old.is_met ≡ false → self.old.fresh.is_made ≡ false → calls.new ≡ calls.old }
         ensures taken { IsTrue C.tells → TakesBack (C.system calls.old) (C.system calls.new) }
+        ensures back { self.old.is_met ≡ true → IsTrue C.tells → AllTakenBack MayBeTakenBack self.old.undo (min self.old.undo.count (places_for self.old.undo.size)) (main_bytes (C.system calls.old)) (main_bytes (C.system calls.new)) }
+        ensures within { IsTrue C.tells → OnlyWithin self.old.undo.writes.items (main_bytes (C.system calls.old)) (main_bytes (C.system calls.new)) }
     {
         self.put_back(calls);
         self.drop_fresh(calls);
@@ -61,11 +65,13 @@ impl<'a> Folder<'a> {
     fn put_back<C: Calls>(&mut self, calls: &mut C)
         ensures unmet { self.old.is_met ≡ false → (calls.new ≡ calls.old) × (self.new ≡ self.old) }
         ensures taken { IsTrue C.tells → TakesBack (C.system calls.old) (C.system calls.new) }
+        ensures back { self.old.is_met ≡ true → IsTrue C.tells → AllTakenBack MayBeTakenBack self.old.undo (min self.old.undo.count (places_for self.old.undo.size)) (main_bytes (C.system calls.old)) (main_bytes (C.system calls.new)) }
+        ensures within { IsTrue C.tells → OnlyWithin self.old.undo.writes.items (main_bytes (C.system calls.old)) (main_bytes (C.system calls.new)) }
     {
         if !self.is_met {
             return;
         }
-        self.undo.put_back(calls, &self.main);
+        let _ = self.undo.put_back(calls);
         self.undo.clear();
         self.drop_orphan(calls);
     }
@@ -74,6 +80,7 @@ impl<'a> Folder<'a> {
     fn drop_orphan<C: Calls>(&mut self, calls: &mut C)
         ensures others { self.old.journal.is_made ≡ false → calls.new ≡ calls.old }
         ensures taken { IsTrue C.tells → TakesBack (C.system calls.old) (C.system calls.new) }
+        ensures bytes { IsTrue C.tells → main_bytes (C.system calls.new) ≡ main_bytes (C.system calls.old) }
     {
         if !self.journal.is_made() || !self.journal.is_named(calls).unwrap_or(false) {
             return;
@@ -91,6 +98,7 @@ impl<'a> Folder<'a> {
         ensures kept { IsTrue C.tells → KeepsPair C.system C.images C.moment C.since calls.old calls.new }
         ensures others_new { self.old.fresh.is_made ≡ false → calls.new ≡ calls.old }
         ensures taken { IsTrue C.tells → TakesBack (C.system calls.old) (C.system calls.new) }
+        ensures bytes { IsTrue C.tells → main_bytes (C.system calls.new) ≡ main_bytes (C.system calls.old) }
     {
         if !self.fresh.is_made() {
             return;

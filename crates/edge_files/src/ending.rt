@@ -22,10 +22,12 @@ impl<'a> Folder<'a> {
         role: Role,
         outcome: Result<Option<u64>, Failed>,
     ) -> Result<Option<u64>, Failure<'a>>
-        ensures { IsEndOf outcome result }
+        ensures end { IsEndOf outcome result }
+        ensures entered { self.new.is_entered ≡ self.old.is_entered }
+        ensures mark { self.new.mark ≡ self.old.mark }
     {
         let length = of_failed(self.file(role).path(), &files.last, outcome)?;
-        self.file_mut(role).note_length(length);
+        self.note_length(role, length);
         if role == Role::Journal {
             self.require_log(&files.calls)?;
         }
@@ -43,6 +45,8 @@ impl<'a> Folder<'a> {
         ensures end { IsEndOf outcome result }
         ensures unwritten { role ≡ Main → OnOk result (IsTrue C.tells → mark_at (looks_at C.system C.found files.now.calls) self.new.main ≡ self.new.mark) }
         ensures whole { IfOk result (λ count. IsWhole (of_role role self.old.main.known self.old.journal.known self.old.fresh.known) at (length buf.now) count) }
+        ensures entered { self.new.is_entered ≡ self.old.is_entered }
+        ensures mark { self.new.mark ≡ self.old.mark }
     {
         let count = of_failed(self.file(role).path(), &files.last, outcome)?;
         self.file(role).require_whole(at, buf.len(), count)?;
@@ -72,10 +76,12 @@ impl<'a> Folder<'a> {
     ) -> Result<(), Failure<'a>>
         ensures end { IsEndOf outcome result }
         ensures noted { role ≡ Main → OnOk result (IsTrue C.tells → self.new.mark ≡ mark_at (looks_at C.system C.found files.now.calls) self.new.main) }
+        ensures entered { self.new.is_entered ≡ self.old.is_entered }
+        ensures others { (role ≡ Main → ⊥) → self.new.mark ≡ self.old.mark }
     {
         let done = of_failed(self.file(role).path(), &files.last, outcome);
         self.changed(done)?;
-        self.file_mut(role).note_written(at, bytes.len());
+        self.note_written(role, at, bytes.len());
         let looked = self.note_write(&files.calls, role, at, bytes);
         self.changed(looked)
     }
@@ -88,6 +94,8 @@ impl<'a> Folder<'a> {
         bytes: &[u8],
     ) -> Result<(), Failure<'a>>
         ensures noted { role ≡ Main → OnOk result (IsTrue C.tells → self.new.mark ≡ mark_at (looks_at C.system C.found calls.now) self.new.main) }
+        ensures entered { self.new.is_entered ≡ self.old.is_entered }
+        ensures others { (role ≡ Main → ⊥) → self.new.mark ≡ self.old.mark }
     {
         match role {
             Role::Main => self.note_page(calls, at, bytes),
@@ -101,6 +109,7 @@ impl<'a> Folder<'a> {
 
     fn note_page<C: Calls>(&mut self, calls: &C, at: u64, bytes: &[u8]) -> Result<(), Failure<'a>>
         ensures noted { OnOk result (IsTrue C.tells → self.new.mark ≡ mark_at (looks_at C.system C.found calls.now) self.new.main) }
+        ensures entered { self.new.is_entered ≡ self.old.is_entered }
     {
         if self.lays() {
             self.count_laid();
@@ -113,7 +122,9 @@ impl<'a> Folder<'a> {
         outcome
     }
 
-    fn count_laid(&mut self) {
+    fn count_laid(&mut self)
+        ensures entered { self.new.is_entered ≡ self.old.is_entered }
+    {
         if self.purpose == Purpose::LayLog {
             self.deeds.frames = self.deeds.frames.saturating_add(1);
         } else if self.journal.is_open() && !self.journal.is_made() {
@@ -121,7 +132,10 @@ impl<'a> Folder<'a> {
         }
     }
 
-    fn note_record(&mut self, at: u64, bytes: &[u8]) {
+    fn note_record(&mut self, at: u64, bytes: &[u8])
+        ensures entered { self.new.is_entered ≡ self.old.is_entered }
+        ensures mark { self.new.mark ≡ self.old.mark }
+    {
         self.is_laying = false;
         if at == 0 {
             self.gate = bytes.first().copied();
@@ -140,16 +154,20 @@ impl<'a> Folder<'a> {
     ) -> Result<(), Failure<'a>>
         ensures end { IsEndOf outcome result }
         ensures noted { role ≡ Main → OnOk result (IsTrue C.tells → self.new.mark ≡ mark_at (looks_at C.system C.found files.now.calls) self.new.main) }
+        ensures entered { self.new.is_entered ≡ self.old.is_entered }
+        ensures others { (role ≡ Main → ⊥) → self.new.mark ≡ self.old.mark }
     {
         let done = of_failed(self.file(role).path(), &files.last, outcome);
         self.changed(done)?;
-        self.file_mut(role).note_cut(len);
+        self.note_cut(role, len);
         let looked = self.note_mark(&files.calls, role);
         self.changed(looked)
     }
 
     fn note_mark<C: Calls>(&mut self, calls: &C, role: Role) -> Result<(), Failure<'a>>
         ensures noted { role ≡ Main → OnOk result (IsTrue C.tells → self.new.mark ≡ mark_at (looks_at C.system C.found calls.now) self.new.main) }
+        ensures entered { self.new.is_entered ≡ self.old.is_entered }
+        ensures others { (role ≡ Main → ⊥) → self.new.mark ≡ self.old.mark }
     {
         match role {
             Role::Main => self.note_main(calls),
@@ -165,6 +183,8 @@ impl<'a> Folder<'a> {
     ) -> Result<(), Failure<'a>>
         ensures end { IsEndOf outcome result }
         ensures noted { role ≡ Main → (self.old.purpose ≡ ReadLog → ⊥) → OnOk result (IsTrue C.tells → self.new.mark ≡ mark_at (looks_at C.system C.found files.now.calls) self.new.main) }
+        ensures entered { self.new.is_entered ≡ self.old.is_entered }
+        ensures others { (role ≡ Main → ⊥) → self.new.mark ≡ self.old.mark }
     {
         let done = of_failed(self.file(role).path(), &files.last, outcome);
         self.changed(done)?;
@@ -178,6 +198,7 @@ impl<'a> Folder<'a> {
     // Main is synced, and as this run has written it.
     fn require_rest<C: Calls>(&mut self, calls: &C) -> Result<(), Failure<'a>>
         ensures noted { OnOk result (IsTrue C.tells → self.new.mark ≡ mark_at (looks_at C.system C.found calls.now) self.new.main) }
+        ensures entered { self.new.is_entered ≡ self.old.is_entered }
     {
         let outcome = self.require_mark(calls);
         self.meet(&outcome);
@@ -193,10 +214,12 @@ impl<'a> Folder<'a> {
     ) -> Result<(), Failure<'a>>
         ensures end { IsEndOf outcome result }
         ensures noted { role ≡ Main → OnOk result (IsTrue C.tells → self.new.mark ≡ mark_at (looks_at C.system C.found files.now.calls) self.new.main) }
+        ensures entered { self.new.is_entered ≡ self.old.is_entered }
+        ensures others { (role ≡ Main → ⊥) → self.new.mark ≡ self.old.mark }
     {
         let done = of_failed(self.file(role).path(), &files.last, outcome);
         self.changed(done)?;
-        let kept = self.file_mut(role).note_created(&files.calls);
+        let kept = self.note_created(&files.calls, role);
         self.changed(kept)?;
         let looked = self.note_mark(&files.calls, role);
         self.changed(looked)
@@ -208,12 +231,14 @@ impl<'a> Folder<'a> {
         role: Role,
         outcome: Result<(), Failed>,
     ) -> Result<(), Failure<'a>>
-        ensures { IsEndOf outcome result }
+        ensures end { IsEndOf outcome result }
+        ensures entered { self.new.is_entered ≡ self.old.is_entered }
+        ensures others { (role ≡ Main → ⊥) → self.new.mark ≡ self.old.mark }
     {
         let done = of_failed(self.file(role).path(), &files.last, outcome);
         self.changed(done)?;
         let was_found = !self.file(role).is_made();
-        self.file_mut(role).note_removed();
+        self.note_removed(role);
         match role {
             Role::Main => self.mark = None,
             Role::Journal => self.note_dropped(was_found),
@@ -222,7 +247,10 @@ impl<'a> Folder<'a> {
         Ok(())
     }
 
-    fn note_dropped(&mut self, was_found: bool) {
+    fn note_dropped(&mut self, was_found: bool)
+        ensures entered { self.new.is_entered ≡ self.old.is_entered }
+        ensures mark { self.new.mark ≡ self.old.mark }
+    {
         if self.purpose == Purpose::LayLog {
             self.seen = Some(SeenLog::none());
             self.deeds.has_dropped_log = true;
@@ -241,6 +269,7 @@ impl<'a> Folder<'a> {
     ) -> Result<(), Failure<'a>>
         ensures end { IsEndOf outcome result }
         ensures noted { OnOk result (IsTrue C.tells → self.new.mark ≡ mark_at (looks_at C.system C.found files.now.calls) self.new.main) }
+        ensures entered { self.new.is_entered ≡ self.old.is_entered }
     {
         if outcome.is_err() && has_appeared(&files.last) {
             return Err(Failure::of(self.main.path(), Conflict::Appeared));
@@ -257,10 +286,69 @@ impl<'a> Folder<'a> {
         files: &OpenFiles<C>,
         outcome: Result<(), Failed>,
     ) -> Result<(), Failure<'a>>
-        ensures { IsEndOf outcome result }
+        ensures end { IsEndOf outcome result }
+        ensures entered { self.new.is_entered ≡ self.old.is_entered }
+        ensures mark { self.new.mark ≡ self.old.mark }
     {
         let done = of_failed(self.path, &files.last, outcome);
         self.changed(done)
+    }
+
+    // ---- what was done to the file of a role
+
+    fn note_length(&mut self, role: Role, length: Option<u64>)
+        ensures entered { self.new.is_entered ≡ self.old.is_entered }
+        ensures mark { self.new.mark ≡ self.old.mark }
+    {
+        match role {
+            Role::Main => self.main.note_length(length),
+            Role::Journal => self.journal.note_length(length),
+            Role::Fresh => self.fresh.note_length(length),
+        }
+    }
+
+    fn note_written(&mut self, role: Role, at: u64, count: usize)
+        ensures entered { self.new.is_entered ≡ self.old.is_entered }
+        ensures mark { self.new.mark ≡ self.old.mark }
+    {
+        match role {
+            Role::Main => self.main.note_written(at, count),
+            Role::Journal => self.journal.note_written(at, count),
+            Role::Fresh => self.fresh.note_written(at, count),
+        }
+    }
+
+    fn note_cut(&mut self, role: Role, len: u64)
+        ensures entered { self.new.is_entered ≡ self.old.is_entered }
+        ensures mark { self.new.mark ≡ self.old.mark }
+    {
+        match role {
+            Role::Main => self.main.note_cut(len),
+            Role::Journal => self.journal.note_cut(len),
+            Role::Fresh => self.fresh.note_cut(len),
+        }
+    }
+
+    fn note_created<C: Calls>(&mut self, calls: &C, role: Role) -> Result<(), Failure<'a>>
+        ensures entered { self.new.is_entered ≡ self.old.is_entered }
+        ensures mark { self.new.mark ≡ self.old.mark }
+    {
+        match role {
+            Role::Main => self.main.note_created(calls),
+            Role::Journal => self.journal.note_created(calls),
+            Role::Fresh => self.fresh.note_created(calls),
+        }
+    }
+
+    fn note_removed(&mut self, role: Role)
+        ensures entered { self.new.is_entered ≡ self.old.is_entered }
+        ensures mark { self.new.mark ≡ self.old.mark }
+    {
+        match role {
+            Role::Main => self.main.note_removed(),
+            Role::Journal => self.journal.note_removed(),
+            Role::Fresh => self.fresh.note_removed(),
+        }
     }
 }
 

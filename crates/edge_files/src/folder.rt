@@ -14,6 +14,7 @@
 // length, its time and its header are looked at.
 ghost use Rattle.std.specs.Prelude.{◌≡◌};
 ghost use Rattle.edge_files.specs.Known.{of_role};
+ghost use Rattle.edge_model.specs.declared.role.Role.TheVariants.{Fresh, Journal, Main};
 
 use crate::beside::SeenLog;
 use crate::deeds::Deeds;
@@ -75,6 +76,7 @@ pub struct Folder<'a> {
     pub deeds: Deeds,
     /// Whether the new file is to hold in the clear what Main holds encrypted, and this was not said yet.
     pub is_decrypting: bool,
+    ghost roles: { (main.role ≡ Main) × (journal.role ≡ Journal) × (fresh.role ≡ Fresh) },
 }
 
 impl<'a> Folder<'a> {
@@ -150,14 +152,6 @@ impl<'a> Folder<'a> {
         }
     }
 
-    pub(crate) fn file_mut(&mut self, role: Role) -> &mut RoleFile<'a> {
-        match role {
-            Role::Main => &mut self.main,
-            Role::Journal => &mut self.journal,
-            Role::Fresh => &mut self.fresh,
-        }
-    }
-
     /// Whether Main was there, and SQLite's lock on it was not held, so that others who go by it could only be looked for.
     pub fn is_unguarded(&self) -> bool {
         self.is_unguarded
@@ -223,7 +217,9 @@ fn journal_of<'a>(
     rollback: &'a str,
     log: &'a str,
     barred: Option<Failure<'a>>,
-) -> RoleFile<'a> {
+) -> RoleFile<'a>
+    ensures role { result.role ≡ Journal }
+{
     if purpose.is_on_log() {
         RoleFile::new(Role::Journal, log, barred, false, true)
     } else {

@@ -257,6 +257,8 @@ impl<'a> Folder<'a> {
     pub(crate) fn rest<C: Calls>(&mut self, calls: &C) -> Result<(), Failure<'a>>
         ensures main { self.new.main ≡ self.old.main }
         ensures journal { self.new.journal ≡ self.old.journal }
+        ensures gate { self.new.gate ≡ self.old.gate }
+        ensures entered { self.new.is_entered ≡ self.old.is_entered }
         ensures noted { OnOk result (IsTrue C.tells → self.new.mark ≡ mark_at (looks_at C.system C.found calls.now) self.new.main) }
     {
         self.note_main(calls)?;
@@ -267,6 +269,8 @@ impl<'a> Folder<'a> {
     pub(crate) fn note_main<C: Calls>(&mut self, calls: &C) -> Result<(), Failure<'a>>
         ensures main { self.new.main ≡ self.old.main }
         ensures journal { self.new.journal ≡ self.old.journal }
+        ensures gate { self.new.gate ≡ self.old.gate }
+        ensures entered { self.new.is_entered ≡ self.old.is_entered }
         ensures noted { OnOk result (IsTrue C.tells → self.new.mark ≡ mark_at (looks_at C.system C.found calls.now) self.new.main) }
     {
         self.mark = self.main.mark(calls)?;

@@ -48,7 +48,9 @@ impl<'a> RoleFile<'a> {
         barred: Option<Failure<'a>>,
         is_locked: bool,
         is_only_read: bool,
-    ) -> RoleFile<'a> {
+    ) -> RoleFile<'a>
+        ensures role { result.role ≡ role }
+    {
         RoleFile {
             role,
             path,
@@ -99,6 +101,7 @@ impl<'a> RoleFile<'a> {
 
     /// This run has the other file locked, and the path may be a second name of it.
     pub fn set_twin(&mut self, other: Option<Identity>)
+        ensures role { self.new.role ≡ self.old.role }
         ensures known { self.new.known ≡ self.old.known }
     {
         self.twin = other;
@@ -241,6 +244,7 @@ impl<'a> RoleFile<'a> {
         ensures open { OnOk result (IsTrue (is_some self.new.identity)) }
         ensures which { self.old.identity ≡ None → OnOk result (IsTrue C.tells → self.new.identity ≡ option_map (λ what. what.identity) ((looks_at C.system C.found files.new.calls).at_place self.new.role)) }
         ensures again { IsTrue (is_some self.old.identity) → (files.new ≡ files.old) × (self.new ≡ self.old) }
+        ensures role { self.new.role ≡ self.old.role }
         ensures known { self.new.known ≡ self.old.known }
         ensures looked { OnlyLooked C.tells C.system C.images C.moment C.since C.next files.old.calls files.new.calls }
     {
@@ -257,6 +261,7 @@ impl<'a> RoleFile<'a> {
     /// Opens it so that a later write doesn't fail for want of a permission.
     pub fn attend_to_write<C: Calls>(&mut self, files: &mut OpenFiles<C>) -> Result<(), Failure<'a>>
         ensures again { IsTrue (is_some self.old.identity) → (files.new ≡ files.old) × (self.new ≡ self.old) }
+        ensures role { self.new.role ≡ self.old.role }
         ensures known { self.new.known ≡ self.old.known }
         ensures looked { OnlyLooked C.tells C.system C.images C.moment C.since C.next files.old.calls files.new.calls }
     {
@@ -274,6 +279,7 @@ impl<'a> RoleFile<'a> {
         is_so: bool,
     ) -> Result<(), Failure<'a>>
         ensures again { IsTrue (is_some self.old.identity) → (files.new ≡ files.old) × (self.new ≡ self.old) }
+        ensures role { self.new.role ≡ self.old.role }
         ensures known { self.new.known ≡ self.old.known }
         ensures looked { OnlyLooked C.tells C.system C.images C.moment C.since C.next files.old.calls files.new.calls }
     {
@@ -287,6 +293,7 @@ impl<'a> RoleFile<'a> {
     /// Opens it where it is there. Where nothing has the path, that is what is known.
     pub fn attend_if_there<C: Calls>(&mut self, files: &mut OpenFiles<C>) -> Result<(), Failure<'a>>
         ensures again { IsTrue (is_some self.old.identity) → (files.new ≡ files.old) × (self.new ≡ self.old) }
+        ensures role { self.new.role ≡ self.old.role }
         ensures known { OnOk result (IsTrue (is_some self.new.identity) ⊎ (self.new.known ≡ None)) }
         ensures looked { OnlyLooked C.tells C.system C.images C.moment C.since C.next files.old.calls files.new.calls }
     {
@@ -302,6 +309,7 @@ impl<'a> RoleFile<'a> {
         &mut self,
         files: &mut OpenFiles<C>,
     ) -> Result<Option<u64>, Failure<'a>>
+        ensures role { self.new.role ≡ self.old.role }
         ensures length { IfOk result (λ length. length ≡ self.new.known) }
         ensures open { IsTrue (is_some self.old.identity) → self.new.identity ≡ self.old.identity }
         ensures looked { OnlyLooked C.tells C.system C.images C.moment C.since C.next files.old.calls files.new.calls }
@@ -319,6 +327,7 @@ impl<'a> RoleFile<'a> {
     fn keep<C: Calls>(&mut self, calls: &C) -> Result<(), Failure<'a>>
         ensures open { OnOk result (IsTrue (is_some self.new.identity)) }
         ensures which { OnOk result (IsTrue C.tells → self.new.identity ≡ option_map (λ what. what.identity) ((looks_at C.system C.found calls.now).at_place self.new.role)) }
+        ensures role { self.new.role ≡ self.old.role }
         ensures known { self.new.known ≡ self.old.known }
     {
         let found = of_file(self.path, calls.look_open(self.role))?;
@@ -352,6 +361,7 @@ impl<'a> RoleFile<'a> {
 
     /// The length was answered.
     pub fn note_length(&mut self, length: Option<u64>)
+        ensures role { self.new.role ≡ self.old.role }
         ensures known { self.new.known ≡ length }
     {
         self.known = length;
@@ -359,6 +369,7 @@ impl<'a> RoleFile<'a> {
 
     /// So many bytes were written.
     pub fn note_written(&mut self, at: u64, count: usize)
+        ensures role { self.new.role ≡ self.old.role }
         ensures none { count ≡ 0 → self.new.known ≡ self.old.known }
         ensures known { 0 < count → self.new.known ≡ Some (max (unwrap_or self.old.known 0) (end_of at count)) }
     {
@@ -370,6 +381,7 @@ impl<'a> RoleFile<'a> {
 
     /// It was cut to this length where it was longer.
     pub fn note_cut(&mut self, len: u64)
+        ensures role { self.new.role ≡ self.old.role }
         ensures known { self.new.known ≡ option_map (λ known. min known len) self.old.known }
     {
         if let Some(known) = self.known {
@@ -379,6 +391,7 @@ impl<'a> RoleFile<'a> {
 
     /// It was created by this run, and is open.
     pub fn note_created<C: Calls>(&mut self, calls: &C) -> Result<(), Failure<'a>>
+        ensures role { self.new.role ≡ self.old.role }
         ensures known { OnOk result (self.new.known ≡ Some 0) }
         ensures which { OnOk result (IsTrue C.tells → self.new.identity ≡ option_map (λ what. what.identity) ((looks_at C.system C.found calls.now).at_place self.new.role)) }
     {
@@ -391,6 +404,7 @@ impl<'a> RoleFile<'a> {
 
     /// It was removed, and nothing is open.
     pub fn note_removed(&mut self)
+        ensures role { self.new.role ≡ self.old.role }
         ensures known { self.new.known ≡ None }
     {
         self.identity = None;
@@ -401,6 +415,8 @@ impl<'a> RoleFile<'a> {
 
     /// What was open of this file is the other's from now on.
     pub fn note_renamed(&mut self, other: &mut RoleFile<'a>)
+        ensures role { self.new.role ≡ self.old.role }
+        ensures other_role { other.new.role ≡ other.old.role }
         ensures moved { other.new.known ≡ self.old.known }
         ensures known { self.new.known ≡ None }
     {

@@ -8,4 +8,4 @@ returns-clause-main g c =
     on_ok_of c.unbarred.result
     (λ tells there.
     guarded_then (looks_at g.C.Calls.system g.C.Calls.found c.args.calls.now) c.require_main_to_rename.new.self _ (c.in_ok-require_main_to_rename.ensures.main tells there)
-    (attended c.require_main_to_rename.new.self _ refl refl refl refl refl refl refl))
+    (attended c.require_main_to_rename.new.self _ refl refl refl refl refl refl refl refl))
