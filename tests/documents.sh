@@ -1,7 +1,8 @@
 #!/usr/bin/env bash
 # Every name that the documents give in backquotes is there: each file and folder, each clause at a function of its name, each function,
 # law and definition as a word of the sources, and each crate in the map and the tables; each command of the help wherever commands are
-# listed; and each line that an edit quotes stands in its file once. It proves nothing and runs no program.
+# listed; and each line that an edit quotes stands in its file once. Each law in proofs/ is named by a proof, a function or a document. It
+# proves nothing and runs no program.
 #
 #     tests/documents.sh
 #
@@ -233,8 +234,32 @@ for path in sorted(glob.glob("crates/*/must-fail/*") + glob.glob("crates/*/edits
     if named not in crates or not path.endswith(".edit") or os.path.isdir(f"crates/{named}/must-fail") and os.path.isdir(f"crates/{named}/edits"):
         wrong.append(f"{path}: an edit is a file NAME.edit in must-fail/ or edits/ of a crate, which has one of them")
 
-for line in wrong:
+
+def laws(path):
+    """The laws of a file of proofs: a name with its statement, and below it what it is."""
+    lines = read(path).split("\n")
+    for at, line in enumerate(lines):
+        head = re.match(r"(?:  )?(?:abbrev |opaque )?(?:pub )?([a-z][^\s:(){}]*) :(?: |$)", line)
+        if head and any(re.match(rf"(?:  )?{re.escape(head.group(1))}(?=[\s{{]).*=", later) for later in lines[at + 1 : at + 30]):
+            yield head.group(1)
+
+
+# A worked example is there to be read. What answers the prover's own questions has the names that it asks for.
+ANSWERS = ("Answers.antt", "Invariants.antt", "Proof.antt", "Uses.antt")
+proofs = [path for path in glob.glob("crates/*/proofs/**/*.antt", recursive=True) if not path.endswith(ANSWERS)]
+sources = glob.glob("crates/*/*/**/*.antt", recursive=True) + glob.glob("crates/*/src/**/*.rt", recursive=True) + DOCUMENTS
+named = collections.Counter(word for path in sources for word in re.findall(r"[^\s(){},;\[\]λ.`:\"]+", re.sub(r"--.*", "", read(path))))
+lawful, idle = 0, []
+for path in proofs:
+    for law in laws(path):
+        lawful += 1
+        if named[law] <= 2 and not path.endswith(("Examples.antt", "Vectors.antt")):
+            idle.append(f"{path}: nothing names {law}")
+
+for line in wrong + idle:
     print("documents: " + line)
+print(f"documents: {lawful} laws, {len(idle)} that nothing names")
 print(f"documents: {looked} names, {len(wrong)} that are not there")
+wrong += idle
 sys.exit(1 if wrong else 0)
 PYTHON

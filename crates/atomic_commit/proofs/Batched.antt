@@ -31,13 +31,6 @@ pub marked_some : (n : ℕ) (marks : List Bool) → 1 ≤ n → n ≤ length mar
 marked_some n marks one le is =
     omega (arith, get_or-le-sum_by (λ (b : Bool). if b then 1 else 0) marks (n - 1) false (omega (arith, one, le)), ap {B = ℕ} (λ (b : Bool). if b then 1 else 0) is)
 
--- where no page is marked, none has a record
-pub recorded_unmarked : (marks : List Bool) (records : List Record) → marked_count marks ≡ 0 → records ≡ [] → AreRecorded marks records
-recorded_unmarked marks records none is = subst (λ (rs : List Record). AreRecorded marks rs) (sym is) (record {
-  have_one = λ n one le marked. absurd (omega (arith, none, marked_some n marks one le marked));
-  have_none = λ n one le unmarked. tt;
-})
-
 mark_there : (m n : ℕ) (marks : List Bool) → 1 ≤ m → 1 ≤ n → n ≢ m → is_marked n (with_mark m marks) ≡ is_marked n marks
 mark_there m n marks one_m one_n other =
     get_or-set_other marks (m - 1) (n - 1) true false (λ same. other (let e : n ≡ m = omega (arith, same, one_m, one_n) in e))
@@ -45,18 +38,6 @@ mark_there m n marks one_m one_n other =
 -- before the first page
 pub marked_none : (numbers : List ℕ) (marks : List Bool) → HasMarked numbers 0 marks marks
 marked_none numbers marks = record { as_many = refl; marked = λ k lt. absurd (omega (arith, lt)); others = λ n one none. refl }
-
--- the next page is marked already
-pub marked_still : (numbers : List ℕ) (k n : ℕ) (old new : List Bool) → n ≡ slice_index numbers k → is_marked n new ≡ true → HasMarked numbers k old new → HasMarked numbers (k + 1) old new
-marked_still numbers k n old new number is has = record {
-  as_many = has.as_many;
-  marked = λ j lt. go j lt (order j k);
-  others = λ m one none. has.others m one (λ j lt. none j (omega (arith, lt)));
-}
-  where
-    go : (j : ℕ) → j < k + 1 → (j < k) ⊎ (k ≤ j) → is_marked (slice_index numbers j) new ≡ true
-    go j lt (inl small) = has.marked j small
-    go j lt (inr le) = subst (λ (i : ℕ). is_marked (slice_index numbers i) new ≡ true) (let e : k ≡ j = omega (arith, lt, le) in e) (subst (λ (p : ℕ). is_marked p new ≡ true) number is)
 
 -- the next page is marked now
 pub marked_next : (numbers : List ℕ) (k n : ℕ) (old new after : List Bool) → AreChanges (length new) numbers → k < length numbers → n ≡ slice_index numbers k → after ≡ with_mark n new → HasMarked numbers k old new → HasMarked numbers (k + 1) old after
@@ -77,10 +58,6 @@ marked_next numbers k n old new after changes lt number is has = subst (λ (l : 
         mark_there n (slice_index numbers j) new one_n (changes.in_range j (omega (arith, small, lt))).0 (λ same. changes.apart j k small lt (same ∙ number)) ∙ has.marked j small
     go j below (inr le) = subst (λ (i : ℕ). is_marked (slice_index numbers i) (with_mark n new) ≡ true) (let e : k ≡ j = omega (arith, below, le) in e) (subst (λ (p : ℕ). is_marked p (with_mark n new) ≡ true) number here)
 
--- each was marked before
-pub marked_before : (numbers : List ℕ) (marks : List Bool) → AreMarked numbers marks → HasMarked numbers (length numbers) marks marks
-marked_before numbers marks are = record { as_many = refl; marked = are; others = λ n one none. refl }
-
 -- a batch with a page leaves marks
 pub batch_some : (numbers : List ℕ) (old new : List Bool) → AreChanges (length old) numbers → 0 < length numbers → HasMarked numbers (length numbers) old new → 0 < marked_count new
 batch_some numbers old new changes some has =
@@ -91,10 +68,6 @@ batch_some numbers old new changes some has =
 pub unmarked_none : (numbers : List ℕ) (old new : List Bool) → AreChanges (length old) numbers → HasMarked numbers (length numbers) old new → marked_count new ≡ 0 → numbers ≡ []
 unmarked_none [] old new changes has none = refl
 unmarked_none (n ∷ rest) old new changes has none = absurd (omega (arith, none, batch_some (n ∷ rest) old new changes (omega arith) has))
-
--- a batch without pages leaves the marks
-pub batch_none : (numbers : List ℕ) (old new : List Bool) → HasMarked numbers 0 old new → (n : ℕ) → 1 ≤ n → is_marked n new ≡ is_marked n old
-batch_none numbers old new has n one = has.others n one (λ k lt. absurd (omega (arith, lt)))
 
 -- the pages of a batch have their records
 pub batch_recorded : (numbers : List ℕ) (old new : List Bool) (records : List Record) → AreChanges (length old) numbers → HasMarked numbers (length numbers) old new → AreRecorded new records → (k : ℕ) → k < length numbers → HasRecord (slice_index numbers k) records

@@ -1,21 +1,11 @@
 -- The writer of a journal meets what a transaction asks: its two lists of records, and what stands of its bytes.
-use Rattle.std.proofs.Common.{◌≡◌, ℕ, suc, zero, ◌+◌, List, [], ◌∷◌, ◌++◌, length, take, map, refl, sym, ◌∙◌, ap, subst, arith, length-append, append_assoc}
-use Rattle.std.proofs.lemmas.List.{append-nil}
-use Rattle.edge_model.specs.Files.{Files}
+use Rattle.std.proofs.Common.{◌≡◌, ℕ, suc, zero, ◌+◌, List, [], ◌∷◌, ◌++◌, length, map, refl, sym, ◌∙◌, ap, subst, arith, length-append, append_assoc}
 use Rattle.journal_format.specs.Records.{Record, Place, record_at}
-use Rattle.journal_format.specs.Segments.{places_of, played}
+use Rattle.journal_format.specs.Segments.{places_of}
 use Rattle.rollback_journal.specs.declared.stage.Stage.{Stage}
 use Rattle.rollback_journal.specs.declared.stage.Stage.TheVariants.{Filling, Opened}
-use Rattle.rollback_journal.specs.Writing.{Writing, IsLeft, IsLeftBeside, WriterStands, HasNoRecordOf, safe_at, waiting_at, safe_records, waiting_records, earlier_records, present_records, present_places, all_records, with_stage, with_record, with_segment}
-use Rattle.atomic_commit.specs.Journals.{AsLeft}
+use Rattle.rollback_journal.specs.Writing.{Writing, HasNoRecordOf, safe_at, waiting_at, safe_records, waiting_records, earlier_records, present_records, present_places, all_records, with_stage, with_record}
 use Rattle.atomic_commit.specs.Facts.{HasNone}
-
--- both forms of "the journal is as the last call left it"
-pub as_stands : (w : Writing) (now : Files) (images : Files → Type 0) → AsLeft (λ (n : Files). IsLeft w n.journal) (λ (n c : Files). IsLeftBeside w n.journal c.journal) now images → WriterStands w now images
-as_stands w now images left = record { read = left.0; beside = left.1 }
-
-pub as_left : (w : Writing) (now : Files) (images : Files → Type 0) → WriterStands w now images → AsLeft (λ (n : Files). IsLeft w n.journal) (λ (n c : Files). IsLeftBeside w n.journal c.journal) now images
-as_left w now images stands = (stands.read, stands.beside)
 
 -- no record of a page, as the writer says it
 pub none_all : (n : ℕ) (records : List Record) → HasNone n records → HasNoRecordOf n records
@@ -75,19 +65,4 @@ pub gate_opened : (w u : Writing) (old new : List ℕ) → w.stage ≡ Filling �
 gate_opened w u old new stage is all = (
   ap (λ (s : Writing). safe_records s new) is ∙ sym (ap (λ (s : Writing). all_records s new) is) ∙ all ∙ sym (both_all w old stage),
   ap (λ (s : Writing). waiting_records s new) is,
-)
-
--- a further segment: what was safe is so
-pub segment_begun : (w u : Writing) (old new : List ℕ) → w.stage ≡ Opened → u ≡ with_segment w → all_records u new ≡ all_records w old
-    → (safe_records u new ≡ safe_records w old) × (waiting_records u new ≡ [])
-segment_begun w u old new stage is all = (
-  ap (λ (s : Writing). safe_records s new) is ∙ sym (append-nil (earlier_records (with_segment w) new)) ∙ sym (ap (λ (s : Writing). all_records s new) is) ∙ all ∙ sym (ap (λ (s : Stage). safe_at s w old) stage),
-  ap (λ (s : Writing). waiting_records s new) is,
-)
-
--- a new journal has none
-pub created_none : (w u : Writing) (new : List ℕ) → u ≡ with_stage Filling w → w.at ≡ 0 → w.count ≡ 0 → (safe_records u new ≡ []) × (waiting_records u new ≡ [])
-created_none w u new is at count = (
-  ap (λ (s : Writing). safe_records s new) is ∙ ap (λ (n : ℕ). played w.page_size (take n new)) at,
-  ap (λ (s : Writing). waiting_records s new) is ∙ ap (λ (n : ℕ). map (record_at w.page_size new) (places_of n w.page_size w.nonce (w.at + 512))) count,
 )

@@ -1,6 +1,6 @@
 -- A page more has its record, and its mark.
-use Rattle.std.proofs.Common.{◌≡◌, ◌≢◌, ◌⊎◌, inl, inr, ℕ, ◌-◌, ◌≤◌, Bool, true, false, List, [], ◌∷◌, ◌++◌, length, set, replicate, sym, ◌∙◌, ap, subst, arith}
-use Rattle.std.proofs.lemmas.List.{length-set, length-replicate, get_or-replicate, get_or-set_same, get_or-set_other, set-get_or}
+use Rattle.std.proofs.Common.{◌≡◌, ◌≢◌, ◌⊎◌, inl, inr, ℕ, ◌-◌, ◌≤◌, Bool, true, false, List, [], ◌∷◌, ◌++◌, length, sym, ◌∙◌, subst, arith}
+use Rattle.std.proofs.lemmas.List.{length-set, get_or-set_same, get_or-set_other}
 use Rattle.journal_format.specs.Records.{Record}
 use Rattle.atomic_commit.specs.Facts.{HasNone, HasRecord}
 use Rattle.atomic_commit.specs.Marks.{is_marked, with_mark}
@@ -8,10 +8,6 @@ use Rattle.atomic_commit.specs.Recorded.{AreRecorded}
 use Rattle.atomic_commit.proofs.Changed.{has_last, has_more}
 use Rattle.atomic_commit.proofs.Kept.{none_one_more}
 use Rattle.atomic_commit.proofs.OwnDraws.{same_or}
-
--- a mark stays
-pub mark_again : (n : ℕ) (marks : List Bool) → is_marked n marks ≡ true → with_mark n marks ≡ marks
-mark_again n marks is = ap (λ (b : Bool). set marks (n - 1) b) (sym is) ∙ set-get_or marks (n - 1) false
 
 mark_here : (n : ℕ) (marks : List Bool) → 1 ≤ n → n ≤ length marks → is_marked n (with_mark n marks) ≡ true
 mark_here n marks one le = get_or-set_same marks (n - 1) true false (omega (arith, one, le))
@@ -42,10 +38,3 @@ recorded_next marks records all entry is one le were = subst (λ (rs : List Reco
         absurd (not_both (is_marked n (with_mark entry.page marks)) (subst (λ (k : ℕ). is_marked k (with_mark entry.page marks) ≡ true) (sym same) (mark_here entry.page marks one le)) unmarked)
     none n one_n le_n unmarked (inr other) =
         none_one_more n records entry (were.have_none n one_n le_n (sym (mark_there entry.page n marks one one_n other) ∙ unmarked)) (λ is. other (sym is))
-
--- before the first record no page is marked
-pub recorded_none : (pages : ℕ) (records : List Record) → records ≡ [] → AreRecorded (replicate pages false) records
-recorded_none pages records is = subst (λ (rs : List Record). AreRecorded (replicate pages false) rs) (sym is) (record {
-  have_one = λ n one le marked. absurd (not_both (is_marked n (replicate pages false)) marked (get_or-replicate pages (n - 1) false false (omega (arith, one, le, length-replicate pages false))));
-  have_none = λ n one le unmarked. tt;
-})

@@ -50,9 +50,6 @@ is_at_most r floor = option_map_or (λ f. int_le r f) floor false
 pub record IsFloor (floor : Option ℤ) (ks : List ℤ) : Type 0 where
   pub is : (r : ℤ) → list_any (λ k. int_le r k) ks ≡ is_at_most r floor
 
-pub floor_none : IsFloor None []
-floor_none = record { is = λ r. refl }
-
 -- a number above the floor is the next floor
 pub floor_rises : (floor : Option ℤ) (ks : List ℤ) (k : ℤ) → IsFloor floor ks → is_at_most k floor ≡ false → IsFloor (Some k) (ks ++ k ∷ [])
 floor_rises None ks k floor h =

@@ -1,9 +1,7 @@
 -- Where a cursor is, as its callers see it.
-use Rattle.std.proofs.Common.{◌≡◌, ◌+◌, ◌*◌, ◌-◌, ◌^◌, ◌≤◌, ◌<◌, ℕ, Bool, true, false, List, [], ◌∷◌, ◌++◌, length, Option, Some, Result, Ok, Err, MatchResult, IfOk, arith, refl, ap, sym, subst, ◌∙◌}
-use Rattle.std.specs.Prelude.{sum_by}
+use Rattle.std.proofs.Common.{◌≡◌, ◌+◌, ◌-◌, ◌≤◌, ℕ, Bool, true, false, List, [], ◌∷◌, ◌++◌, length, Option, Some, Result, Ok, Err, MatchResult, IfOk, arith, refl, ap, sym, subst, ◌∙◌}
 use Rattle.std.proofs.lemmas.List.{append_assoc}
 use Rattle.db_format.specs.Pages.{Pages, Test, also}
-use Rattle.db_format.specs.Seen.{open_count}
 use Rattle.db_format.specs.Source.{no_pins}
 use Rattle.btree_page.specs.declared.kind.Family.{Family}
 use Rattle.btree_model.specs.Finding.{Row, Finding, places, entries, is_sound}
@@ -14,13 +12,11 @@ use Rattle.btree_model.proofs.RestLemmas.{Stands-end, Stands-places}
 use Rattle.btree_walk.specs.declared.cursor.Cursor.{Cursor}
 use Rattle.btree_walk.specs.declared.cursor.Stage.TheVariants.{Inside}
 use Rattle.btree_walk.specs.declared.error.WalkError.{WalkError}
-use Rattle.btree_walk.specs.declared.path.Frame.{Frame}
 use Rattle.btree_walk.specs.Causes.{IsAmong}
 use Rattle.btree_walk.specs.Cursor.{IsAdvanced, IsCursorAt, IsAtStage, IsCursorBegun, IsEnd, IsCursorMade, IsNext, IsCursorReady, IsSameTree, IsSameWalk, IsWalking, family_or, given_then, row_of, walked, walked_family}
 use Rattle.std.proofs.lemmas.List.Elements.{All-nil}
-use Rattle.std.proofs.lemmas.List.Sums.{sum_by-le}
 use Rattle.btree_walk.specs.Pins.{path_pins}
-use Rattle.btree_walk.specs.Turn.{path_of, work}
+use Rattle.btree_walk.specs.Turn.{path_of}
 
 -- ---- a cursor that was made
 
@@ -124,9 +120,3 @@ module _ {R : Type 0} (refuses : Pages → ℕ → R → Type 0) (pages : Pages)
   advanced (Err error) among end = subst (λ l. IsAmong refuses pages l error) same_walk among
 
 -- ---- how much is left
-
--- a walk has less than 2^60 turns
-pub work_small : (seen : List Bool) (frames : List Frame) → open_count seen ≤ 2 ^ 32 → length frames ≤ 20 → work seen frames < 2 ^ 60
-work_small seen frames few short =
-    let each : sum_by (λ (f : Frame). 1 + (2 ^ 20 - f.done)) frames ≤ length frames * (2 ^ 20 + 1) = sum_by-le (λ (f : Frame). 1 + (2 ^ 20 - f.done)) (2 ^ 20 + 1) frames (λ k d less. omega arith) in
-    omega arith

@@ -33,10 +33,6 @@ wide_page usable page large short full = go page.cells short full
 pub power_more : (n : ℕ) → 3 ^ (n + 1) ≡ 3 * 3 ^ n
 power_more n = ap (λ k. 3 ^ k) (omega arith) ∙ pow-succ' 3 n
 
--- a loader without levels
-pub shallow_none : (usable from : ℕ) (loader : Loader) → KeepsBack loader → KeepsShort usable loader → closed_below loader.levels.items ≡ 0 → IsShallow usable from from loader
-shallow_none usable from loader back short flat = record { back = back; short = short; closed = omega arith }
-
 -- an answer after which the levels hold no more than was closed since
 pub shallow_ok : {A E : Type 0} (r : Result A E) (usable from old new : ℕ) (before after : Loader) → IsShallow usable from old before
     → OnOk r (KeepsBack after) → OnOk r (KeepsShort usable after)

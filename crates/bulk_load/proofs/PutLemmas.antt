@@ -5,7 +5,7 @@ use Rattle.std.proofs.lemmas.Bool.{eqb-true}
 use Rattle.std.specs.Cmp.Derive.{both_true}
 use Rattle.db_format.specs.Pages.{Pages, Test}
 use Rattle.load_model.specs.Stands.{IsPut}
-use Rattle.bulk_load.specs.Out.{AreAllPut, Faults, Follows, IsPutAs, IsNumberTaken, KeepsPages, MarksAt, SameBut, SameNumbers, is_new}
+use Rattle.bulk_load.specs.Out.{AreAllPut, Faults, Follows, IsPutAs, IsNumberTaken, KeepsPages, MarksAt, SameBut, is_new}
 use Rattle.bulk_load.specs.Own.{Covers, only}
 
 new_left : (a b c k : ℕ) → a ≤ b → b ≤ c → (nat_lt a k && nat_le k c) ≡ false → (nat_lt a k && nat_le k b) ≡ false
@@ -207,22 +207,6 @@ module _ {S : Type 0} (pages : S → Pages) (limit : S → ℕ) (faults : S → 
       by_first : (e : Bool) → (n == 1) ≡ e → (pages b).accepts n ≡ true
       by_first true one = ap (pages b).accepts (eqb-true n 1 one) ∙ f.puts_first refl
       by_first false other = f.puts n (later (pages a).count (pages b).count n none is other)
-
-  -- no number was given
-  pub refused_keeps : (a b : S) → SameNumbers (pages a) (pages b)
-      → ((start : ℕ) → well start a → (k : ℕ) → (pages b).page k ≡ (pages a).page k) → limit b ≡ limit a
-      → (faults a).disk ≤ (faults b).disk → (faults a).entropy ≤ (faults b).entropy → KeepsPages pages limit faults well false a b
-  refused_keeps a b same told limits disk entropy = record {
-    size = same.size;
-    count = let is : (pages b).count ≡ (pages a).count = same.count in omega arith;
-    put = λ k h. same.accepts k ∙ h;
-    others = λ k free h. same.accepts k;
-    free = λ k h. let no : true ≡ false = sym h ∙ ap (λ m. nat_lt (pages a).count k && nat_le k m) same.count ∙ new_none (pages a).count k in cc;
-    page = λ start w k h. told start w k;
-    limit_is = limits;
-    disk = disk;
-    entropy = entropy;
-  }
 
   -- a number was given, and a page was put there or was not
   module _ (a b c : S) (n : ℕ) (taken : IsNumberTaken (pages a) (pages b) n) (marks : MarksAt (pages b) (pages c) n)

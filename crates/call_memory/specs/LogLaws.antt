@@ -11,7 +11,7 @@ use Rattle.edge_model.specs.declared.role.Role.{Role}
 use Rattle.edge_model.specs.declared.role.Role.TheVariants.{Main, Journal, Fresh}
 use Rattle.edge_memory.specs.LogLaws.{may_step_number, numbered_same, numbered_created, numbered_removed, numbered_renamed, numbered_renames, same_names}
 use Rattle.system_calls.specs.System.{file_of, name_at, FileSteps, FileSynced}
-use Rattle.call_memory.specs.Folder.{State, held_in, file_in, shown_in, numbered_if, state_with}
+use Rattle.call_memory.specs.Folder.{State, held_in, file_in, shown_in, numbered_if}
 use Rattle.call_memory.specs.Log.{changing, after, state_after, ImagesAfter, SinceAfter, newest_first}
 use Rattle.call_memory.specs.declared.done.Done.{Done}
 use Rattle.call_memory.specs.declared.done.Done.TheVariants.{Write, Cut, Sync, Create, Remove, Rename, SyncFolder}
@@ -191,16 +191,3 @@ name_made Fresh s numbered = number_made (held_in s) s.names.fresh (length s.lis
 file_number : (k : ℕ) (held : ℕ → List ℕ) (file : Option (List ℕ)) (n : ℕ) → number_of (file_of held (numbered_if k file)) ≡ Some n → k ≡ n
 file_number k held None n is = cc
 file_number k held (Some bytes) n is = some_is is
-
--- files that are put there at the start
-pub numbered_with : (main journal fresh : Option (List ℕ)) → IsNumbered (length (state_with main journal fresh).lists) (shown_in (state_with main journal fresh))
-numbered_with main journal fresh =
-    let held = held_in (state_with main journal fresh) in
-    record {
-      main = λ n is. let e = file_number 0 held main n is in omega arith;
-      journal = λ n is. let e = file_number 1 held journal n is in omega arith;
-      fresh = λ n is. let e = file_number 2 held fresh n is in omega arith;
-      main_journal = λ n is too. let a = file_number 0 held main n is in let b = file_number 1 held journal n too in omega arith;
-      main_fresh = λ n is too. let a = file_number 0 held main n is in let b = file_number 2 held fresh n too in omega arith;
-      journal_fresh = λ n is too. let a = file_number 1 held journal n is in let b = file_number 2 held fresh n too in omega arith;
-    }

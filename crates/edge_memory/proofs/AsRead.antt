@@ -96,9 +96,6 @@ renames_number change role now d c keeps (inl stays) = ap (λ (x : Files). numbe
 renames_number change role now d c keeps (inr made) = ap (λ (x : Files). number_of (file_at x role)) made.1 ∙ ap number_of (keeps d)
 
 module _ (step : List ℕ → List ℕ → Type 0) (change : List ℕ → List ℕ) (takes : (b : List ℕ) → step b (change b)) where
-  later_reads : Role → Files → Files
-  later_reads role now = put_at now role (with_file_bytes change (file_at now role))
-
   -- a change of bytes goes on, with one role as it reads
   role_changes : (role other : Role) (now d c : Files) → Changes other step now d c
       → Changes other step now (put_at d role (file_at now role)) (put_at c role (file_at (put_at now other (with_file_bytes change (file_at now other))) role))

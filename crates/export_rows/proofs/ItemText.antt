@@ -1,5 +1,5 @@
 -- The lines of a schema row and of its tree.
-use Rattle.std.proofs.Common.{◌≡◌, ℕ, zero, suc, List, [], ◌∷◌, ◌++◌, Some, None, length, unwrap_or, map, refl, sym, ap, ◌∙◌}
+use Rattle.std.proofs.Common.{◌≡◌, ℕ, zero, suc, List, [], ◌∷◌, ◌++◌, Some, length, map, refl, sym, ap, ◌∙◌}
 use Rattle.std.specs.Prelude.{ℤ, pos, negsuc}
 use Rattle.std.specs.List.{flat_map}
 use Rattle.std.proofs.lemmas.List.{length-map}
@@ -62,17 +62,6 @@ module _ (pages : Pages) (row : Row) (values : List Datum) where
 module _ (pages : Pages) (rowid : ℤ) (payload : List ℕ) (values : List Datum) (is : columns payload ≡ Some values) where
   number_is : number_of (columns payload) ≡ root_number (root_of values)
   number_is = ap number_of is
-
-  alone_item : number_of (columns payload) ≡ 0 → item_at pages rowid payload ≡ SchemaItem.alone rowid payload
-  alone_item none =
-      ap (item_of pages (record { rowid = Some rowid; payload = payload; page = 0 })) is
-      ∙ alone_by pages (record { rowid = Some rowid; payload = payload; page = 0 }) values (root_of values) (row_root values) (sym number_is ∙ none)
-
-  pub alone_text : number_of (columns payload) ≡ 0 → item_text (item_at pages rowid payload) ≡ schema_line rowid (without_fourth values) None
-  alone_text none = ap item_text (alone_item none) ∙ ap (λ read. schema_line rowid (without_fourth (unwrap_or read [])) None) is
-
-  pub alone_count : number_of (columns payload) ≡ 0 → item_count (item_at pages rowid payload) ≡ 0
-  alone_count none = ap item_count (alone_item none)
 
   module _ (n : ℕ) (number : number_of (columns payload) ≡ n) (some : n ≡ 0 → ⊥) where
     tree_item : item_at pages rowid payload ≡ SchemaItem.with_tree rowid (without_fourth values) (root_family n (pages.page n)) (map entry_of (tree_rows pages n))

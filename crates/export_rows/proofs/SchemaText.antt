@@ -174,10 +174,6 @@ module _ (pages : Pages) (rows : List SchemaRow) (i count : ℕ) (told : Bool) (
   pub written_stopped : IsTrue told → MovesPart (schema_rows_text pages rows) before waiting after
   written_stopped t = restated_part (sym whole) (cut (schema_rows_text pages (drop i rows)) (record { lost = left; moves = so.moved t }))
 
-  -- the end
-  pub written_all : length rows ≤ i → IsTrue told → Moves (schema_rows_text pages rows) before waiting after left
-  written_all end t = restated (ap (schema_rows_text pages) (take_all i rows end)) (so.moved t)
-
   pub written_count : length rows ≤ i → count ≡ sum_by (row_count pages) rows
   written_count end = so.counted ∙ ap (sum_by (row_count pages)) (take_all i rows end)
 

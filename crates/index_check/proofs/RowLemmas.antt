@@ -1,7 +1,7 @@
 -- One row or one entry more.
-use Rattle.std.proofs.Common.{◌≡◌, ◌+◌, ℤ, Bool, true, false, not, ◌||◌, cond, length, IsTrue, List, [], ◌∷◌, ◌++◌, Option, Some, None, refl, ap, ◌∙◌}
+use Rattle.std.proofs.Common.{◌≡◌, ◌+◌, ℤ, Bool, true, false, not, ◌||◌, cond, IsTrue, List, [], ◌∷◌, ◌++◌, Option, Some, None, refl, ap, ◌∙◌}
 use Rattle.std.specs.Prelude.{filter, flat_map, is_some, option_to_list}
-use Rattle.std.proofs.lemmas.List.{append-nil, length-append, map-append}
+use Rattle.std.proofs.lemmas.List.{append-nil, map-append}
 use Rattle.std.proofs.lemmas.List.Concat.{flat_map-append}
 use Rattle.std.proofs.lemmas.List.Folds.{list_any-append}
 use Rattle.std.proofs.lemmas.List.Elements.{filter-append}
@@ -50,24 +50,15 @@ entry_on before o rowid = list_any-append (is_of rowid) before (o ∷ []) ∙ sw
 
 -- ---- one entry more
 
-pub nameless_on : (before : List (Option ℤ)) → length (nameless (before ++ None ∷ [])) ≡ length (nameless before) + 1
-nameless_on before = ap length (filter-append (λ owner. not (is_some owner)) before (None ∷ [])) ∙ length-append (nameless before) (None ∷ [])
-
 pub named_on : (before : List (Option ℤ)) (rowid : ℤ) → nameless (before ++ Some rowid ∷ []) ≡ nameless before
 named_on before rowid = filter-append (λ owner. not (is_some owner)) before (Some rowid ∷ []) ∙ append-nil (nameless before)
 
 owned_on : (before : List (Option ℤ)) (o : Option ℤ) → flat_map option_to_list (before ++ o ∷ []) ≡ flat_map option_to_list before ++ option_to_list o
 owned_on before o = flat_map-append option_to_list before (o ∷ []) ∙ ap (λ l. flat_map option_to_list before ++ l) (append-nil (option_to_list o))
 
-pub strangers_none : (rows : List ℤ) (before : List (Option ℤ)) → strangers rows (before ++ None ∷ []) ≡ strangers rows before
-strangers_none rows before = ap (filter (λ rowid. not (has_row rows (Some rowid)))) (owned_on before None ∙ append-nil (flat_map option_to_list before))
-
 strangers_some : (rows : List ℤ) (before : List (Option ℤ)) (rowid : ℤ) → strangers rows (before ++ Some rowid ∷ []) ≡ strangers rows before ++ strangers rows (Some rowid ∷ [])
 strangers_some rows before rowid =
     ap (filter (λ r. not (has_row rows (Some r)))) (owned_on before (Some rowid)) ∙ filter-append (λ r. not (has_row rows (Some r))) (flat_map option_to_list before) (rowid ∷ [])
-
-pub strangers_known : (rows : List ℤ) (before : List (Option ℤ)) (rowid : ℤ) → has_row rows (Some rowid) ≡ true → strangers rows (before ++ Some rowid ∷ []) ≡ strangers rows before
-strangers_known rows before rowid e = strangers_some rows before rowid ∙ ap (λ b. strangers rows before ++ cond (not b) (rowid ∷ []) []) e ∙ append-nil (strangers rows before)
 
 pub strangers_more : (rows : List ℤ) (before : List (Option ℤ)) (rowid : ℤ) → has_row rows (Some rowid) ≡ false → strangers rows (before ++ Some rowid ∷ []) ≡ strangers rows before ++ rowid ∷ []
 strangers_more rows before rowid e = strangers_some rows before rowid ∙ ap (λ b. strangers rows before ++ cond (not b) (rowid ∷ []) []) e
@@ -77,9 +68,3 @@ pub passed_more : (p : ℤ → Bool) (rows : List ℤ) (before : List (Option �
     → filter p (strangers rows (before ++ Some rowid ∷ [])) ≡ filter p (strangers rows before) ++ rowid ∷ []
 passed_more p rows before rowid e over =
     ap (filter p) (strangers_more rows before rowid e) ∙ filter-append p (strangers rows before) (rowid ∷ []) ∙ ap (λ b. filter p (strangers rows before) ++ cond b (rowid ∷ []) []) over
-
-pub passed_same : (p : ℤ → Bool) (rows : List ℤ) (before : List (Option ℤ)) (rowid : ℤ) → has_row rows (Some rowid) ≡ false → p rowid ≡ false
-    → filter p (strangers rows (before ++ Some rowid ∷ [])) ≡ filter p (strangers rows before)
-passed_same p rows before rowid e under =
-    ap (filter p) (strangers_more rows before rowid e) ∙ filter-append p (strangers rows before) (rowid ∷ []) ∙ ap (λ b. filter p (strangers rows before) ++ cond b (rowid ∷ []) []) under
-    ∙ append-nil (filter p (strangers rows before))

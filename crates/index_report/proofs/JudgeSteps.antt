@@ -22,7 +22,7 @@ use Rattle.db_format.specs.Value.{Datum}
 use Rattle.db_format.specs.Value.Datum.{null, int, float, text, blob}
 use Rattle.index_report.specs.Verdicts.{IsJudged, IsJudgedBeside, IsTreeStop, agreement, beside, column, is_read, named_root, of_table, of_tree, root_or_0, table_named, verdict}
 use Rattle.index_report.proofs.LineSteps.{first_if, second_if}
-use Rattle.index_report.specs.declared.verdict.Unchecked.TheVariants.{NoTree, NoTable, NoRowids, NotRead}
+use Rattle.index_report.specs.declared.verdict.Unchecked.TheVariants.{NoTree, NoTable, NotRead}
 use Rattle.index_report.specs.declared.verdict.Verdict.{Verdict}
 use Rattle.index_report.specs.declared.verdict.Verdict.TheVariants.{Unchecked, Checked}
 
@@ -104,13 +104,6 @@ read_by true found is = refl
 read_by false found is = cc
 
 module _ (pages : Pages) (root : ℕ) (values : List Datum) (table : ℕ) where
-  pub beside_index : Index ≡ root_family table (pages.page table) → Unchecked NoRowids ≡ beside pages root values table (root_family table (pages.page table))
-  beside_index family = ap (beside pages root values table) family
-
-  pub beside_unread : Table ≡ root_family table (pages.page table) → false ≡ is_read (column values 4)
-      → Unchecked NotRead ≡ beside pages root values table (root_family table (pages.page table))
-  beside_unread family other = unread_by (is_read (column values 4)) (agreement pages table root) (sym other) ∙ ap (beside pages root values table) family
-
   pub beside_read : Table ≡ root_family table (pages.page table) → true ≡ is_read (column values 4) → (found : Agreement) → found ≡ agreement pages table root
       → Checked found ≡ beside pages root values table (root_family table (pages.page table))
   beside_read family plain found is =
@@ -122,9 +115,6 @@ module _ (pages : Pages) (rows : List SchemaRow) (root : ℕ) (values : List Dat
   tree_is : (family : Family) → family ≡ root_family root (pages.page root) → of_tree pages rows root values family ≡ verdict pages rows root values
   tree_is family is =
       ap (of_tree pages rows root values) is ∙ second_if root (Unchecked NoTree) (of_tree pages rows root values (root_family root (pages.page root))) some
-
-  pub judged_no_tree : Table ≡ root_family root (pages.page root) → Unchecked NoTree ≡ verdict pages rows root values
-  judged_no_tree is = tree_is Table is
 
   module _ (family : Index ≡ root_family root (pages.page root)) (table : ℕ) (named : table ≡ table_named rows (column values 2)) where
     table_is : of_table pages root values table ≡ verdict pages rows root values

@@ -5,7 +5,7 @@ use Rattle.std.proofs.lemmas.Bool.{ne_eqb}
 use Rattle.std.proofs.lemmas.List.{append-nil}
 use Rattle.db_format.specs.Value.{Datum}
 use Rattle.row_text.specs.Out.{Moves}
-use Rattle.row_text.proofs.Moving.{restated, waits}
+use Rattle.row_text.proofs.Moving.{waits}
 use Rattle.index_check.specs.declared.rowids.Rowids.{Rowids}
 use Rattle.index_report.specs.Lines.{count_line, head, last_line, least_text, rowids_line}
 use Rattle.index_report.specs.declared.summary.Summary.{Summary}
@@ -32,16 +32,9 @@ module _ (name : Datum) (what : List ℕ) (found : Rowids) where
   pub some_rowids : found.count ≢ 0 → line (head name ++ decimal found.count ++ what ++ least_text found.least) ≡ rowids_line name what found
   some_rowids some = second_if found.count [] (line (head name ++ decimal found.count ++ what ++ least_text found.least)) some
 
-  pub no_rowids : found.count ≡ 0 → (before waiting : List ℕ) → Moves (rowids_line name what found) before waiting before waiting
-  no_rowids none before waiting =
-      restated (none_if found.count (line (head name ++ decimal found.count ++ what ++ least_text found.least)) none) (nothing before waiting)
-
 module _ (name : Datum) (what : List ℕ) (count : ℕ) where
   pub some_count : count ≢ 0 → line (head name ++ decimal count ++ what) ≡ count_line name what count
   some_count some = second_if count [] (line (head name ++ decimal count ++ what)) some
-
-  pub no_count : count ≡ 0 → (before waiting : List ℕ) → Moves (count_line name what count) before waiting before waiting
-  no_count none before waiting = restated (none_if count (line (head name ++ decimal count ++ what)) none) (nothing before waiting)
 
 ok_pieces : (a b c d e f g n : List ℕ) → (((a ++ b) ++ (c ++ d)) ++ (e ++ f)) ++ (g ++ n) ≡ ((((((a ++ b) ++ c) ++ d) ++ e) ++ f) ++ g) ++ n
 ok_pieces a b c d e f g n = simp append_assoc

@@ -173,10 +173,6 @@ module _ (old new : Pages) (more n : ℕ) (ns bytes : List ℕ) (m : ℕ) (put :
     put = ap (λ b. b && list_all new.accepts ns) put.put ∙ still_put old new m put ns is.put;
   }
 
-  -- and a chain stays where another page is put
-  pub links_stay : IsLinks new more n ns bytes
-  links_stay = record { walk = kept; bytes_are = kept_bytes; put = still_put old new m put ns is.put }
-
 -- a payload that goes on: its chain begins at the page that its cell names
 pub chain_is : (pages : Pages) (stored : StoredCell) (more : ℕ) (ns bytes : List ℕ) → IsLinks pages (suc more) stored.first ns bytes
     → links_needed pages.usable stored ≡ suc more → is_in_range pages stored.first ≡ true

@@ -121,9 +121,3 @@ module _ (old new : Pages) (family : Family) (kind : Kind) (last : Option ℤ) (
 
   pub lone_whole : (n : ℕ) → new.accepts n ≡ true → list_any (λ m. m == n) (places (tree_walk new family nothing 1)) ≡ true
   lone_whole = root_whole old new family last pushed h 1 (record { kind = kind; cells = []; right = Some m }) put reads low s
-
--- an empty table: a leaf without a cell
-pub empty_root : (old new : Pages) (family : Family) (kind : Kind) (last : Option ℤ) (r : ℕ) → IsNonePut old → IsPut old new r
-    → read_node family r (new.page r) ≡ Ok (record { kind = kind; cells = []; right = None }) → option_map (map entry_of) (tree new family r) ≡ Some []
-empty_root old new family kind last r none put reads =
-    root_tree old new family None [] 0 r (record { kind = kind; cells = []; right = None }) put reads (omega arith) (nothing_stands old family none)

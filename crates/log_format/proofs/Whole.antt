@@ -85,9 +85,6 @@ pub frame_is : (size : ℕ) (log : List ℕ) (k : ℕ) (found : Option LogFrame)
 frame_is size log k None whole is = and_no _ _ is
 frame_is size log k (Some frame) whole is = (and_both _ _ (le_makes _ _ whole) is.0, is.3, is.2)
 
-pub short_not_valid : (size : ℕ) (log : List ℕ) (k : ℕ) → length log < frame_start size (suc k) → is_valid size log k ≡ false
-short_not_valid size log k short = no_and _ _ (le_not _ _ short)
-
 -- from a frame that is not valid on nothing is committed
 pub ends_here : (size : ℕ) (log : List ℕ) (n k end : ℕ) → is_valid size log k ≡ false → commit_end size log n k end ≡ end
 ends_here size log zero k end none = refl

@@ -65,9 +65,6 @@ no_first : (a b : Bool) → a ≡ false → (a && b) ≡ false
 no_first true b is = cc
 no_first false b is = refl
 
-pub short_no_head : (log : List ℕ) → length log < 32 → is_log_head log ≡ false
-short_no_head log short = no_first _ _ (no_first _ _ (no_first _ _ (le_not (length log) short)))
-
 pub empty_no_head : (files : Files) → HasByte (bytes_of files.main) → files.journal ≢ None → is_log_head (log_of files) ≡ false → IsEmptyLog files
 empty_no_head files some there none =
     record { main = some_contents files.main some; log = there_contents files.journal there; none = and_no (nat_lt 0 (length (main_of files))) (is_log_head (log_of files)) _ none }

@@ -1,5 +1,5 @@
 -- One frame more in an index.
-use Rattle.std.proofs.Common.{◌≡◌, ℕ, suc, ◌+◌, ◌-◌, ◌<◌, ◌≤◌, max, Bool, true, false, ◌&&◌, ◌==◌, nat_le, if◌then◌else◌, List, ◌∷◌, refl, sym, ◌∙◌, ap, arith}
+use Rattle.std.proofs.Common.{◌≡◌, ℕ, suc, ◌+◌, ◌-◌, ◌<◌, max, Bool, true, false, ◌&&◌, ◌==◌, nat_le, if◌then◌else◌, List, ◌∷◌, refl, sym, ◌∙◌, ap, arith}
 use Rattle.journal_format.specs.Records.{Record}
 use Rattle.log_format.specs.Frames.{frame_page}
 use Rattle.log_format.specs.Logs.{frame_bytes_at, record_of, records_from, within}
@@ -24,11 +24,6 @@ noted_next size n k p page number old new all log now lt same is counted noted s
     ∙ ap (λ (m : ℕ). if frame_page (frame_bytes_at size log k) == p then m else old) counted)
     ∙ sym (last_next size n k p old log lt)
     ∙ so_far
-
-pub noted_none : (size n k p old : ℕ) (log : List ℕ) → n ≤ k → last_frame size log (n - k) k p old ≡ old
-noted_none size n k p old log le =
-    let e : n - k ≡ 0 = omega arith in
-    ap (λ (m : ℕ). last_frame size log m k p old) e
 
 reach_split : (size : ℕ) (b : Bool) (entry : Record) (rest : List Record)
     → reach size (if b then entry ∷ rest else rest) ≡ max (if b then page_start size entry.page + size else 0) (reach size rest)

@@ -1,5 +1,5 @@
 -- A table of the last frames leads to each byte of a view.
-use Rattle.std.proofs.Common.{◌≡◌, ◌⊎◌, inl, inr, ℕ, zero, suc, ◌+◌, ◌-◌, ◌*◌, ◌/◌, ◌%◌, ◌<◌, ◌≤◌, max, Bool, true, false, ◌&&◌, ◌==◌, nat_lt, if◌then◌else◌, List, [], length, take, get_or, Option, Some, None, unwrap_or, refl, sym, ◌∙◌, ap, subst, arith}
+use Rattle.std.proofs.Common.{◌≡◌, ◌⊎◌, inl, inr, ℕ, zero, suc, ◌+◌, ◌-◌, ◌*◌, ◌/◌, ◌%◌, ◌<◌, ◌≤◌, max, Bool, true, false, ◌&&◌, ◌==◌, nat_lt, if◌then◌else◌, List, length, take, get_or, Option, Some, None, unwrap_or, refl, sym, ◌∙◌, ap, subst, arith}
 use Rattle.std.proofs.lemmas.List.{get_or-take, get_or_past, length-take}
 use Rattle.std.proofs.lemmas.Nat.{div_below, mod_below}
 use Rattle.edge_model.specs.Files.{File, Files, bytes_of, contents, length_of, main_of, with_file_bytes}
@@ -12,7 +12,7 @@ use Rattle.rollback_journal.proofs.Laid.{laid_reach}
 use Rattle.rollback_journal.proofs.MainSteps.{has_byte, some_contents}
 use Rattle.log_recovery.specs.Finding.{IsEmptyLog}
 use Rattle.log_recovery.specs.Laying.{log_of, IsTaken}
-use Rattle.log_recovery.specs.Opened.{is_over, log_end, opened_by_log}
+use Rattle.log_recovery.specs.Opened.{log_end, opened_by_log}
 use Rattle.log_recovery.proofs.Kept.{over_is}
 use Rattle.log_recovery.proofs.MainSteps.{log_taken}
 use Rattle.log_recovery.proofs.Sized.{logged_sized}
@@ -39,15 +39,6 @@ nothing_alone size files (inl none) = alone size files.main (bytes_of files.jour
     (λ some. none (subst (λ (m : Option File). HasByte (bytes_of m)) (sym is) some)))
 nothing_alone size files (inr gone) = alone size files.main (bytes_of files.journal)
     (λ file is. ap (λ (j : Option File). opened_by_log size file.bytes (bytes_of j)) gone)
-
-pub empty_alone : (size : ℕ) (files : Files) → IsEmptyLog files → (viewed size files).main ≡ files.main
-empty_alone size files empty = alone size files.main (bytes_of files.journal) (λ file is.
-    ap (λ (j : Option (List ℕ)). opened_by_log size file.bytes j) empty.log
-    ∙ ap (λ (b : Bool). if b then take (log_end size (log_of files)) (laid size (logged size (log_of files)) file.bytes) else file.bytes)
-    (ap (λ (m : Option File). is_over (contents m) (log_of files)) (sym is) ∙ empty.none))
-
-pub alone_indexed : (size : ℕ) (files : Files) → (viewed size files).main ≡ files.main → IsIndexed size [] files
-alone_indexed size files is i lt = ap (λ (m : Option File). get_or (contents m) i 0) is
 
 -- with a log that counts, it is the laid file
 contents_with : (change : List ℕ → List ℕ) (file : Option File) → HasByte (bytes_of file) → contents (with_file_bytes change file) ≡ change (contents file)
@@ -84,10 +75,6 @@ pub end_reached : (size main_len end whole : ℕ) (files : Files) → main_len �
     → whole ≡ logged_count size (log_of files) * size → whole ≤ max main_len end → ReachesEnd size files
 end_reached size main_len end whole files is ends wholes le = omega (arith, main_length main_len files.main is, ends, wholes, le)
 
-pub end_not_reached : (size main_len end whole : ℕ) (files : Files) → main_len ≡ unwrap_or (length_of files.main) 0
-    → end ≡ reach size (logged size (log_of files)) → whole ≡ logged_count size (log_of files) * size → max main_len end < whole → ReachesEnd size files → ⊥
-end_not_reached size main_len end whole files is ends wholes lt reaches = omega (arith, main_length main_len files.main is, ends, wholes, lt, reaches)
-
 -- a log that is taken is there, beside a Main with a byte, and holds a commit
 pub nothing_not_taken : (size : ℕ) (files : Files) → (HasByte (bytes_of files.main) → ⊥) ⊎ (files.journal ≡ None) → IsTaken size files → ⊥
 nothing_not_taken size files (inl none) taken = none taken.main
@@ -97,10 +84,6 @@ pub empty_not_taken : (size : ℕ) (files : Files) → IsEmptyLog files → IsTa
 empty_not_taken size files empty taken =
     let over = over_is size (main_of files) (log_of files) (log_taken size files taken) (has_byte files.main taken.main) in
     let both : true ≡ false = sym over ∙ empty.none in cc
-
--- each frame that the table names is whole
-pub alone_held : (size : ℕ) (files : Files) → IsHeldByLog size [] files
-alone_held size files row some = absurd (omega (arith, some))
 
 last_low : (size : ℕ) (log : List ℕ) (n k page old : ℕ) → old ≤ k + n → last_frame size log n k page old ≤ k + n
 last_low size log zero k page old le = le

@@ -27,9 +27,6 @@ index_view size most files LogCut taken is = absurd is
 index_view size most files DiskFault taken is = tt
 index_view size most files OutOfMemory taken is = absurd is
 
-pub table_no_fault : (most : ℕ) (reading : LogReading) (why : ViewError) → IsTableRefused reading most why → why ≡ DiskFault → ⊥
-table_no_fault most reading why refused is = subst (λ (w : ViewError). IsTableRefused reading most w) is refused
-
 pub err_as : {T E : Type 0} (P : E → Type 0) (r : Result T E) (x : E) → IsErrAnd r (λ e. e ≡ x) → P x → IfErr r P
 err_as P (Ok done) x is p = tt
 err_as P (Err e) x is p = subst P (sym is) p

@@ -6,26 +6,18 @@ use Rattle.log_recovery.specs.Finding.{IsLogFound}
 use Rattle.log_recovery.specs.Laying.{log_of, IsReadingOfLog, IsTaken}
 use Rattle.log_recovery.specs.Opened.{log_answer_to}
 use Rattle.log_recovery.specs.declared.laying.LogReading.{LogReading}
-use Rattle.log_recovery.specs.declared.looking.LogFound.TheVariants.{Nothing, Empty}
+use Rattle.log_recovery.specs.declared.looking.LogFound.TheVariants.{Empty}
 use Rattle.log_recovery.specs.declared.settling.LogError.{LogError}
 use Rattle.log_recovery.specs.declared.settling.LogLaid.{LogLaid}
-use Rattle.log_recovery.proofs.Settled.{empty_answer, laid_answer, nothing_answer}
+use Rattle.log_recovery.proofs.Settled.{empty_answer, laid_answer}
 use Rattle.log_view.specs.Refused.{IsOutside, IsViewRefused, IsViewTaken}
 use Rattle.log_view.specs.View.{ReachesEnd}
 use Rattle.log_view.specs.declared.opening.ViewError.{ViewError}
 use Rattle.log_view.specs.declared.opening.ViewError.TheVariants.{Log, TooLarge, TooLong, Short, LogCut, DiskFault, OutOfMemory}
-use Rattle.log_view.proofs.Indexed.{empty_not_taken, nothing_not_taken}
+use Rattle.log_view.proofs.Indexed.{empty_not_taken}
 
 ok_is : (r : Result LogLaid LogError) (laid : LogLaid) → r ≡ Ok laid → IsOk r
 ok_is r laid is = subst (λ (x : Result LogLaid LogError). IsOk x) (sym is) refl
-
-pub nothing_taken : (size most : ℕ) (files : Files) → IsLogFound size files Nothing → IsViewTaken size most files
-nothing_taken size most files found = record {
-  answer = ok_is (log_answer_to size files) _ (nothing_answer size files files refl found);
-  pages = λ taken. absurd (nothing_not_taken size files found taken);
-  frames = λ taken. absurd (nothing_not_taken size files found taken);
-  end = λ taken. absurd (nothing_not_taken size files found taken);
-}
 
 pub empty_taken : (size most : ℕ) (files : Files) → IsLogFound size files Empty → IsViewTaken size most files
 empty_taken size most files found = record {

@@ -2,7 +2,7 @@
 use Rattle.std.proofs.Common.{◌≡◌, ◌≤◌, ◌+◌, ◌&&◌, ℕ, Bool, true, false, List, Option, Some, Result, Err, arith, refl, ap, sym, subst, ◌∙◌}
 use Rattle.std.specs.Prelude.{IsTrue, nat_le, nat_lt}
 use Rattle.std.specs.Borrow.{MutBor}
-use Rattle.edge_model.specs.Files.{Files, bytes_of, main_of}
+use Rattle.edge_model.specs.Files.{Files, bytes_of}
 use Rattle.db_format.specs.Pages.{Pages}
 use Rattle.btree_model.specs.Finding.{Finding}
 use Rattle.bulk_load.specs.declared.error.LoadError.{LoadError}
@@ -63,9 +63,6 @@ module _ {tells : Bool} {D : Type 0} {reads : D → Files} {images : D → Files
     (read : DiskRead tells reads images moment since faults d d') where
   pub fresh_read : IsTrue tells → bytes_of (reads d'.now).fresh ≡ bytes_of (reads d.now).fresh
   fresh_read told = ap (λ (files : Files). bytes_of files.fresh) (read.only_read told).stays
-
-  pub main_read : IsTrue tells → main_of (reads d'.now) ≡ main_of (reads d.now)
-  main_read told = ap main_of (read.only_read told).stays
 
 module _ {tells : Bool} {D : Type 0} {reads : D → Files} {images : D → Files → Type 0} {moment : D → ℕ} {since : D → ℕ → Files → Type 0} {disk_faults : D → ℕ} {d d' : MutBor D}
     {E : Type 0} {e e' : MutBor E} (draws_tell : Bool) (drawn : E → List ℕ) (read : DiskRead tells reads images moment since disk_faults d d') (still : Untouched e e') where

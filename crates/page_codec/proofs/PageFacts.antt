@@ -73,13 +73,6 @@ pub record PagesUpTo (P : ℕ → List ℕ → Type 0) (size : ℕ) (old pages :
   pub done : (k : ℕ) → k < i → P k (nth_page size pages k)
   pub left : (k : ℕ) → i ≤ k → nth_page size pages k ≡ nth_page size old k
 
-pub pages_none : (P : ℕ → List ℕ → Type 0) (size : ℕ) (old : List ℕ) → PagesUpTo P size old old 0
-pages_none P size old = record {
-  length_kept = refl;
-  done = λ k lt. absurd (omega arith);
-  left = λ k le. refl;
-}
-
 pub pages_more : (P : ℕ → List ℕ → Type 0) (size : ℕ) (old pages page : List ℕ) (i : ℕ) → PagesUpTo P size old pages i
     → size * i + size ≤ length pages → length page ≡ size → P i page
     → PagesUpTo P size old (replaced size i pages page) (i + 1)
@@ -95,14 +88,6 @@ pages_more P size old pages page i h within long is = record {
 }
 
 -- ---- pages that have their tags
-
-pub tagged_none : (file : FileKeys) (numbers : List ℕ) (at : ℕ) (old : List ℕ) → AreTagged file numbers at at old old
-tagged_none file numbers at old = record {
-  length_kept = refl;
-  done = λ k from to. absurd (omega arith);
-  before = λ k lt. refl;
-  left = λ k le. refl;
-}
 
 pub tagged_one : (file : FileKeys) (numbers : List ℕ) (i : ℕ) (old page : List ℕ)
     → file.profile.page_size * i + file.profile.page_size ≤ length old → length page ≡ file.profile.page_size

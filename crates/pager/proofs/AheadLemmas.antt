@@ -3,10 +3,9 @@ use Rattle.std.proofs.Common.{◌≡◌, ◌+◌, ◌*◌, ◌-◌, ◌<◌, ◌
 use Rattle.std.specs.Prelude.{Bool, slice_index, slice_index_or}
 use Rattle.std.proofs.Math.Nat.{add-mul, mul-le-mul_right, mul_comm}
 use Rattle.std.proofs.lemmas.List.{drop-append-le, drop-drop, drop-take, length-drop, take-append-le, take-take}
-use Rattle.page_codec.specs.Page.{FileKeys, accepts, opened, stored_page}
-use Rattle.page_codec.specs.Pages.{IsOpenedIf, nth_page}
+use Rattle.page_codec.specs.Page.{FileKeys, stored_page}
+use Rattle.page_codec.specs.Pages.{nth_page}
 use Rattle.pager.specs.Ahead.{AreReadAhead, AreStored, IsReadAhead}
-use Rattle.pager.specs.File.{page_stored}
 
 -- a page of a run that was read is the page of the file
 pub page_of_run : (size n count i : ℕ) (new main : List ℕ) → 1 ≤ n → i < count
@@ -36,21 +35,6 @@ page_ahead keys file numbers count held pages n i size page ahead less is there 
     let whole : nth_page keys.profile.page_size pages i ≡ page = ap (λ (m : ℕ). nth_page m pages i) (sym long) ∙ sym same in
     subst (λ (m : ℕ). IsReadAhead keys file m page) there
     (subst (λ (l : List ℕ). IsReadAhead keys file (slice_index numbers i) l) whole (ahead i less is))
-
--- pages that were read and opened are there
-pub listed_ahead : (keys : FileKeys) (file numbers : List ℕ) (count : ℕ) (held : List Bool) (read new : List ℕ)
-    → AreStored keys.profile.page_size file numbers count read
-    → ((i : ℕ) → i < count → slice_index_or held i false ≡ accepts keys (slice_index numbers i) (nth_page keys.profile.page_size read i))
-    → ((i : ℕ) → i < count → IsOpenedIf keys (slice_index numbers i) (slice_index_or held i false)
-    (nth_page keys.profile.page_size read i) (nth_page keys.profile.page_size new i))
-    → AreReadAhead keys file numbers count held new
-listed_ahead keys file numbers count held read new stored accepted opened i less true_held =
-    let n : ℕ = slice_index numbers i in
-    let page : nth_page keys.profile.page_size read i ≡ page_stored keys file n = stored i less in
-    record {
-      accepted = ap (accepts keys n) (sym page) ∙ sym (accepted i less) ∙ true_held;
-      plain = (opened i less).opened true_held ∙ ap (Rattle.page_codec.specs.Page.opened keys n) page;
-    }
 
 -- pages of a run that was read in one call are those of the file
 pub run_stored : (size : ℕ) (numbers : List ℕ) (n count : ℕ) (new main : List ℕ) → 1 ≤ n

@@ -1,16 +1,16 @@
 -- The changed pages while one comes, or is written.
-use Rattle.std.proofs.Common.{◌≡◌, ◌==◌, ◌≤◌, ◌<◌, ◌+◌, ◌-◌, ◌⊎◌, ⊎_elim, ℕ, suc, zero, Bool, true, false, cond, List, [], ◌∷◌, ◌++◌, length, take, drop, Option, Some, None, is_some, replicate, refl, sym, ap, subst, ◌∙◌, arith, rules, length-append, length-take, length-drop, append-nil}
+use Rattle.std.proofs.Common.{◌≡◌, ◌==◌, ◌≤◌, ◌<◌, ◌+◌, ◌-◌, ◌⊎◌, ⊎_elim, ℕ, suc, zero, Bool, true, false, cond, List, [], ◌∷◌, ◌++◌, length, take, drop, Option, Some, None, is_some, refl, sym, ap, subst, ◌∙◌, arith, rules, length-append, length-take, length-drop}
 use Rattle.std.specs.Prelude.{slice_index, unwrap_or, if◌then◌else◌}
 use Rattle.std.specs.Option.{option_map}
 use Rattle.std.specs.Prelude.{not}
-use Rattle.std.proofs.lemmas.List.{drop-drop, drop_all}
+use Rattle.std.proofs.lemmas.List.{drop-drop}
 use Rattle.std.proofs.Math.ListN.{get_or-append}
 use Rattle.std.proofs.Math.Seq.{get_or-append_seam, take-append_seam}
 use Rattle.page_cache.specs.Lending.{laid_over}
 use Rattle.page_cache.specs.Cache.{written_over}
 use Rattle.page_cache.specs.Pages.{Page, HeldPages, held_page, held_bytes, is_held, changed, fresh_frame, without}
 use Rattle.page_cache.proofs.CallerLemmas.{number_of}
-use Rattle.pager.specs.Changed.{AreListed, Changed, IsListing, is_listed, unchanged, with_bytes}
+use Rattle.pager.specs.Changed.{AreListed, Changed, IsListing, is_listed, with_bytes}
 use Rattle.pager.specs.Held.{bytes_of_page}
 use Rattle.pager.proofs.Filling.{same_number}
 use Rattle.pager.proofs.Pins.{at_changed}
@@ -43,16 +43,6 @@ held_more n m usable held = (elim (n == m) as (λ b. is_some (cond b (Some (fres
   | true ↦ refl
   | false ↦ refl
 ])
-
-pub listing_none : (frames usable pages : ℕ) → frames ≤ pages → IsListing (unchanged frames usable pages)
-listing_none frames usable pages few = record {
-  in_range = λ k less. (omega (arith, less), omega (arith, less));
-  apart = λ j k before less same. omega (arith, less);
-  named = λ n. refl;
-  filled = refl;
-  within = omega arith;
-  few = few;
-}
 
 module _ (c : Changed) (n : ℕ) (listing : IsListing c) (from : 1 ≤ n) (to : n ≤ c.pages) (fresh : is_held n c.held ≡ false) (room : length c.numbers < c.frames) where
   abbrev more : List ℕ
@@ -152,16 +142,6 @@ bytes_written n w x ps there same m =
       | false ↦ λ t. not_written n m w ps (held_page m ps) t refl
     ]) refl)
 
--- a page that is added is zeros
-pub bytes_added : (n usable : ℕ) (ps : List Page) (m : ℕ) → held_bytes m (fresh_frame n usable ∷ ps) ≡ (if m == n then Some (replicate usable 0) else held_bytes m ps)
-bytes_added n usable ps m = (elim (m == n) as (λ y. (m == n) ≡ y → held_bytes m (fresh_frame n usable ∷ ps) ≡ (if y then Some (replicate usable 0) else held_bytes m ps)) [
-  | true ↦ λ t. subst (λ k. held_bytes k (fresh_frame n usable ∷ ps) ≡ Some (replicate usable 0)) (sym (same_number m n t)) (rw (eqb-refl n) refl)
-  | false ↦ λ t. let other : (n == m) ≡ false = flipped m n t in rw other refl
-]) refl
-  where
-    flipped : (a b : ℕ) → (a == b) ≡ false → (b == a) ≡ false
-    flipped a b other = search rules
-
 -- bytes that are copied into a range of a page
 pub put_over : (at : ℕ) (src new page : List ℕ) → new ≡ src → take at page ++ (new ++ drop (at + length src - at) (drop at page)) ≡ with_bytes at src page
 put_over at src new page same =
@@ -180,10 +160,6 @@ length_over at src page within = omega (
 
 pub page_is : (n : ℕ) (x : List ℕ) (ps : List Page) → held_bytes n ps ≡ Some x → bytes_of_page n ps ≡ x
 page_is n x ps there = ap (λ (o : Option (List ℕ)). unwrap_or o []) there
-
--- all bytes of a page are replaced
-pub over_all : (src page : List ℕ) → length src ≡ length page → with_bytes 0 src page ≡ src
-over_all src page same = ap (λ (l : List ℕ). src ++ l) (drop_all (0 + length src) page (omega (arith, same))) ∙ append-nil src
 
 pub never : (o : Option (List ℕ)) → o ≡ None → is_some o ≡ true → ⊥
 never None is some = cc

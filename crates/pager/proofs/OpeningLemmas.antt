@@ -68,12 +68,6 @@ opened_by keys file first len passed is long =
     ∙ ap (λ (l : List ℕ). first_opened keys l (length file)) (sym is)
     ∙ ap (λ (n : ℕ). first_opened keys first n) (sym long)
 
--- one whose length is not served does not
-pub stopped_by_length : (keys : FileKeys) (file : List ℕ) (error : OpenError) → first_broken (length_rules keys.profile.page_size file) ≡ Some error
-    → file_opened keys file ≡ Err error
-stopped_by_length keys file error broken =
-    ap (λ (o : Option OpenError). unless o (unless (first_broken (key_rules keys file)) (with_header (length file) (file_header keys file)))) broken
-
 -- nothing is held
 pub none_held : (P : Page → Type 0) (held : List Page) → length held ≡ 0 → AllByRecursion P held
 none_held P [] none = tt

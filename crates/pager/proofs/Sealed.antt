@@ -1,5 +1,5 @@
 -- Changed pages that are sealed side by side.
-use Rattle.std.proofs.Common.{◌≡◌, ◌∙◌, ◌≤◌, ◌<◌, ◌+◌, ◌-◌, ◌*◌, ℕ, inl, inr, true, false, List, length, take, drop, IsTrue, sym, ap, subst, arith}
+use Rattle.std.proofs.Common.{◌≡◌, ◌∙◌, ◌≤◌, ◌+◌, ◌-◌, ◌*◌, ℕ, inl, inr, true, false, List, length, take, drop, IsTrue, sym, ap, subst, arith}
 use Rattle.std.specs.Prelude.{All, slice_index}
 use Rattle.std.proofs.lemmas.Bool.{cases_lt}
 use Rattle.std.proofs.lemmas.List.{drop_at, get_or_default, take-take, take_at}
@@ -10,8 +10,7 @@ use Rattle.cipher_profile.proofs.Layouts.{IsListed-laid_out}
 use Rattle.page_cache.specs.Pages.{is_held}
 use Rattle.page_codec.specs.Page.{FileKeys, accepts, opened, sealed}
 use Rattle.page_codec.specs.Pages.{nth_page, sealed_page}
-use Rattle.page_codec.proofs.PageFacts.{ends_by}
-use Rattle.pager.specs.Changed.{AreSealed, Changed, IsLaid, IsListing, IsPageSealed, draw_of, is_listed}
+use Rattle.pager.specs.Changed.{Changed, IsLaid, IsListing, IsPageSealed, draw_of, is_listed}
 use Rattle.pager.specs.Held.{bytes_of_page}
 use Rattle.pager.proofs.ChangedLemmas.{listed_at}
 
@@ -64,19 +63,3 @@ page_in_front size k many room pages is within =
     ∙ ap (drop from) (sym (take-take (from + size) many room within) ∙ ap (take (from + size)) is)
     ∙ sym (between_is pages from (from + size))
     ∙ ap (λ (n : ℕ). take n (drop from pages)) whole
-
--- all pages are sealed at the start of the room
-pub sealed_in_front : (keys : FileKeys) (c : Changed) (draws room pages : List ℕ) (count : ℕ) → take (keys.profile.page_size * count) room ≡ pages
-    → keys.profile.page_size * count ≤ length room → ((k : ℕ) → k < count → IsPageSealed keys c draws k (nth_page keys.profile.page_size pages k))
-    → AreSealed keys c draws room count
-sealed_in_front keys c draws room pages count is within each = record {
-  size = within;
-  pages = λ k less. subst (IsPageSealed keys c draws k) (sym (page_in_front keys.profile.page_size k (keys.profile.page_size * count) room pages is (ends_by keys.profile.page_size k count less))) (each k less);
-}
-
--- none is
-pub sealed_none : (keys : FileKeys) (c : Changed) (draws room : List ℕ) → AreSealed keys c draws room 0
-sealed_none keys c draws room = record {
-  size = omega arith;
-  pages = λ k less. absurd (omega (arith, less));
-}

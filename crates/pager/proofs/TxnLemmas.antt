@@ -4,14 +4,12 @@ use Rattle.std.specs.Prelude.{◌&&◌, unwrap_or, if◌then◌else◌}
 use Rattle.std.specs.Bool.{beq}
 use Rattle.std.proofs.Math.Nat.{le-mul_of_pos_right}
 use Rattle.std.proofs.lemmas.List.{take-append-le}
-use Rattle.cipher_profile.specs.Profile.{IsLaidOut, IsListed, is_plain}
+use Rattle.cipher_profile.specs.Profile.{IsListed, is_plain}
 use Rattle.cipher_profile.specs.declared.profile.Profile.{Profile}
 use Rattle.cipher_profile.proofs.Layouts.{IsListed-laid_out}
 use Rattle.db_format.specs.Count.{largest_database}
 use Rattle.page_cache.specs.Pages.{Page, held_bytes, is_held}
-use Rattle.page_codec.specs.Page.{FileKeys, magic, opened}
-use Rattle.page_codec.proofs.Parts.{begun_own}
-use Rattle.page_codec.proofs.Salt.{opened_begins}
+use Rattle.page_codec.specs.Page.{FileKeys, magic}
 use Rattle.pager.specs.Changed.{HasMagic, same_layout, with_bytes}
 use Rattle.pager.specs.Held.{bytes_of_page}
 use Rattle.pager.proofs.ChangedLemmas.{is_there, page_is}
@@ -81,10 +79,6 @@ magic_put n at src old new first there each begins = λ held. (elim (1 == n) as 
       ∙ begun
   | false ↦ λ t. magic_as old new (each 1 ∙ ap (λ (b : Bool). if b then Some (with_bytes at src (bytes_of_page n old)) else held_bytes 1 old) t) begins held
 ]) refl
-
--- page 1 of an encrypted file begins so
-pub magic_kept : (keys : FileKeys) (stored : List ℕ) → IsLaidOut keys.profile → is_plain keys.profile ≡ false → with_bytes 0 magic (opened keys 1 stored) ≡ opened keys 1 stored
-magic_kept keys stored laid_out ciphered = begun_own magic (opened keys 1 stored) (opened_begins keys stored laid_out ciphered)
 
 -- codecs with pages of one length and one reserve are both plain, or both not: an encrypted page has a reserve
 pub ciphered_alike : (read write : Profile) → IsListed read → IsListed write → write.page_size ≡ read.page_size → write.reserve ≡ read.reserve

@@ -3,16 +3,16 @@ use Rattle.std.proofs.Common.{◌≡◌, ◌≢◌, ◌⊎◌, inl, inr, ℕ, su
 use Rattle.std.specs.Prelude.{get_or, slice_index, unwrap_or}
 use Rattle.std.proofs.Math.Nat.{mul-le-mul_right}
 use Rattle.std.proofs.Math.Seq.{take-append_seam}
-use Rattle.std.proofs.lemmas.List.{take-append-drop, length-replicate, get_or-replicate}
+use Rattle.std.proofs.lemmas.List.{take-append-drop, get_or-replicate}
 use Rattle.edge_model.specs.Files.{File, Files, bytes_of as bytes_of_file, contents, main_of}
 use Rattle.journal_format.specs.Records.{Record}
 use Rattle.page_cache.specs.Pages.{Page, held_bytes, is_held}
-use Rattle.page_codec.specs.Page.{FileKeys, accepts, magic, opened}
+use Rattle.page_codec.specs.Page.{FileKeys, magic, opened}
 use Rattle.pager.specs.Changed.{Changed, IsDrawn, IsListing, IsPageSealed, is_listed, with_bytes}
 use Rattle.pager.specs.File.{page_stored}
 use Rattle.pager.specs.Held.{bytes_of_page}
 use Rattle.pager.specs.Pages.{is_page_number, opened_pages}
-use Rattle.pager.specs.UnderWay.{HasNewPages, IsUnderWay, Start, is_touched, keys_at, seen_pages, zeros}
+use Rattle.pager.specs.UnderWay.{HasNewPages, IsUnderWay, Start, is_touched, keys_at, seen_pages}
 use Rattle.pager.proofs.BatchLemmas.{Found, find, batch_pages, number_in, number_is}
 use Rattle.pager.proofs.ChangedLemmas.{is_there, listed_at, page_is}
 use Rattle.pager.proofs.Filling.{same_number}
@@ -21,7 +21,7 @@ use Rattle.rollback_journal.specs.Writing.{Writing}
 use Rattle.atomic_commit.specs.Batches.{HasBatches, HasMarked, IsBatchWritten}
 use Rattle.atomic_commit.specs.Commit.{AreChanges}
 use Rattle.atomic_commit.specs.Database.{Base, stored_page}
-use Rattle.atomic_commit.specs.Facts.{Facts, IsBase, IsCommitBegun}
+use Rattle.atomic_commit.specs.Facts.{Facts, IsCommitBegun}
 use Rattle.cipher_profile.specs.Profile.{IsLaidOut, is_plain}
 use Rattle.atomic_commit.specs.Marks.{is_marked, marked_count}
 use Rattle.atomic_commit.proofs.Batched.{none_or_some, batches_first, count_none}
@@ -266,14 +266,6 @@ seen_free read write file count n marks held b num free is =
     ∙ sym (opened_at (keys_at read write marks n) file count n num)
     ∙ sym (free_or n held _ free)
 
-pub seen_refused : (read write : FileKeys) (file : List ℕ) (count n : ℕ) (marks : List Bool) (held : List Page) (b : Bool) → is_page_number count n ≡ true → is_held n held ≡ false → is_marked n marks ≡ b
-    → accepts (if b then write else read) n (page_stored (if b then write else read) file n) ≡ false → (seen_pages read write file count marks held).accepts n ≡ false
-seen_refused read write file count n marks held b num free is not =
-    ap (λ (x : Bool). x || (opened_pages (keys_at read write marks n) file count).accepts n) free
-    ∙ ap (λ (x : Bool). x && accepts (keys_at read write marks n) n (page_stored (keys_at read write marks n) file n)) num
-    ∙ ap (λ (x : Bool). accepts (if x then write else read) n (page_stored (if x then write else read) file n)) is
-    ∙ not
-
 -- ---- one page is changed
 
 pub seen_put : (read write : FileKeys) (file : List ℕ) (count : ℕ) (marks : List Bool) (old new : List Page) (n : ℕ) (w : List ℕ) → ((m : ℕ) → held_bytes m new ≡ (if m == n then Some w else held_bytes m old)) → (m : ℕ)
@@ -395,7 +387,3 @@ same_at x m n = (elim (m == n) as (λ b. (m == n) ≡ b → (if b then x n else 
   | true ↦ λ t. ap x (sym (same_number m n t))
   | false ↦ λ t. refl
 ]) refl
-
--- a database of zeros
-pub zeros_base : (size pages : ℕ) → 0 < size → 0 < pages → IsBase (zeros size pages)
-zeros_base size pages some_size some_pages = record { size = some_size; pages = some_pages; within = omega (arith, length-replicate {A = ℕ} (pages * size) 0); whole = refl }

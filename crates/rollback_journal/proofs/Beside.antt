@@ -2,8 +2,7 @@
 use Rattle.std.proofs.Common.{◌≡◌, ◌≢◌, ◌⊎◌, inl, inr, ⊎_elim, ℕ, suc, zero, ◌+◌, ◌-◌, ◌*◌, ◌%◌, ◌<◌, ◌≤◌, true, false, List, [], ◌∷◌, ◌++◌, length, take, drop, get_or, Option, Some, None, refl, sym, ◌∙◌, ap, subst, arith}
 use Rattle.std.proofs.lemmas.List.{append-nil, get_or-drop}
 use Rattle.edge_model.specs.Files.{File, Files, bytes_of, number_of, Torn, contents}
-use Rattle.edge_model.specs.Images.{MayStep, HasSynced}
-use Rattle.edge_model.specs.declared.role.Role.TheVariants.{Journal}
+use Rattle.edge_model.specs.Images.{MayStep}
 use Rattle.journal_format.specs.Header.{is_header, has_header, initial_at}
 use Rattle.journal_format.specs.Records.{Record}
 use Rattle.journal_format.specs.Segments.{is_hot, played}
@@ -157,7 +156,3 @@ front_step front at n now new d c long low has (inr s) =
           ∙ ap (λ (l : List ℕ). take front l) (sym was)
           ∙ has.bytes;
     }
-
--- after a sync, the image has the file as it reads
-pub synced_is : (now d c : Files) → number_of c.journal ≡ number_of now.journal → HasSynced Journal now c → c.journal ≡ now.journal
-synced_is now d c number synced = synced.journal number

@@ -1,8 +1,8 @@
 -- What closing and removing a journal leaves in the images.
 use Rattle.std.proofs.Common.{◌≡◌, ◌⊎◌, inl, inr, ℕ, suc, ◌+◌, ◌-◌, Bool, true, false, ◌&&◌, nat_le, nat_lt, nat_eq, List, [], ◌∷◌, ◌++◌, length, replicate, Option, Some, None, refl, sym, ◌∙◌, ap, subst, arith}
 use Rattle.std.proofs.lemmas.List.{append-nil, ext_get_or}
-use Rattle.edge_model.specs.Files.{Files, number_of, bytes_of, written, removed, Torn, main_of}
-use Rattle.edge_model.specs.Images.{MayStep, Changes, Renames, HasSynced}
+use Rattle.edge_model.specs.Files.{Files, bytes_of, written, removed, Torn, main_of}
+use Rattle.edge_model.specs.Images.{MayStep, Changes, Renames}
 use Rattle.edge_model.specs.declared.role.Role.TheVariants.{Journal}
 use Rattle.journal_format.specs.Header.{head_at, has_header, sector_at, is_sector}
 use Rattle.journal_format.specs.Segments.{is_hot}
@@ -11,7 +11,6 @@ use Rattle.rollback_journal.specs.Playing.{journal_of}
 use Rattle.rollback_journal.specs.Closing.{IsLaidBack, IsCold}
 use Rattle.rollback_journal.proofs.Played.{either, and_first, and_second, eq_is}
 use Rattle.rollback_journal.proofs.Kept.{from_cold, to_cold, keeps_none}
-use Rattle.rollback_journal.proofs.MainSteps.{step_number}
 
 pub keeps_bytes : (size : ℕ) (d c : Files) (md jd mc jc : Option (List ℕ)) → bytes_of d.main ≡ md → bytes_of d.journal ≡ jd → bytes_of c.main ≡ mc
     → bytes_of c.journal ≡ jc → c.fresh ≡ d.fresh
@@ -37,9 +36,6 @@ torn_tail x y xs ys torn =
 -- a header begins with d9
 pub header_first : (x : ℕ) (xs : List ℕ) → has_header 0 (x ∷ xs) ≡ true → x ≡ 217
 header_first x xs has = eq_is x 217 (and_first (nat_eq x 217) _ (and_second (nat_le 28 (length (head_at 0 (x ∷ xs)))) _ has))
-
-header_nil : has_header 0 [] ≡ false
-header_nil = refl
 
 -- a torn first byte leaves the journal as it is, or with no header
 pub gate_torn : (old new : List ℕ) → has_header 0 old ≡ true → Torn 0 1 old new → has_header 0 new ≡ true → new ≡ old
@@ -128,16 +124,3 @@ drop_keeps size now d c settled cold (inr gone) =
 pub removed_settled : (now d c : Files) → IsSettled now d → Renames (removed Journal) now d c → c.main ≡ now.main
 removed_settled now d c settled (inl stays) = ap (λ (x : Files). x.main) stays ∙ settled.main
 removed_settled now d c settled (inr gone) = ap (λ (x : Files). x.main) gone.1 ∙ settled.main
-
--- a file that was synced stands in the image as it reads
-pub synced_gate : (now new d c : Files) → new.main ≡ now.main → number_of new.journal ≡ number_of now.journal → new.fresh ≡ now.fresh
-    → IsSettled now d → Changes Journal (Torn 0 1) now d c → HasSynced Journal new c → IsSettled new c
-synced_gate now new d c main journal fresh settled changes synced = record {
-  main = changes.0 ∙ settled.main ∙ sym main;
-  journal = synced.journal (step_number (Torn 0 1) now.journal d.journal c.journal changes.1 ∙ settled.names.journal ∙ sym journal);
-  names = record {
-    main = ap number_of (changes.0 ∙ settled.main ∙ sym main);
-    journal = step_number (Torn 0 1) now.journal d.journal c.journal changes.1 ∙ settled.names.journal ∙ sym journal;
-    fresh = ap number_of changes.2 ∙ settled.names.fresh ∙ sym (ap number_of fresh);
-  };
-}

@@ -1,8 +1,8 @@
 -- The writer's own journal is played back: what each image has for it, and what stands after it.
-use Rattle.std.proofs.Common.{◌≡◌, ◌≢◌, ◌⊎◌, inl, inr, ⊎_elim, ℕ, zero, suc, ◌*◌, ◌-◌, ◌<◌, ◌≤◌, List, [], length, take, Option, Some, None, refl, sym, ◌∙◌, ap, subst, arith}
+use Rattle.std.proofs.Common.{◌≡◌, ◌⊎◌, inl, inr, ℕ, zero, suc, ◌*◌, ◌-◌, ◌<◌, ◌≤◌, List, length, Option, Some, None, refl, sym, ◌∙◌, ap, subst, arith}
 use Rattle.std.proofs.Math.Nat.{mul-pos}
 use Rattle.edge_model.specs.Files.{File, Files, bytes_of, contents, main_of}
-use Rattle.journal_format.specs.Header.{initial_at, sector_at, page_size_at}
+use Rattle.journal_format.specs.Header.{initial_at, page_size_at}
 use Rattle.journal_format.specs.Records.{Record}
 use Rattle.journal_format.specs.Segments.{is_hot, names_super, played}
 use Rattle.std.specs.Prelude.{IsFalse}
@@ -49,11 +49,6 @@ begun_plays w now image left beside began stage = go stage began
         subst (λ (s : Stage). Plays w.page_size w.initial (safe_at s w (contents now)) (bytes_of image)) (sym is)
         (first w.at some (earlier_records w (contents now)) (subst (λ (s : Stage). PlaysAt s w (contents now) (bytes_of image)) is plays))
     go (inl is) (inr other) = absurd (filling_not (sym is ∙ other))
-
--- where none was, there are none
-pub unbegun_none : (w : Writing) (journal : List ℕ) → w.at ≡ 0 → w.stage ≢ Opened → (w.stage ≡ Filling) ⊎ (w.stage ≡ Opened) → safe_records w journal ≡ []
-unbegun_none w journal none not stage =
-    ⊎_elim (λ is. ap (λ (s : Stage). safe_at s w journal) is ∙ ap (λ (n : ℕ). played w.page_size (take n journal)) none) (λ is. absurd (not is)) stage
 
 module _ (w : Writing) (now : Files) (images : Files → Type 0) (stands : WriterStands w now images) (began : (0 < w.at) ⊎ (w.stage ≡ Opened)) (stage : (w.stage ≡ Filling) ⊎ (w.stage ≡ Opened)) where
   -- the database has a page
@@ -118,25 +113,3 @@ module _ (w : Writing) (now : Files) (images : Files → Type 0) (stands : Write
 
     pub now_initial : initial_at 0 (journal_of now) ≡ w.initial
     now_initial = ap (λ (j : List ℕ). initial_at 0 j) now_is ∙ now_plays.pages
-
-  pub now_sector : sector_at 0 (journal_of now) ≡ 512
-  now_sector = go stage began stands.read.is_at
-    where
-      go : (w.stage ≡ Filling) ⊎ (w.stage ≡ Opened) → (0 < w.at) ⊎ (w.stage ≡ Opened) → IsWriterAt w.stage w (contents now.journal) → sector_at 0 (journal_of now) ≡ 512
-      go (inr is) began at = let opened = subst (λ (s : Stage). IsWriterAt s w (contents now.journal)) is at in opened.first.sector
-      go (inl is) (inl some) at = let filling = subst (λ (s : Stage). IsWriterAt s w (contents now.journal)) is at in (filling.written.own some).sector
-      go (inl is) (inr other) at = absurd (filling_not (sym is ∙ other))
-
--- The journal stays, as it reads and in each image.
-pub stays_stands : (w : Writing) (now new : Files) (images after : Files → Type 0) → WriterStands w now images → images now → new.journal ≡ now.journal → ((c : Files) → after c → c.journal ≡ new.journal) → WriterStands w new after
-stays_stands w now new images after stands here same each = record {
-  read = subst (λ (f : Option File). IsLeft w f) (sym same) stands.read;
-  beside = λ c left. subst (λ (f : Option File). IsLeftBeside w f c.journal) (sym same) (subst (λ (f : Option File). IsLeftBeside w now.journal f) (sym (each c left ∙ same)) (stands.beside now here));
-}
-
--- The same, where each image comes from one with that journal.
-pub kept_stands : (w : Writing) (now new : Files) (images after : Files → Type 0) → WriterStands w now images → new.journal ≡ now.journal → ((c : Files) → after c → images c) → WriterStands w new after
-kept_stands w now new images after stands same less = record {
-  read = subst (λ (f : Option File). IsLeft w f) (sym same) stands.read;
-  beside = λ c left. subst (λ (f : Option File). IsLeftBeside w f c.journal) (sym same) (stands.beside c (less c left));
-}

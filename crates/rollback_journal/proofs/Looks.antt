@@ -40,9 +40,6 @@ sector_no false b c r = refl
 pub is_hot_by : (main journal : List ℕ) → 0 < length main → has_header 0 journal ≡ true → is_sector (sector_at 0 journal) ≡ true → is_hot main journal ≡ true
 is_hot_by main journal some head sector = all_three _ _ _ (lt_yes (length main) some) head sector
 
-pub is_cold_by : (main journal : List ℕ) → is_sector (sector_at 0 journal) ≡ false → is_hot main journal ≡ false
-is_cold_by main journal off = sector_no (nat_lt 0 (length main)) (has_header 0 journal) (is_sector (sector_at 0 journal)) off
-
 of_files : (size : ℕ) (files : Files) → HasByte (bytes_of files.main) → files.journal ≢ None
     → answer_of size (bytes_of files.main) (bytes_of files.journal) ≡ answer_of size (Some (main_of files)) (Some (journal_of files))
 of_files size files some there =
@@ -82,18 +79,6 @@ answer_taken size files b some there hot is named =
     (λ (b : Bool). if not b then Err (JournalPageSize (page_size_at 0 j)) else if names_super j then Err SuperJournal else Ok (Played (length (played size j))))
     (eq_yes (page_size_at 0 j) size is)
     ∙ ap (λ (b : Bool). if b then Err SuperJournal else Ok (Played (length (played size j)))) (sym named)
-
-pub answer_cold : (size : ℕ) (files : Files) → HasByte (bytes_of files.main) → files.journal ≢ None
-    → is_hot (main_of files) (journal_of files) ≡ false → answer_of size (bytes_of files.main) (bytes_of files.journal) ≡ Ok Cold
-answer_cold size files some there cold =
-    let main = main_of files in
-    let j = journal_of files in
-    of_files size files some there
-    ∙ ap
-    (λ (b : Bool). if b then Ok Nothing else if not (is_hot main j) then Ok Cold else if not (page_size_at 0 j == size) then Err (JournalPageSize (page_size_at 0 j)) else if names_super j then Err SuperJournal else Ok (Played (length (played size j))))
-    (zero_not (length main) (has_byte files.main some))
-    ∙ ap
-    (λ (b : Bool). if not b then Ok Cold else if not (page_size_at 0 j == size) then Err (JournalPageSize (page_size_at 0 j)) else if names_super j then Err SuperJournal else Ok (Played (length (played size j)))) cold
 
 -- two runs that only read
 pub reads_on : {D : Type 0} (images : D → Files → Type 0) {moment : D → ℕ} {since : D → ℕ → Files → Type 0} {old mid new : D}

@@ -1,16 +1,15 @@
 -- The search of the rows of a schema for a name.
-use Rattle.std.proofs.Common.{◌≡◌, ◌≤◌, ◌<◌, ◌+◌, ◌==◌, ◌&&◌, not, ℕ, ℤ, zero, suc, Bool, true, false, List, [], ◌∷◌, drop, length, Option, Some, None, Result, Ok, Err, if◌then◌else◌, refl, ap, sym, subst, ◌∙◌, arith}
+use Rattle.std.proofs.Common.{◌≡◌, ◌≤◌, ◌<◌, ◌+◌, ◌&&◌, ℕ, ℤ, suc, Bool, true, false, List, [], ◌∷◌, drop, length, Option, Some, Err, if◌then◌else◌, refl, ap, sym, subst, ◌∙◌, arith}
 use Rattle.std.specs.Prelude.{codes, slice_index_or}
 use Rattle.std.specs.List.{find}
 use Rattle.std.proofs.Math.Seq.{drop-cons}
-use Rattle.db_format.specs.Pages.{Pages, is_page}
-use Rattle.db_format.specs.Record.{columns}
+use Rattle.db_format.specs.Pages.{Pages}
 use Rattle.db_format.specs.Value.{Datum}
 use Rattle.db_format.specs.Value.Datum.{null}
 use Rattle.btree_walk.specs.declared.error.WalkError.{WalkError}
 use Rattle.btree_walk.specs.declared.error.WalkError.TheVariants.{Defect, Source, OutOfMemory}
 use Rattle.schema_map.specs.declared.schema.SchemaRow.{SchemaRow}
-use Rattle.rowid_find.specs.Table.{IsRowTried, IsTableStop, Table, at_root, is_passed, is_text, is_tried, names_table, root_found, row_found, table_of}
+use Rattle.rowid_find.specs.Table.{IsRowTried, IsTableStop, Table, is_text, is_tried, names_table, root_found, row_found, table_of}
 
 -- the first two columns
 pub two_columns : (name : List ℕ) (row : List Datum) (a b : Datum) → 2 ≤ length row → a ≡ slice_index_or row 0 null → b ≡ slice_index_or row 1 null
@@ -41,13 +40,6 @@ pub row_taken : (pages : Pages) (name : List ℕ) (row : SchemaRow) (rows : List
     → table_of pages name (row ∷ rows) ≡ root_found pages row.root
 row_taken pages name row rows is = ap (row_found pages) (taken_by (is_tried pages name row) row (find (is_tried pages name) rows) is)
 
--- a row without a tree
-zero_passed : (b c : Bool) (n : ℕ) → n ≡ 0 → (not (n == 0) && b && c) ≡ false
-zero_passed b c n is = rw is refl
-
-pub no_tree_passed : (pages : Pages) (name : List ℕ) (row : SchemaRow) → row.root ≡ 0 → is_tried pages name row ≡ false
-no_tree_passed pages name row is = zero_passed (names_table name (columns row.payload)) (not (is_passed pages row.root)) row.root is
-
 -- what one row came to, as what the search came to
 pub row_stops : {R : Type 0} (refuses : Pages → ℕ → R → Type 0) (pages : Pages) (name : List ℕ) (row : SchemaRow) (rows : List SchemaRow) (error : WalkError R)
     → IsRowTried refuses pages name row (Err error) → IsTableStop refuses pages (table_of pages name (row ∷ rows)) error
@@ -68,10 +60,6 @@ at_row rows i row less is =
     let e : suc i ≡ i + 1 = omega arith in
     drop-cons rows i row less ∙ ap (λ r. r ∷ drop (suc i) rows) (sym is) ∙ ap (λ k. row ∷ drop k rows) e
 
--- a row as it is passed on, with its payload lent
-pub lent_row : (row : SchemaRow) (lent : List ℕ) → lent ≡ row.payload → record { rowid = row.rowid; root = row.root; payload = lent } ≡ row
-lent_row row lent is = ap (λ (bytes : List ℕ). record { rowid = row.rowid; root = row.root; payload = bytes }) is
-
 module _ (pages : Pages) (name : List ℕ) (rows : List SchemaRow) (i : ℕ) (row : SchemaRow) (less : i < length rows) (is : row ≡ slice_index_or rows i row)
     (on : table_of pages name (drop i rows) ≡ table_of pages name rows) where
   here : table_of pages name (row ∷ drop (i + 1) rows) ≡ table_of pages name rows
@@ -79,9 +67,6 @@ module _ (pages : Pages) (name : List ℕ) (rows : List SchemaRow) (i : ℕ) (ro
 
   pub goes_on : is_tried pages name row ≡ false → table_of pages name (drop (i + 1) rows) ≡ table_of pages name rows
   goes_on passed = sym (row_passed pages name row (drop (i + 1) rows) passed) ∙ here
-
-  pub takes_row : (is_tried pages name row ≡ true) × (root_found pages row.root ≡ at_root row.root) → table_of pages name rows ≡ at_root row.root
-  takes_row both = sym here ∙ row_taken pages name row (drop (i + 1) rows) both.0 ∙ both.1
 
   pub stops_at : {R : Type 0} (refuses : Pages → ℕ → R → Type 0) (error : WalkError R) → IsRowTried refuses pages name row (Err error)
       → IsTableStop refuses pages (table_of pages name rows) error

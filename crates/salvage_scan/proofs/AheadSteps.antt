@@ -1,21 +1,11 @@
 -- Pages ahead while the disk is only read.
-use Rattle.std.proofs.Common.{◌≡◌, ◌≤◌, ◌*◌, ◌++◌, ℕ, Bool, List, length, take, drop, arith, ap, sym, subst, ◌∙◌}
+use Rattle.std.proofs.Common.{◌≡◌, ◌≤◌, ◌*◌, ◌++◌, ℕ, List, length, take, drop, ap, sym, subst, ◌∙◌}
 use Rattle.std.proofs.Math.Seq.{take-append_seam}
-use Rattle.std.specs.Prelude.{IsTrue}
 use Rattle.edge_model.specs.Files.{Files, main_of}
 use Rattle.page_codec.specs.Page.{FileKeys}
 use Rattle.pager.specs.Ahead.{IsAhead}
 use Rattle.salvage_scan.specs.Ahead.{AreAhead}
 use Rattle.salvage_scan.specs.declared.ahead.PagesAhead.{PagesAhead}
-
--- no page is there
-pub none_ahead : (keys : FileKeys) (file : List ℕ) (ahead : PagesAhead) → ahead.window.count ≡ 0 → ahead.last * keys.profile.page_size ≤ length file → AreAhead keys file ahead
-none_ahead keys file ahead none last = record { opened = λ i less held. absurd (omega (arith, less, none)); last = last }
-
--- what is ahead stays
-pub ahead_stays : (tells : Bool) (keys : FileKeys) (old new : Files) (ahead : PagesAhead) → (IsTrue tells → new ≡ old)
-    → (IsTrue tells → AreAhead keys (main_of old) ahead) → IsTrue tells → AreAhead keys (main_of new) ahead
-ahead_stays tells keys old new ahead same are told = subst (λ (files : Files). AreAhead keys (main_of files) ahead) (sym (same told)) (are told)
 
 -- these bytes behind a loan of a buffer of as many
 pub lent_back : (len : ℕ) (new old : List ℕ) → length new ≡ len → take len (new ++ drop (length new) old) ≡ new

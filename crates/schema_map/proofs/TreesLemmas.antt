@@ -159,15 +159,6 @@ pub record IsPassing {R : Type 0} (refuses : Pages → ℕ → R → Type 0) (pa
   pub few : rows + 2 ^ 21 * open_count seen ≤ 2 ^ 21 * open_count old
 
 module _ {R : Type 0} (refuses : Pages → ℕ → R → Type 0) (pages : Pages) where
-  pub passing_none : (all : List (List Finding)) (seen : List Bool) → IsPassing refuses pages all all seen seen 0 0
-  passing_none all seen =
-      record {
-        found = λ new n m h. let e : 0 + n ≡ n = omega arith in let f : 0 + m ≡ m = omega arith in rw (e, f) h;
-        stop = λ error h. h;
-        fewer = omega arith;
-        few = omega arith;
-      }
-
   -- one part more
   pub passing_on : (all : List (List Finding)) (part : List Finding) (rest : List (List Finding)) (old seen later : List Bool) (count rows more : ℕ)
       → IsPassing refuses pages all (part ∷ rest) old seen count rows → IsSound part seen later more → 1 + open_pages later ≤ open_pages seen
@@ -195,13 +186,6 @@ module _ {R : Type 0} (refuses : Pages → ℕ → R → Type 0) (pages : Pages)
       (at.found seen 0 0 (record { sound = refl; marks = refl; counted = refl; given = refl; fewer = omega arith; few = omega arith })))
 
 -- ---- the rows of the schema
-
--- the row at this index has no tree, or its tree is the next part
-pub roots_skip : (rows : List SchemaRow) (i : ℕ) (row : SchemaRow) → i < length rows → row ≡ slice_index_or rows i row → row.root ≡ 0 → tree_roots (drop i rows) ≡ tree_roots (drop (i + 1) rows)
-roots_skip rows i row less is none =
-    let e : suc i ≡ i + 1 = omega arith in
-    let split : drop i rows ≡ row ∷ drop (i + 1) rows = drop-cons rows i row less ∙ ap (λ r. r ∷ drop (suc i) rows) (sym is) ∙ ap (λ k. row ∷ drop k rows) e in
-    ap tree_roots split ∙ ap (λ n. (if n == 0 then [] else n ∷ []) ++ tree_roots (drop (i + 1) rows)) none
 
 pub roots_next : (rows : List SchemaRow) (i : ℕ) (row : SchemaRow) → i < length rows → row ≡ slice_index_or rows i row → (row.root ≡ 0 → ⊥)
     → tree_roots (drop i rows) ≡ row.root ∷ tree_roots (drop (i + 1) rows)

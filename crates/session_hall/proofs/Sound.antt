@@ -17,7 +17,7 @@ use Rattle.session_hall.specs.Key.{Access, codec_of}
 use Rattle.edge_model.specs.Images.{LeavesOnly}
 use Rattle.edge_model.specs.Moments.{goes_less, started}
 use Rattle.session_hall.specs.Faults.{is_fault_answer}
-use Rattle.session_hall.specs.Kept.{AreAllClosed, AreSessionsSound, IsHallSettled, IsSessionSound, StandsAsRead}
+use Rattle.session_hall.specs.Kept.{AreSessionsSound, IsHallSettled, IsSessionSound, StandsAsRead}
 use Rattle.session_hall.specs.Locks.{is_holding, is_reserved, is_writing}
 use Rattle.session_hall.specs.Commit.{IsUp}
 use Rattle.session_hall.specs.Machine.{ChangesByte, Commits, Opens, Reads, Rekeys, Releases, Reserves, Shares, SeesUpTo, HallState, Steps, Stops, changing, committed, else_page, is_content, is_sealed, may_be_under, may_change, opened_by, counted_pages, released, seen_page, sharing, unlocked}
@@ -441,11 +441,6 @@ read_settled {reads = reads} {images = images} {old = old} {new = new} read sett
       alone = settled.alone;
     })
 
--- nor one that was not called
-pub untouched_settled : {D : Type 0} (reads : D → Files) (images : D → Files → Type 0) (old new : D)
-    → new ≡ old → IsHallSettled (reads old) (images old) → IsHallSettled (reads new) (images new)
-untouched_settled reads images old new same settled = subst (λ (d : _). IsHallSettled (reads d) (images d)) (sym same) settled
-
 -- ---- moments
 
 -- a step that only reads leaves the images as they stood
@@ -463,12 +458,6 @@ still_leaves reads images moment since only_now old new settled same =
     subst (λ (d : _). LeavesOnly moment since old d (StandsAsRead (reads old))) (sym same) (started only_now old (StandsAsRead (reads old)) settled.stands)
 
 -- ---- the start
-
-pub closed_sound : (file : List ℕ) (xs : List Session) → AreAllClosed xs → AreSessionsSound file xs
-closed_sound file xs closed = record {
-  each = λ k less. clean_session file (session_at xs k) (λ h. absurd (never (ap is_holding (sym (closed k less).lock) ∙ h))) (closed k less).changes (closed k less).new_access;
-  one = λ j k one two first next. absurd (never (ap is_writing (sym (closed j one).lock) ∙ first));
-}
 
 -- an answer that is no fault leaves the hall up
 pub up_of : (answer : Answer) → is_fault_answer answer ≡ false → IsUp answer

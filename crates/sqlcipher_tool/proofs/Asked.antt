@@ -60,17 +60,6 @@ pub no_draws : (command other : Command) → command ≡ other → ((secrets : L
 no_draws command other is none gave file drawn = λ secrets has.
     subst (λ (r : Option Renewal). IsDrawnFor command r file drawn) (sym (ap (λ (c : Command). renewal c secrets) is ∙ none secrets)) tt
 
--- what holds of a command holds of the same one
-pub changes_as : (status : Status) (command other : Command) (gave : List Secret → Type 0) (tells : Bool) (drawn : List ℕ) (run : DiskRun) → command ≡ other
-    → ChangesBy status other gave tells drawn run → ChangesBy status command gave tells drawn run
-changes_as status command other gave tells drawn run is was = subst (λ (c : Command). ChangesBy status c gave tells drawn run) (sym is) was
-
-pub draws_as : (command other : Command) (gave : List Secret → Type 0) (file drawn : List ℕ) → command ≡ other → DrewOwn other gave file drawn → DrewOwn command gave file drawn
-draws_as command other gave file drawn is was = subst (λ (c : Command). DrewOwn c gave file drawn) (sym is) was
-
-pub causes_as : (status : Status) (command other : Command) (a b d e f g : ℕ) → command ≡ other → HasDrawnCauses status (alters other) a b d e f g → HasDrawnCauses status (alters command) a b d e f g
-causes_as status command other a b d e f g is was = subst (λ (c : Command). HasDrawnCauses status (alters c) a b d e f g) (sym is) was
-
 -- the causes of a command that draws nothing
 pub undrawn : (status : Status) (draws : Bool) (a b d e f g : ℕ) → HasCauses status a b d e → g ≡ f → HasDrawnCauses status draws a b d e f g
 undrawn status draws a b d e f g causes same = record {

@@ -7,10 +7,6 @@ use Rattle.page_codec.specs.Page.{FileKeys, accepts, stored_page}
 use Rattle.page_codec.specs.Pages.{nth_page}
 use Rattle.sqlcipher_tool.specs.Tags.{AreKnown, refused_page, refused_unless}
 
--- at first nothing is known
-pub none_known : (keys : FileKeys) (held : List Bool) (main : List ℕ) → AreKnown keys 0 0 held main
-none_known keys held main n from to = absurd (omega arith)
-
 -- a page of a batch that was read is the page of the file
 pub page_of_batch : (size start count n : ℕ) (new main : List ℕ) → start ≤ n → n < start + count
     → new ≡ take (count * size) (drop (start * size) main) → nth_page size new (n - start) ≡ stored_page size (n + 1) main

@@ -35,17 +35,6 @@ pub both_ok : {T E A B C : Type 0} (r : Result T E) → OnOk r A → OnOk r B �
 both_ok (Ok x) a b other = other a b
 both_ok (Err e) a b other = a
 
--- Done came, so it was due
-pub walked_if : (pages : Pages) (status : Status) (tells : _) (before after : List ℕ) → status ≡ Done → AnswersOne (pages_answers pages) status tells before after → IsWalked pages
-walked_if pages status tells before after is one = record {
-  answer = one.answer;
-  is_due = one.is_due;
-  done = ⊎_elim (λ same. sym same ∙ is) (λ fault. absurd (subst IsFault is fault)) one.answered;
-}
-
-pub no_rise : Rose 0 0 → ⊥
-no_rise rose = omega (arith, rose)
-
 -- a file that opens where marks pass, and was checked
 pub laid_if : (profile : Profile) (secret : Secret) (file : List ℕ) (header : Header) (n : ℕ) → 1 ≤ n
     → opened_with (with_log profile) secret file ≡ Ok (record { header = header; count = n }) → IsChecked (opened_pages (keys_of (with_log profile) secret file) file n) → CanBeLaid profile secret file

@@ -49,9 +49,6 @@ use Rattle.sqlcipher_tool.proofs.Verified.{among_pages, among_stops, some_is}
 pub passed : {X : Type 0} (f : ℤ → ℤ → X) (a b : ℤ) → SFits w64 a → SFits w64 b → f (to_z w64 (of_z w64 a)) (to_z w64 (of_z w64 b)) ≡ f a b
 passed f a b p q = ap (λ (z : ℤ). f z (to_z w64 (of_z w64 b))) (to_z-of_z w64 a p) ∙ ap (λ (z : ℤ). f a z) (to_z-of_z w64 b q)
 
-pub of_same : {T X : Type 0} (a b : T) → a ≡ b → (f : T → X) → f a ≡ f b
-of_same a b same f = ap f same
-
 -- ---- the first findings, and what comes next
 
 abbrev text_of : List Finding → List ℕ

@@ -134,10 +134,6 @@ pub accepts_set : (passes : Bool) (keys : FileKeys) (n : ℕ) (stored : List ℕ
 unfolding accepts
 accepts_set passes keys n stored = refl
 
--- a profile is the one with its own setting
-pub set_own : (profile : Profile) → set_log profile.reads_log profile ≡ profile
-set_own profile = refl
-
 pub fits_set : (passes : Bool) (keys : FileKeys) (first : List ℕ) → fits (keys_set passes keys) first ≡ fits keys first
 unfolding accepts opened deciphered
 fits_set passes keys first = refl

@@ -1,24 +1,15 @@
 -- Calls that only read, before and after one that does not.
 use Rattle.std.proofs.Common.{inl, inr, ⊎_elim, ℕ, ◌≤◌, arith}
 use Rattle.edge_model.specs.Files.{Files}
-use Rattle.edge_model.specs.Images.{Each, Follows, SameImages, Passes}
+use Rattle.edge_model.specs.Images.{Follows, SameImages, Passes}
 
 pub same_then : {a b c : Files → Type 0} → SameImages a b → SameImages b c → SameImages a c
 same_then first next = record { no_more = λ f now. first.no_more f (next.no_more f now); no_fewer = λ f was. next.no_fewer f (first.no_fewer f was) }
 
-pub same_all : {a : Files → Type 0} → SameImages a a
-same_all = record { no_more = λ f now. now; no_fewer = λ f was. was }
-
 pub follows_same : {step : Files → Files → Type 0} {a b c : Files → Type 0} → SameImages a b → Follows step b c → Follows step a c
 follows_same same follows f left = let from = follows f left in (from.0, same.no_more from.0 from.1, from.2)
 
-pub each_same : {P : Files → Type 0} {a b : Files → Type 0} → SameImages a b → Each a P → Each b P
-each_same same each f now = each f (same.no_more f now)
-
 module _ {D : Type 0} {images : D → Files → Type 0} {moment : D → ℕ} {since : D → ℕ → Files → Type 0} where
-  pub passes_none : (a : D) → Passes images moment since a a
-  passes_none a = record { later = omega arith; nothing_else = λ t c le left. inl left; keeps = λ t c le left. left }
-
   -- calls that only read, and then any
   pub passes_then : (counts_now : (disk : D) (t : ℕ) (c : Files) → t ≤ moment disk → images disk c → since disk t c) {a b c : D}
       → SameImages (images a) (images b) → Passes images moment since a b → Passes images moment since b c → Passes images moment since a c
@@ -26,17 +17,6 @@ module _ {D : Type 0} {images : D → Files → Type 0} {moment : D → ℕ} {si
     later = omega (arith, first.later, next.later);
     nothing_else = λ t f le left.
         ⊎_elim (λ was. ⊎_elim (λ old. inl old) (λ mid. inl (counts_now a t f le (same.no_more f mid))) (first.nothing_else t f le was)) (λ new. inr new)
-        (next.nothing_else t f (omega (arith, le, first.later)) left);
-    keeps = λ t f le left. next.keeps t f (omega (arith, le, first.later)) (first.keeps t f le left);
-  }
-
-  -- any call, and then some that only read
-  pub then_passes : {a b c : D} → Passes images moment since a b → SameImages (images b) (images c) → Passes images moment since b c
-      → Passes images moment since a c
-  then_passes {a} {b} {c} first same next = record {
-    later = omega (arith, first.later, next.later);
-    nothing_else = λ t f le left.
-        ⊎_elim (λ was. ⊎_elim (λ old. inl old) (λ mid. inr (same.no_fewer f mid)) (first.nothing_else t f le was)) (λ new. inr new)
         (next.nothing_else t f (omega (arith, le, first.later)) left);
     keeps = λ t f le left. next.keeps t f (omega (arith, le, first.later)) (first.keeps t f le left);
   }

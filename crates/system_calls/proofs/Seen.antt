@@ -1,10 +1,10 @@
 -- What the calls of a system are as steps of three files.
 use Rattle.std.proofs.Common.{◌≡◌, inl, inr, ⊎_elim, ℕ, ◌<◌, List, [], Option, Some, None, refl, sym, ◌∙◌, ap, subst, arith, rules, Result, Ok, Err, OnOk, OnErr, IfOk, IsErr, is_ok, Bool, true, false}
-use Rattle.edge_model.specs.Files.{File, Files, file_at, put_at, with_file_bytes, bytes_of, number_of, contents, created, removed, renamed}
-use Rattle.edge_model.specs.Images.{MayStep, Changes, Renames, IsAsRead, HasSynced, SameNames, AreApart, IsNumbered, Each, Follows, SameImages}
+use Rattle.edge_model.specs.Files.{File, Files, file_at, put_at, with_file_bytes, bytes_of, number_of, contents, created, removed}
+use Rattle.edge_model.specs.Images.{MayStep, Changes, Renames, SameNames, AreApart, IsNumbered, Each, Follows, SameImages}
 use Rattle.edge_model.specs.declared.role.Role.{Role}
 use Rattle.edge_model.specs.declared.role.Role.TheVariants.{Main, Journal, Fresh}
-use Rattle.system_calls.specs.System.{Names, name_at, System, file_of, seen, opened, opening, closing, moving, naming, making, renaming, OneStep, Becomes, FileSteps, FileSynced, IsNamed, IsHome, IsAt}
+use Rattle.system_calls.specs.System.{Names, name_at, System, file_of, seen, opened, opening, closing, naming, making, OneStep, Becomes, FileSteps, IsNamed, IsHome, IsAt}
 
 pub some_is : {k n : ℕ} → Some k ≡ Some n → k ≡ n
 some_is is = cc
@@ -136,24 +136,12 @@ image_changes step Fresh n s d c at home took =
       subst (λ (f : Option File). MayStep step f d.fresh c.fresh) same took.2,
     )
 
-pub image_synced : (role : Role) (n : ℕ) (s : System) (c : Files) → IsAt role n s → FileSynced (opened s role) c → HasSynced role (seen s) c
-image_synced role n s c at synced =
-    let same = opened_seen role n s at in
-    record {
-      main = subst (λ (f : Option File). IsAsRead f c.main) same synced.main;
-      journal = subst (λ (f : Option File). IsAsRead f c.journal) same synced.journal;
-      fresh = subst (λ (f : Option File). IsAsRead f c.fresh) same synced.fresh;
-    }
-
 -- ---- names
 
 pub removed_seen : (role : Role) (s : System) → seen (naming role None s) ≡ removed role (seen s)
 removed_seen Main s = refl
 removed_seen Journal s = refl
 removed_seen Fresh s = refl
-
-pub renamed_seen : (s : System) → seen (renaming s) ≡ renamed (seen s)
-renamed_seen s = refl
 
 created_file : (held : ℕ → List ℕ) (next : ℕ) → held next ≡ [] → file_of held (Some next) ≡ Some (record { number = next; bytes = [] })
 created_file held next empty = ap (λ (l : List ℕ). Some (record { number = next; bytes = l })) empty
@@ -167,12 +155,6 @@ pub made_seen : (role : Role) (next : ℕ) (s : System) → s.held next ≡ [] �
 made_seen Main next s empty = created_seen Main next s empty
 made_seen Journal next s empty = created_seen Journal next s empty
 made_seen Fresh next s empty = created_seen Fresh next s empty
-
-pub seen_opening : (role : Role) (s : System) → seen (opening role s) ≡ seen s
-seen_opening role s = refl
-
-pub seen_closing : (role : Role) (s : System) → seen (closing role s) ≡ seen s
-seen_closing role s = refl
 
 -- ---- what is open is what its name leads to
 
@@ -196,17 +178,6 @@ named_made Main next s named = record { main = λ n is. is; journal = named.jour
 named_made Journal next s named = record { main = named.main; journal = λ n is. is; fresh = named.fresh }
 named_made Fresh next s named = record { main = named.main; journal = named.journal; fresh = λ n is. is }
 
-pub named_renamed : (s : System) → IsNamed s → IsNamed (moving (renaming s))
-named_renamed s named = record { main = λ n is. named.fresh n is; journal = named.journal; fresh = λ n is. cc }
-
-pub named_step : {step : List ℕ → List ℕ → Type 0} (role : Role) (s new : System) → OneStep step role s new → IsNamed s → IsNamed new
-named_step role s new took named =
-    record {
-      main = λ n is. ap (λ (k : Names). k.main) took.names ∙ named.main n (sym (ap (λ (k : Names). k.main) took.places) ∙ is);
-      journal = λ n is. ap (λ (k : Names). k.journal) took.names ∙ named.journal n (sym (ap (λ (k : Names). k.journal) took.places) ∙ is);
-      fresh = λ n is. ap (λ (k : Names). k.fresh) took.names ∙ named.fresh n (sym (ap (λ (k : Names). k.fresh) took.places) ∙ is);
-    }
-
 pub named_at : (role : Role) (n : ℕ) (s : System) → IsNamed s → name_at s.places role ≡ Some n → IsAt role n s
 named_at Main n s named is = (is, named.main n is)
 named_at Journal n s named is = (is, named.journal n is)
@@ -219,14 +190,6 @@ opened_at Fresh n s is = (is, is)
 
 -- ---- files keep their names in the images
 
-pub names_step : {step : List ℕ → List ℕ → Type 0} (role : Role) (s new : System) → OneStep step role s new → SameNames (seen s) (seen new)
-names_step role s new took =
-    record {
-      main = number_is new.held new.names.main ∙ ap (λ (k : Names). k.main) took.names ∙ sym (number_is s.held s.names.main);
-      journal = number_is new.held new.names.journal ∙ ap (λ (k : Names). k.journal) took.names ∙ sym (number_is s.held s.names.journal);
-      fresh = number_is new.held new.names.fresh ∙ ap (λ (k : Names). k.fresh) took.names ∙ sym (number_is s.held s.names.fresh);
-    }
-
 -- a step keeps the numbers
 step_number : {step : List ℕ → List ℕ → Type 0} {now old new : Option File} → MayStep step now old new → number_of new ≡ number_of old
 step_number (inl same) = ap number_of same
@@ -236,23 +199,6 @@ changes_names : (step : List ℕ → List ℕ → Type 0) (role : Role) (now d c
 changes_names step Main now d c changes = record { main = step_number changes.0; journal = ap number_of changes.1; fresh = step_number changes.2 }
 changes_names step Journal now d c changes = record { main = ap number_of changes.0; journal = step_number changes.1; fresh = ap number_of changes.2 }
 changes_names step Fresh now d c changes = record { main = ap number_of changes.0; journal = ap number_of changes.1; fresh = step_number changes.2 }
-
-pub home_names : (now after d c : Files) → SameNames now after → SameNames d c → IsHome now d → IsHome after c
-home_names now after d c mine its home =
-    record {
-      main_journal = λ n is too. home.main_journal n (sym mine.main ∙ is) (sym its.journal ∙ too);
-      journal_main = λ n is too. home.journal_main n (sym mine.journal ∙ is) (sym its.main ∙ too);
-      journal_fresh = λ n is too. home.journal_fresh n (sym mine.journal ∙ is) (sym its.fresh ∙ too);
-      fresh_main = λ n is too. home.fresh_main n (sym mine.fresh ∙ is) (sym its.main ∙ too);
-      fresh_journal = λ n is too. home.fresh_journal n (sym mine.fresh ∙ is) (sym its.journal ∙ too);
-    }
-
-pub home_changes : (step : List ℕ → List ℕ → Type 0) (role : Role) (n : ℕ) (s new : System) (old after : Files → Type 0) → IsAt role n s
-    → Each old (IsHome (seen s)) → OneStep step role s new → Follows (FileSteps step (opened s role)) old after → Each after (IsHome (seen new))
-home_changes step role n s new old after at home took follows c left =
-    let from = follows c left in
-    let changes = image_changes step role n s from.0 c at (home from.0 from.1) from.2 in
-    home_names (seen s) (seen new) from.0 c (names_step role s new took) (changes_names step role (seen s) from.0 c changes) (home from.0 from.1)
 
 pub home_removed : (role : Role) (now d : Files) → IsHome now d → IsHome (removed role now) d
 home_removed Main now d home = record { main_journal = λ n is too. cc; journal_main = home.journal_main; journal_fresh = home.journal_fresh; fresh_main = home.fresh_main; fresh_journal = home.fresh_journal }
@@ -270,18 +216,6 @@ home_remove role now old after home follows c left =
     let from = follows c left in
     ⊎_elim (λ same. subst (IsHome (removed role now)) (sym same) (home_removed role now from.0 (home from.0 from.1)))
     (λ done. subst (IsHome (removed role now)) (sym done.1) (home_removed_too role now from.0 (home from.0 from.1))) from.2
-
-home_renamed : (now d : Files) → IsHome now d → IsHome (renamed now) d
-home_renamed now d home = record { main_journal = home.fresh_journal; journal_main = home.journal_main; journal_fresh = home.journal_fresh; fresh_main = λ n is too. cc; fresh_journal = λ n is too. cc }
-
-home_renamed_too : (now d : Files) → IsHome now d → IsHome (renamed now) (renamed d)
-home_renamed_too now d home = record { main_journal = home.fresh_journal; journal_main = home.journal_fresh; journal_fresh = λ n is too. cc; fresh_main = λ n is too. cc; fresh_journal = λ n is too. cc }
-
-pub home_rename : (now : Files) (old after : Files → Type 0) → Each old (IsHome now) → Follows (Renames renamed now) old after → Each after (IsHome (renamed now))
-home_rename now old after home follows c left =
-    let from = follows c left in
-    ⊎_elim (λ same. subst (IsHome (renamed now)) (sym same) (home_renamed now from.0 (home from.0 from.1)))
-    (λ done. subst (IsHome (renamed now)) (sym done.1) (home_renamed_too now from.0 (home from.0 from.1))) from.2
 
 -- a new file is apart from all others
 new_apart : (next : ℕ) (other : Option File) → ((n : ℕ) → number_of other ≡ Some n → n < next) → AreApart (Some (record { number = next; bytes = [] })) other

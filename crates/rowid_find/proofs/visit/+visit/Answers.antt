@@ -65,6 +65,9 @@ returns-in-Err-open-clause-on g t c told =
 
 pub steps-init : goal.steps-init
 steps-init g t c =
+    let pages = g.S.PageSource.plain c.args.source.now.source.now in
+    let before : State = record { taken = g.K.Sink.taken c.args.out.now; waits = c.args.found.now.line; rows = c.args.found.now.rows; reads = c.args.source.now.reads; marks = marked c.args.found.now.seen } in
+    let before_2 : State = record { taken = g.K.Sink.taken c.args.out.now; waits = c.args.found.now.line; rows = c.args.found.now.rows; reads = c.copy_page.new.source.reads; marks = marked c.copy_page.new.seen } in
     record {
       reads = c.in-Ok.ensures.reads.0;
       same = c.in-Ok.ensures.reads.1;
@@ -74,37 +77,44 @@ steps-init g t c =
       seen = c.in-Ok.ensures.length;
       once = c.in-Ok.ensures.once;
       on = λ told.
-          so_far_back g.K.Sink.tells (g.S.PageSource.plain c.args.source.now.source.now) c.args.low c.args.high c.args.left c.args.n c.new-wanted.result (record { taken = g.K.Sink.taken c.args.out.now; waits = c.args.found.now.line; rows = c.args.found.now.rows; reads = c.args.source.now.reads; marks = marked c.args.found.now.seen }) (record { taken = g.K.Sink.taken c.args.out.now; waits = c.args.found.now.line; rows = c.args.found.now.rows; reads = c.copy_page.new.source.reads; marks = marked c.copy_page.new.seen }) c.ranges.low c.ranges.high
-          (subst (λ l. IsSoFar g.K.Sink.tells (reach (g.S.PageSource.plain c.args.source.now.source.now) c.args.low c.args.high c.args.left c.args.n) (all_steps (g.S.PageSource.plain c.args.source.now.source.now) (reach (g.S.PageSource.plain c.args.source.now.source.now) c.args.low c.args.high (c.args.left - 1)) c.args.n l) (record { taken = g.K.Sink.taken c.args.out.now; waits = c.args.found.now.line; rows = c.args.found.now.rows; reads = c.args.source.now.reads; marks = marked c.args.found.now.seen })
-          (record { taken = g.K.Sink.taken c.args.out.now; waits = c.args.found.now.line; rows = c.args.found.now.rows; reads = c.copy_page.new.source.reads; marks = marked c.copy_page.new.seen }))
+          so_far_back g.K.Sink.tells pages c.args.low c.args.high c.args.left c.args.n c.new-wanted.result before before_2 c.ranges.low c.ranges.high
+          (subst (λ l. IsSoFar g.K.Sink.tells (reach pages c.args.low c.args.high c.args.left c.args.n) (all_steps pages (reach pages c.args.low c.args.high (c.args.left - 1)) c.args.n l) before
+          before_2)
           (sym (c.new-wanted.ensures ∙ passed2 (λ a b. wanted a b c.in-Ok-open.page.cells c.in-Ok-open.page.right) c.args.low c.args.high c.ranges.low c.ranges.high))
-          (page_opened (g.S.PageSource.plain c.args.source.now.source.now) c.args.low c.args.high g.K.Sink.tells (record { taken = g.K.Sink.taken c.args.out.now; waits = c.args.found.now.line; rows = c.args.found.now.rows; reads = c.args.source.now.reads; marks = marked c.args.found.now.seen }) c.args.n c.args.left c.if-left-eq0.false (record { reads = c.copy_page.new.source.reads; marks = marked c.copy_page.new.seen }) c.in-Ok.ensures.counted c.in-Ok.ensures.fresh c.in-Ok.ensures.marks (c.in-Ok.ensures.accepted told) c.in-Ok-open.page
+          (page_opened pages c.args.low c.args.high g.K.Sink.tells before c.args.n c.args.left c.if-left-eq0.false (record { reads = c.copy_page.new.source.reads; marks = marked c.copy_page.new.seen }) c.in-Ok.ensures.counted c.in-Ok.ensures.fresh c.in-Ok.ensures.marks (c.in-Ok.ensures.accepted told) c.in-Ok-open.page
           (ap (read_node Table c.args.n) (sym (c.as_slice.ensures.value ∙ c.in-Ok.ensures.told told)) ∙ sym c.open.ensures ∙ c.in-Ok-open.is)));
     }
 
 pub returns-then-not-is_in_range-clause-on : goal.returns-then-not-is_in_range-clause-on
 returns-then-not-is_in_range-clause-on g t c told =
-    let count : (g.S.PageSource.plain c.steps.source.source.now).count ≡ (g.S.PageSource.plain c.args.source.now.source.now).count =
+    let pages = g.S.PageSource.plain c.args.source.now.source.now in
+    let before : State = record { taken = g.K.Sink.taken c.args.out.now; waits = c.args.found.now.line; rows = c.args.found.now.rows; reads = c.args.source.now.reads; marks = marked c.args.found.now.seen } in
+    let so_far : State = record { taken = g.K.Sink.taken c.steps.out; waits = c.steps.found.line; rows = c.steps.found.rows; reads = c.steps.source.reads; marks = marked c.steps.found.seen } in
+    let count : (g.S.PageSource.plain c.steps.source.source.now).count ≡ pages.count =
     g.met.S.PageSource.same_count c.args.source.now.source.now c.steps.source.source.now c.steps.invariant.reads in
     let gives = c.in-Some-Child.ensures.gives in
     let is : c.steps.wanted ≡ child c.in-Some-Child.child ∷ c.next.new.self =
     next_is c.steps.wanted c.next.new.self (child c.in-Some-Child.child) gives.0 (sym (ap step_shown c.in-Some-Child.field-0-is) ∙ gives.1) gives.2 in
-    at_no_child (g.S.PageSource.plain c.args.source.now.source.now) (reach (g.S.PageSource.plain c.args.source.now.source.now) c.args.low c.args.high (c.args.left - 1)) c.args.n g.K.Sink.tells (reach (g.S.PageSource.plain c.args.source.now.source.now) c.args.low c.args.high c.args.left c.args.n) (record { taken = g.K.Sink.taken c.args.out.now; waits = c.args.found.now.line; rows = c.args.found.now.rows; reads = c.args.source.now.reads; marks = marked c.args.found.now.seen }) (record { taken = g.K.Sink.taken c.steps.out; waits = c.steps.found.line; rows = c.steps.found.rows; reads = c.steps.source.reads; marks = marked c.steps.found.seen }) c.steps.wanted c.next.new.self g.S.PageSource.refuses c.in-Some-Child.child (so_far_as g.K.Sink.tells (g.S.PageSource.plain c.args.source.now.source.now) c.args.low c.args.high c.args.left c.args.n c.steps.wanted (record { taken = g.K.Sink.taken c.args.out.now; waits = c.args.found.now.line; rows = c.args.found.now.rows; reads = c.args.source.now.reads; marks = marked c.args.found.now.seen }) (record { taken = g.K.Sink.taken c.steps.out; waits = c.steps.found.line; rows = c.steps.found.rows; reads = c.steps.source.reads; marks = marked c.steps.found.seen }) c.ranges.low c.ranges.high (c.steps.invariant.on told)) is (sym (c.if-not-is_in_range.ensures.value (g.S.PageSource.plain c.args.source.now.source.now) (sym (c.steps.invariant.count ∙ count))))
+    at_no_child pages (reach pages c.args.low c.args.high (c.args.left - 1)) c.args.n g.K.Sink.tells (reach pages c.args.low c.args.high c.args.left c.args.n) before so_far c.steps.wanted c.next.new.self g.S.PageSource.refuses c.in-Some-Child.child (so_far_as g.K.Sink.tells pages c.args.low c.args.high c.args.left c.args.n c.steps.wanted before so_far c.ranges.low c.ranges.high (c.steps.invariant.on told)) is (sym (c.if-not-is_in_range.ensures.value pages (sym (c.steps.invariant.count ∙ count))))
 
 pub returns-in-Err-visit-clause-on : goal.returns-in-Err-visit-clause-on
 returns-in-Err-visit-clause-on g t c told =
-    let same : g.S.PageSource.plain c.steps.source.source.now ≡ (g.S.PageSource.plain c.args.source.now.source.now) =
+    let pages = g.S.PageSource.plain c.args.source.now.source.now in
+    let so_far : State = record { taken = g.K.Sink.taken c.steps.out; waits = c.steps.found.line; rows = c.steps.found.rows; reads = c.steps.source.reads; marks = marked c.steps.found.seen } in
+    let after : State = record { taken = g.K.Sink.taken c.visit.new.out; waits = c.visit.new.found.line; rows = c.visit.new.found.rows; reads = c.visit.new.source.reads; marks = marked c.visit.new.found.seen } in
+    let before : State = record { taken = g.K.Sink.taken c.args.out.now; waits = c.args.found.now.line; rows = c.args.found.now.rows; reads = c.args.source.now.reads; marks = marked c.args.found.now.seen } in
+    let same : g.S.PageSource.plain c.steps.source.source.now ≡ pages =
     g.met.S.PageSource.same_pages c.args.source.now.source.now c.steps.source.source.now c.steps.invariant.reads told in
-    let count : (g.S.PageSource.plain c.steps.source.source.now).count ≡ (g.S.PageSource.plain c.args.source.now.source.now).count =
+    let count : (g.S.PageSource.plain c.steps.source.source.now).count ≡ pages.count =
     g.met.S.PageSource.same_count c.args.source.now.source.now c.steps.source.source.now c.steps.invariant.reads in
     let gives = c.in-Some-Child.ensures.gives in
     let is : c.steps.wanted ≡ child c.in-Some-Child.child ∷ c.next.new.self =
     next_is c.steps.wanted c.next.new.self (child c.in-Some-Child.child) gives.0 (sym (ap step_shown c.in-Some-Child.field-0-is) ∙ gives.1) gives.2 in
-    let came : IsSearched g.S.PageSource.refuses (g.S.PageSource.plain c.args.source.now.source.now) g.K.Sink.tells (reach (g.S.PageSource.plain c.args.source.now.source.now) c.args.low c.args.high (c.args.left - 1) c.in-Some-Child.child) (record { taken = g.K.Sink.taken c.steps.out; waits = c.steps.found.line; rows = c.steps.found.rows; reads = c.steps.source.reads; marks = marked c.steps.found.seen }) (record { taken = g.K.Sink.taken c.visit.new.out; waits = c.visit.new.found.line; rows = c.visit.new.found.rows; reads = c.visit.new.source.reads; marks = marked c.visit.new.found.seen }) (Err c.in-Err-visit.error) =
-    below_as g.S.PageSource.refuses (g.S.PageSource.plain c.args.source.now.source.now) (g.S.PageSource.plain c.steps.source.source.now) g.K.Sink.tells c.args.low c.args.high (c.args.left - 1) c.in-Some-Child.child (record { taken = g.K.Sink.taken c.steps.out; waits = c.steps.found.line; rows = c.steps.found.rows; reads = c.steps.source.reads; marks = marked c.steps.found.seen }) (record { taken = g.K.Sink.taken c.visit.new.out; waits = c.visit.new.found.line; rows = c.visit.new.found.rows; reads = c.visit.new.source.reads; marks = marked c.visit.new.found.seen }) (Err c.in-Err-visit.error)
+    let came : IsSearched g.S.PageSource.refuses pages g.K.Sink.tells (reach pages c.args.low c.args.high (c.args.left - 1) c.in-Some-Child.child) so_far after (Err c.in-Err-visit.error) =
+    below_as g.S.PageSource.refuses pages (g.S.PageSource.plain c.steps.source.source.now) g.K.Sink.tells c.args.low c.args.high (c.args.left - 1) c.in-Some-Child.child so_far after (Err c.in-Err-visit.error)
     same c.ranges.low c.ranges.high (c.in-Err-visit.ensures.on told) in
-    then_failed g.S.PageSource.refuses (g.S.PageSource.plain c.args.source.now.source.now) (record { taken = g.K.Sink.taken c.visit.new.out; waits = c.visit.new.found.line; rows = c.visit.new.found.rows; reads = c.visit.new.source.reads; marks = marked c.visit.new.found.seen }) (reach (g.S.PageSource.plain c.args.source.now.source.now) c.args.low c.args.high (c.args.left - 1) c.in-Some-Child.child) (all_steps (g.S.PageSource.plain c.args.source.now.source.now) (reach (g.S.PageSource.plain c.args.source.now.source.now) c.args.low c.args.high (c.args.left - 1)) c.args.n c.next.new.self) c.in-Err-visit.error
-    (at_child (g.S.PageSource.plain c.args.source.now.source.now) (reach (g.S.PageSource.plain c.args.source.now.source.now) c.args.low c.args.high (c.args.left - 1)) c.args.n g.K.Sink.tells (reach (g.S.PageSource.plain c.args.source.now.source.now) c.args.low c.args.high c.args.left c.args.n) (record { taken = g.K.Sink.taken c.args.out.now; waits = c.args.found.now.line; rows = c.args.found.now.rows; reads = c.args.source.now.reads; marks = marked c.args.found.now.seen }) (record { taken = g.K.Sink.taken c.steps.out; waits = c.steps.found.line; rows = c.steps.found.rows; reads = c.steps.source.reads; marks = marked c.steps.found.seen }) c.steps.wanted c.next.new.self c.in-Some-Child.child (so_far_as g.K.Sink.tells (g.S.PageSource.plain c.args.source.now.source.now) c.args.low c.args.high c.args.left c.args.n c.steps.wanted (record { taken = g.K.Sink.taken c.args.out.now; waits = c.args.found.now.line; rows = c.args.found.now.rows; reads = c.args.source.now.reads; marks = marked c.args.found.now.seen }) (record { taken = g.K.Sink.taken c.steps.out; waits = c.steps.found.line; rows = c.steps.found.rows; reads = c.steps.source.reads; marks = marked c.steps.found.seen }) c.ranges.low c.ranges.high (c.steps.invariant.on told)) is (sym (c.if-not-is_in_range.ensures.value (g.S.PageSource.plain c.args.source.now.source.now) (sym (c.steps.invariant.count ∙ count))))) came
+    then_failed g.S.PageSource.refuses pages after (reach pages c.args.low c.args.high (c.args.left - 1) c.in-Some-Child.child) (all_steps pages (reach pages c.args.low c.args.high (c.args.left - 1)) c.args.n c.next.new.self) c.in-Err-visit.error
+    (at_child pages (reach pages c.args.low c.args.high (c.args.left - 1)) c.args.n g.K.Sink.tells (reach pages c.args.low c.args.high c.args.left c.args.n) before so_far c.steps.wanted c.next.new.self c.in-Some-Child.child (so_far_as g.K.Sink.tells pages c.args.low c.args.high c.args.left c.args.n c.steps.wanted before so_far c.ranges.low c.ranges.high (c.steps.invariant.on told)) is (sym (c.if-not-is_in_range.ensures.value pages (sym (c.steps.invariant.count ∙ count))))) came
 
 pub returns-in-Err-visit-clause-given : goal.returns-in-Err-visit-clause-given
 returns-in-Err-visit-clause-given g t c =
@@ -124,6 +134,10 @@ returns-in-Err-visit-clause-reads g t c = (
 
 pub steps-preserved-in-Ok-visit : goal.steps-preserved-in-Ok-visit
 steps-preserved-in-Ok-visit g t c =
+    let pages = g.S.PageSource.plain c.args.source.now.source.now in
+    let so_far : State = record { taken = g.K.Sink.taken c.steps.out; waits = c.steps.found.line; rows = c.steps.found.rows; reads = c.steps.source.reads; marks = marked c.steps.found.seen } in
+    let after : State = record { taken = g.K.Sink.taken c.visit.new.out; waits = c.visit.new.found.line; rows = c.visit.new.found.rows; reads = c.visit.new.source.reads; marks = marked c.visit.new.found.seen } in
+    let before : State = record { taken = g.K.Sink.taken c.args.out.now; waits = c.args.found.now.line; rows = c.args.found.now.rows; reads = c.args.source.now.reads; marks = marked c.args.found.now.seen } in
     record {
       reads = g.met.S.PageSource.transitive c.args.source.now.source.now c.steps.source.source.now c.visit.new.source.source.now c.steps.invariant.reads c.in-Ok-visit.ensures.reads.0;
       same = c.in-Ok-visit.ensures.reads.1 ∙ c.steps.invariant.same;
@@ -133,33 +147,37 @@ steps-preserved-in-Ok-visit g t c =
       later = let before = c.steps.invariant.later in let more = c.in-Ok-visit.ensures.later in omega (arith, before, more);
       count = c.steps.invariant.count ∙ sym (g.met.S.PageSource.same_count c.steps.source.source.now c.visit.new.source.source.now c.in-Ok-visit.ensures.reads.0);
       on = λ told.
-          let same : g.S.PageSource.plain c.steps.source.source.now ≡ (g.S.PageSource.plain c.args.source.now.source.now) =
+          let same : g.S.PageSource.plain c.steps.source.source.now ≡ pages =
           g.met.S.PageSource.same_pages c.args.source.now.source.now c.steps.source.source.now c.steps.invariant.reads told in
-          let count : (g.S.PageSource.plain c.steps.source.source.now).count ≡ (g.S.PageSource.plain c.args.source.now.source.now).count =
+          let count : (g.S.PageSource.plain c.steps.source.source.now).count ≡ pages.count =
           g.met.S.PageSource.same_count c.args.source.now.source.now c.steps.source.source.now c.steps.invariant.reads in
           let gives = c.in-Some-Child.ensures.gives in
           let is : c.steps.wanted ≡ child c.in-Some-Child.child ∷ c.next.new.self =
           next_is c.steps.wanted c.next.new.self (child c.in-Some-Child.child) gives.0 (sym (ap step_shown c.in-Some-Child.field-0-is) ∙ gives.1) gives.2 in
-          let came : IsSearched g.S.PageSource.refuses (g.S.PageSource.plain c.args.source.now.source.now) g.K.Sink.tells (reach (g.S.PageSource.plain c.args.source.now.source.now) c.args.low c.args.high (c.args.left - 1) c.in-Some-Child.child) (record { taken = g.K.Sink.taken c.steps.out; waits = c.steps.found.line; rows = c.steps.found.rows; reads = c.steps.source.reads; marks = marked c.steps.found.seen }) (record { taken = g.K.Sink.taken c.visit.new.out; waits = c.visit.new.found.line; rows = c.visit.new.found.rows; reads = c.visit.new.source.reads; marks = marked c.visit.new.found.seen }) (Ok c.in-Ok-visit.field-0) =
-          below_as g.S.PageSource.refuses (g.S.PageSource.plain c.args.source.now.source.now) (g.S.PageSource.plain c.steps.source.source.now) g.K.Sink.tells c.args.low c.args.high (c.args.left - 1) c.in-Some-Child.child (record { taken = g.K.Sink.taken c.steps.out; waits = c.steps.found.line; rows = c.steps.found.rows; reads = c.steps.source.reads; marks = marked c.steps.found.seen }) (record { taken = g.K.Sink.taken c.visit.new.out; waits = c.visit.new.found.line; rows = c.visit.new.found.rows; reads = c.visit.new.source.reads; marks = marked c.visit.new.found.seen }) (Ok c.in-Ok-visit.field-0)
+          let came : IsSearched g.S.PageSource.refuses pages g.K.Sink.tells (reach pages c.args.low c.args.high (c.args.left - 1) c.in-Some-Child.child) so_far after (Ok c.in-Ok-visit.field-0) =
+          below_as g.S.PageSource.refuses pages (g.S.PageSource.plain c.steps.source.source.now) g.K.Sink.tells c.args.low c.args.high (c.args.left - 1) c.in-Some-Child.child so_far after (Ok c.in-Ok-visit.field-0)
           same c.ranges.low c.ranges.high (c.in-Ok-visit.ensures.on told) in
-          so_far_back g.K.Sink.tells (g.S.PageSource.plain c.args.source.now.source.now) c.args.low c.args.high c.args.left c.args.n c.next.new.self (record { taken = g.K.Sink.taken c.args.out.now; waits = c.args.found.now.line; rows = c.args.found.now.rows; reads = c.args.source.now.reads; marks = marked c.args.found.now.seen }) (record { taken = g.K.Sink.taken c.visit.new.out; waits = c.visit.new.found.line; rows = c.visit.new.found.rows; reads = c.visit.new.source.reads; marks = marked c.visit.new.found.seen }) c.ranges.low c.ranges.high
-          (goes_on (reach (g.S.PageSource.plain c.args.source.now.source.now) c.args.low c.args.high (c.args.left - 1) c.in-Some-Child.child) [] (all_steps (g.S.PageSource.plain c.args.source.now.source.now) (reach (g.S.PageSource.plain c.args.source.now.source.now) c.args.low c.args.high (c.args.left - 1)) c.args.n c.next.new.self)
-          (at_child (g.S.PageSource.plain c.args.source.now.source.now) (reach (g.S.PageSource.plain c.args.source.now.source.now) c.args.low c.args.high (c.args.left - 1)) c.args.n g.K.Sink.tells (reach (g.S.PageSource.plain c.args.source.now.source.now) c.args.low c.args.high c.args.left c.args.n) (record { taken = g.K.Sink.taken c.args.out.now; waits = c.args.found.now.line; rows = c.args.found.now.rows; reads = c.args.source.now.reads; marks = marked c.args.found.now.seen }) (record { taken = g.K.Sink.taken c.steps.out; waits = c.steps.found.line; rows = c.steps.found.rows; reads = c.steps.source.reads; marks = marked c.steps.found.seen }) c.steps.wanted c.next.new.self c.in-Some-Child.child (so_far_as g.K.Sink.tells (g.S.PageSource.plain c.args.source.now.source.now) c.args.low c.args.high c.args.left c.args.n c.steps.wanted (record { taken = g.K.Sink.taken c.args.out.now; waits = c.args.found.now.line; rows = c.args.found.now.rows; reads = c.args.source.now.reads; marks = marked c.args.found.now.seen }) (record { taken = g.K.Sink.taken c.steps.out; waits = c.steps.found.line; rows = c.steps.found.rows; reads = c.steps.source.reads; marks = marked c.steps.found.seen }) c.ranges.low c.ranges.high (c.steps.invariant.on told)) is (sym (c.if-not-is_in_range.ensures.value (g.S.PageSource.plain c.args.source.now.source.now) (sym (c.steps.invariant.count ∙ count))))) came);
+          so_far_back g.K.Sink.tells pages c.args.low c.args.high c.args.left c.args.n c.next.new.self before after c.ranges.low c.ranges.high
+          (goes_on (reach pages c.args.low c.args.high (c.args.left - 1) c.in-Some-Child.child) [] (all_steps pages (reach pages c.args.low c.args.high (c.args.left - 1)) c.args.n c.next.new.self)
+          (at_child pages (reach pages c.args.low c.args.high (c.args.left - 1)) c.args.n g.K.Sink.tells (reach pages c.args.low c.args.high c.args.left c.args.n) before so_far c.steps.wanted c.next.new.self c.in-Some-Child.child (so_far_as g.K.Sink.tells pages c.args.low c.args.high c.args.left c.args.n c.steps.wanted before so_far c.ranges.low c.ranges.high (c.steps.invariant.on told)) is (sym (c.if-not-is_in_range.ensures.value pages (sym (c.steps.invariant.count ∙ count))))) came);
     }
 
 pub returns-in-Err-put_row-clause-on : goal.returns-in-Err-put_row-clause-on
 returns-in-Err-put_row-clause-on g t c told =
-    let same : g.S.PageSource.plain c.steps.source.source.now ≡ (g.S.PageSource.plain c.args.source.now.source.now) =
+    let pages = g.S.PageSource.plain c.args.source.now.source.now in
+    let so_far : State = record { taken = g.K.Sink.taken c.steps.out; waits = c.steps.found.line; rows = c.steps.found.rows; reads = c.steps.source.reads; marks = marked c.steps.found.seen } in
+    let after : State = record { taken = g.K.Sink.taken c.put_row.new.out; waits = c.put_row.new.found.line; rows = c.put_row.new.found.rows; reads = c.put_row.new.source.reads; marks = marked c.put_row.new.found.seen } in
+    let before : State = record { taken = g.K.Sink.taken c.args.out.now; waits = c.args.found.now.line; rows = c.args.found.now.rows; reads = c.args.source.now.reads; marks = marked c.args.found.now.seen } in
+    let same : g.S.PageSource.plain c.steps.source.source.now ≡ pages =
     g.met.S.PageSource.same_pages c.args.source.now.source.now c.steps.source.source.now c.steps.invariant.reads told in
     let gives = c.in-Some-Entry.ensures.gives in
     let is : c.steps.wanted ≡ entry c.in-Some-Entry.rowid (record { size = c.in-Some-Entry.length; local = c.in-Some-Entry.local.now; first = c.in-Some-Entry.first }) ∷ c.next.new.self =
     next_is c.steps.wanted c.next.new.self (entry c.in-Some-Entry.rowid (record { size = c.in-Some-Entry.length; local = c.in-Some-Entry.local.now; first = c.in-Some-Entry.first })) gives.0 (sym (ap step_shown c.in-Some-Entry.field-0-is) ∙ gives.1) gives.2 in
-    let came : IsSearched g.S.PageSource.refuses (g.S.PageSource.plain c.args.source.now.source.now) g.K.Sink.tells (row_of_cell (g.S.PageSource.plain c.args.source.now.source.now) c.args.n c.in-Some-Entry.rowid (record { size = c.in-Some-Entry.length; local = c.in-Some-Entry.local.now; first = c.in-Some-Entry.first })) (record { taken = g.K.Sink.taken c.steps.out; waits = c.steps.found.line; rows = c.steps.found.rows; reads = c.steps.source.reads; marks = marked c.steps.found.seen }) (record { taken = g.K.Sink.taken c.put_row.new.out; waits = c.put_row.new.found.line; rows = c.put_row.new.found.rows; reads = c.put_row.new.source.reads; marks = marked c.put_row.new.found.seen }) (Err c.in-Err-put_row.error) =
-    row_as g.S.PageSource.refuses (g.S.PageSource.plain c.args.source.now.source.now) (g.S.PageSource.plain c.steps.source.source.now) g.K.Sink.tells (λ p. row_of_cell p c.args.n c.in-Some-Entry.rowid (record { size = c.in-Some-Entry.length; local = c.in-Some-Entry.local.now; first = c.in-Some-Entry.first })) (record { taken = g.K.Sink.taken c.steps.out; waits = c.steps.found.line; rows = c.steps.found.rows; reads = c.steps.source.reads; marks = marked c.steps.found.seen }) (record { taken = g.K.Sink.taken c.put_row.new.out; waits = c.put_row.new.found.line; rows = c.put_row.new.found.rows; reads = c.put_row.new.source.reads; marks = marked c.put_row.new.found.seen }) (Err c.in-Err-put_row.error)
+    let came : IsSearched g.S.PageSource.refuses pages g.K.Sink.tells (row_of_cell pages c.args.n c.in-Some-Entry.rowid (record { size = c.in-Some-Entry.length; local = c.in-Some-Entry.local.now; first = c.in-Some-Entry.first })) so_far after (Err c.in-Err-put_row.error) =
+    row_as g.S.PageSource.refuses pages (g.S.PageSource.plain c.steps.source.source.now) g.K.Sink.tells (λ p. row_of_cell p c.args.n c.in-Some-Entry.rowid (record { size = c.in-Some-Entry.length; local = c.in-Some-Entry.local.now; first = c.in-Some-Entry.first })) so_far after (Err c.in-Err-put_row.error)
     same (c.in-Err-put_row.ensures.on told) in
-    then_failed g.S.PageSource.refuses (g.S.PageSource.plain c.args.source.now.source.now) (record { taken = g.K.Sink.taken c.put_row.new.out; waits = c.put_row.new.found.line; rows = c.put_row.new.found.rows; reads = c.put_row.new.source.reads; marks = marked c.put_row.new.found.seen }) (row_of_cell (g.S.PageSource.plain c.args.source.now.source.now) c.args.n c.in-Some-Entry.rowid (record { size = c.in-Some-Entry.length; local = c.in-Some-Entry.local.now; first = c.in-Some-Entry.first })) (all_steps (g.S.PageSource.plain c.args.source.now.source.now) (reach (g.S.PageSource.plain c.args.source.now.source.now) c.args.low c.args.high (c.args.left - 1)) c.args.n c.next.new.self) c.in-Err-put_row.error
-    (at_row (g.S.PageSource.plain c.args.source.now.source.now) (reach (g.S.PageSource.plain c.args.source.now.source.now) c.args.low c.args.high (c.args.left - 1)) c.args.n g.K.Sink.tells (reach (g.S.PageSource.plain c.args.source.now.source.now) c.args.low c.args.high c.args.left c.args.n) (record { taken = g.K.Sink.taken c.args.out.now; waits = c.args.found.now.line; rows = c.args.found.now.rows; reads = c.args.source.now.reads; marks = marked c.args.found.now.seen }) (record { taken = g.K.Sink.taken c.steps.out; waits = c.steps.found.line; rows = c.steps.found.rows; reads = c.steps.source.reads; marks = marked c.steps.found.seen }) c.steps.wanted c.next.new.self c.in-Some-Entry.rowid (record { size = c.in-Some-Entry.length; local = c.in-Some-Entry.local.now; first = c.in-Some-Entry.first }) (so_far_as g.K.Sink.tells (g.S.PageSource.plain c.args.source.now.source.now) c.args.low c.args.high c.args.left c.args.n c.steps.wanted (record { taken = g.K.Sink.taken c.args.out.now; waits = c.args.found.now.line; rows = c.args.found.now.rows; reads = c.args.source.now.reads; marks = marked c.args.found.now.seen }) (record { taken = g.K.Sink.taken c.steps.out; waits = c.steps.found.line; rows = c.steps.found.rows; reads = c.steps.source.reads; marks = marked c.steps.found.seen }) c.ranges.low c.ranges.high (c.steps.invariant.on told)) is) came
+    then_failed g.S.PageSource.refuses pages after (row_of_cell pages c.args.n c.in-Some-Entry.rowid (record { size = c.in-Some-Entry.length; local = c.in-Some-Entry.local.now; first = c.in-Some-Entry.first })) (all_steps pages (reach pages c.args.low c.args.high (c.args.left - 1)) c.args.n c.next.new.self) c.in-Err-put_row.error
+    (at_row pages (reach pages c.args.low c.args.high (c.args.left - 1)) c.args.n g.K.Sink.tells (reach pages c.args.low c.args.high c.args.left c.args.n) before so_far c.steps.wanted c.next.new.self c.in-Some-Entry.rowid (record { size = c.in-Some-Entry.length; local = c.in-Some-Entry.local.now; first = c.in-Some-Entry.first }) (so_far_as g.K.Sink.tells pages c.args.low c.args.high c.args.left c.args.n c.steps.wanted before so_far c.ranges.low c.ranges.high (c.steps.invariant.on told)) is) came
 
 pub returns-in-Err-put_row-clause-given : goal.returns-in-Err-put_row-clause-given
 returns-in-Err-put_row-clause-given g t c =
@@ -179,6 +197,10 @@ returns-in-Err-put_row-clause-reads g t c = (
 
 pub steps-preserved-in-Ok-put_row : goal.steps-preserved-in-Ok-put_row
 steps-preserved-in-Ok-put_row g t c =
+    let pages = g.S.PageSource.plain c.args.source.now.source.now in
+    let so_far : State = record { taken = g.K.Sink.taken c.steps.out; waits = c.steps.found.line; rows = c.steps.found.rows; reads = c.steps.source.reads; marks = marked c.steps.found.seen } in
+    let after : State = record { taken = g.K.Sink.taken c.put_row.new.out; waits = c.put_row.new.found.line; rows = c.put_row.new.found.rows; reads = c.put_row.new.source.reads; marks = marked c.put_row.new.found.seen } in
+    let before : State = record { taken = g.K.Sink.taken c.args.out.now; waits = c.args.found.now.line; rows = c.args.found.now.rows; reads = c.args.source.now.reads; marks = marked c.args.found.now.seen } in
     record {
       reads = g.met.S.PageSource.transitive c.args.source.now.source.now c.steps.source.source.now c.put_row.new.source.source.now c.steps.invariant.reads c.in-Ok-put_row.ensures.reads.0;
       same = c.in-Ok-put_row.ensures.reads.1 ∙ c.steps.invariant.same;
@@ -188,17 +210,17 @@ steps-preserved-in-Ok-put_row g t c =
       later = let before = c.steps.invariant.later in let more = c.in-Ok-put_row.ensures.later in omega (arith, before, more);
       count = c.steps.invariant.count ∙ sym (g.met.S.PageSource.same_count c.steps.source.source.now c.put_row.new.source.source.now c.in-Ok-put_row.ensures.reads.0);
       on = λ told.
-          let same : g.S.PageSource.plain c.steps.source.source.now ≡ (g.S.PageSource.plain c.args.source.now.source.now) =
+          let same : g.S.PageSource.plain c.steps.source.source.now ≡ pages =
           g.met.S.PageSource.same_pages c.args.source.now.source.now c.steps.source.source.now c.steps.invariant.reads told in
           let gives = c.in-Some-Entry.ensures.gives in
           let is : c.steps.wanted ≡ entry c.in-Some-Entry.rowid (record { size = c.in-Some-Entry.length; local = c.in-Some-Entry.local.now; first = c.in-Some-Entry.first }) ∷ c.next.new.self =
           next_is c.steps.wanted c.next.new.self (entry c.in-Some-Entry.rowid (record { size = c.in-Some-Entry.length; local = c.in-Some-Entry.local.now; first = c.in-Some-Entry.first })) gives.0 (sym (ap step_shown c.in-Some-Entry.field-0-is) ∙ gives.1) gives.2 in
-          let came : IsSearched g.S.PageSource.refuses (g.S.PageSource.plain c.args.source.now.source.now) g.K.Sink.tells (row_of_cell (g.S.PageSource.plain c.args.source.now.source.now) c.args.n c.in-Some-Entry.rowid (record { size = c.in-Some-Entry.length; local = c.in-Some-Entry.local.now; first = c.in-Some-Entry.first })) (record { taken = g.K.Sink.taken c.steps.out; waits = c.steps.found.line; rows = c.steps.found.rows; reads = c.steps.source.reads; marks = marked c.steps.found.seen }) (record { taken = g.K.Sink.taken c.put_row.new.out; waits = c.put_row.new.found.line; rows = c.put_row.new.found.rows; reads = c.put_row.new.source.reads; marks = marked c.put_row.new.found.seen }) (Ok c.in-Ok-put_row.field-0) =
-          row_as g.S.PageSource.refuses (g.S.PageSource.plain c.args.source.now.source.now) (g.S.PageSource.plain c.steps.source.source.now) g.K.Sink.tells (λ p. row_of_cell p c.args.n c.in-Some-Entry.rowid (record { size = c.in-Some-Entry.length; local = c.in-Some-Entry.local.now; first = c.in-Some-Entry.first })) (record { taken = g.K.Sink.taken c.steps.out; waits = c.steps.found.line; rows = c.steps.found.rows; reads = c.steps.source.reads; marks = marked c.steps.found.seen }) (record { taken = g.K.Sink.taken c.put_row.new.out; waits = c.put_row.new.found.line; rows = c.put_row.new.found.rows; reads = c.put_row.new.source.reads; marks = marked c.put_row.new.found.seen }) (Ok c.in-Ok-put_row.field-0)
+          let came : IsSearched g.S.PageSource.refuses pages g.K.Sink.tells (row_of_cell pages c.args.n c.in-Some-Entry.rowid (record { size = c.in-Some-Entry.length; local = c.in-Some-Entry.local.now; first = c.in-Some-Entry.first })) so_far after (Ok c.in-Ok-put_row.field-0) =
+          row_as g.S.PageSource.refuses pages (g.S.PageSource.plain c.steps.source.source.now) g.K.Sink.tells (λ p. row_of_cell p c.args.n c.in-Some-Entry.rowid (record { size = c.in-Some-Entry.length; local = c.in-Some-Entry.local.now; first = c.in-Some-Entry.first })) so_far after (Ok c.in-Ok-put_row.field-0)
           same (c.in-Ok-put_row.ensures.on told) in
-          so_far_back g.K.Sink.tells (g.S.PageSource.plain c.args.source.now.source.now) c.args.low c.args.high c.args.left c.args.n c.next.new.self (record { taken = g.K.Sink.taken c.args.out.now; waits = c.args.found.now.line; rows = c.args.found.now.rows; reads = c.args.source.now.reads; marks = marked c.args.found.now.seen }) (record { taken = g.K.Sink.taken c.put_row.new.out; waits = c.put_row.new.found.line; rows = c.put_row.new.found.rows; reads = c.put_row.new.source.reads; marks = marked c.put_row.new.found.seen }) c.ranges.low c.ranges.high
-          (goes_on (row_of_cell (g.S.PageSource.plain c.args.source.now.source.now) c.args.n c.in-Some-Entry.rowid (record { size = c.in-Some-Entry.length; local = c.in-Some-Entry.local.now; first = c.in-Some-Entry.first })) [] (all_steps (g.S.PageSource.plain c.args.source.now.source.now) (reach (g.S.PageSource.plain c.args.source.now.source.now) c.args.low c.args.high (c.args.left - 1)) c.args.n c.next.new.self)
-          (at_row (g.S.PageSource.plain c.args.source.now.source.now) (reach (g.S.PageSource.plain c.args.source.now.source.now) c.args.low c.args.high (c.args.left - 1)) c.args.n g.K.Sink.tells (reach (g.S.PageSource.plain c.args.source.now.source.now) c.args.low c.args.high c.args.left c.args.n) (record { taken = g.K.Sink.taken c.args.out.now; waits = c.args.found.now.line; rows = c.args.found.now.rows; reads = c.args.source.now.reads; marks = marked c.args.found.now.seen }) (record { taken = g.K.Sink.taken c.steps.out; waits = c.steps.found.line; rows = c.steps.found.rows; reads = c.steps.source.reads; marks = marked c.steps.found.seen }) c.steps.wanted c.next.new.self c.in-Some-Entry.rowid (record { size = c.in-Some-Entry.length; local = c.in-Some-Entry.local.now; first = c.in-Some-Entry.first }) (so_far_as g.K.Sink.tells (g.S.PageSource.plain c.args.source.now.source.now) c.args.low c.args.high c.args.left c.args.n c.steps.wanted (record { taken = g.K.Sink.taken c.args.out.now; waits = c.args.found.now.line; rows = c.args.found.now.rows; reads = c.args.source.now.reads; marks = marked c.args.found.now.seen }) (record { taken = g.K.Sink.taken c.steps.out; waits = c.steps.found.line; rows = c.steps.found.rows; reads = c.steps.source.reads; marks = marked c.steps.found.seen }) c.ranges.low c.ranges.high (c.steps.invariant.on told)) is) came);
+          so_far_back g.K.Sink.tells pages c.args.low c.args.high c.args.left c.args.n c.next.new.self before after c.ranges.low c.ranges.high
+          (goes_on (row_of_cell pages c.args.n c.in-Some-Entry.rowid (record { size = c.in-Some-Entry.length; local = c.in-Some-Entry.local.now; first = c.in-Some-Entry.first })) [] (all_steps pages (reach pages c.args.low c.args.high (c.args.left - 1)) c.args.n c.next.new.self)
+          (at_row pages (reach pages c.args.low c.args.high (c.args.left - 1)) c.args.n g.K.Sink.tells (reach pages c.args.low c.args.high c.args.left c.args.n) before so_far c.steps.wanted c.next.new.self c.in-Some-Entry.rowid (record { size = c.in-Some-Entry.length; local = c.in-Some-Entry.local.now; first = c.in-Some-Entry.first }) (so_far_as g.K.Sink.tells pages c.args.low c.args.high c.args.left c.args.n c.steps.wanted before so_far c.ranges.low c.ranges.high (c.steps.invariant.on told)) is) came);
     }
 
 pub put_row-requires-clause-seen : goal.put_row-requires-clause-seen
